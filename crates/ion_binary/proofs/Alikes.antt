@@ -24,14 +24,16 @@ same_anywhere c d body _ _ other (is_string h) = is_string h
 same_anywhere c d body _ _ other is_clob = is_clob
 same_anywhere c d body _ _ other is_blob = is_blob
 
-pub alike_scalar : (c d : List Slot) (t : Scalar) (body beside : List ℕ) → body ≡ beside → (t ≡ scalars.Symbol → ⊥) → WalkedScalar c t body → AlikeScalar c d t body beside
+pub alike_scalar : (c d : List Slot) (t : Scalar) (body beside : List ℕ) → body ≡ beside → (t ≡ scalars.Symbol → ⊥) → WalkedScalar c t body
+    → AlikeScalar c d t body beside
 alike_scalar c d t body beside e other s = record {
   payload = s.payload;
   is = s.is;
   other = subst (λ w. IsScalar d w t s.payload) e (same_anywhere c d body t s.payload other s.is);
 }
 
-pub alike_symbol : (c d : List Slot) (body beside : List ℕ) (id k : ℕ) (s : Option (List ℕ)) → id ≡ positional 256 body → k ≡ positional 256 beside → id < 2 ^ 64 → k < 2 ^ 64 → resolve c id ≡ Ok s → resolve d k ≡ Ok s
+pub alike_symbol : (c d : List Slot) (body beside : List ℕ) (id k : ℕ) (s : Option (List ℕ)) → id ≡ positional 256 body → k ≡ positional 256 beside
+    → id < 2 ^ 64 → k < 2 ^ 64 → resolve c id ≡ Ok s → resolve d k ≡ Ok s
     → AlikeScalar c d scalars.Symbol body beside
 alike_symbol c d body beside id k s e f small also found and = record {
   payload = payloads.Symbol s;

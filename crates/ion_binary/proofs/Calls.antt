@@ -11,7 +11,8 @@ use Rattle.ion_binary.specs.writer.Calls.{PutsEach, WritesEach}
 module _ {T : Type 0} (W : Outlet T) where
   puts_each : (p : Progress) (old : T) (s : List Value) (new : T) → PutsEach W p old s new → Took W.took W.written old new (puts p s)
   puts_each p old [] new h = subst (λ (x : T). Took W.took W.written old x []) (sym h) (Took-nil W.took W.written old)
-  puts_each p old (v ∷ vs) new (mid, first, rest) = Took-trans W.took W.written old mid new (adds p v) (puts (after p v) vs) first (puts_each (after p v) mid vs new rest)
+  puts_each p old (v ∷ vs) new (mid, first, rest) = Took-trans W.took W.written old mid new (adds p v) (puts (after p v) vs) first
+      (puts_each (after p v) mid vs new rest)
 
   pub writes_each : (s : List Value) (old new : T) → WritesEach W nothing_yet old s new → Took W.took W.written old new (bin_of s)
   unfolding bin_of

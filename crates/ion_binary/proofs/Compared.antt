@@ -60,7 +60,11 @@ module _ (c : List Slot) (w : List ℕ) where
   found_id a b s h x = record {
     here = moved a b h x.moves;
     ahead = x.moves.ahead;
-    is = (x.id, subst (λ (o : List ℕ). VarUInt (between o a.at b.at) x.id) h.octets x.number, subst (λ (d : List Slot). resolve d x.id ≡ Ok s) h.context x.found);
+    is = (
+      x.id,
+      subst (λ (o : List ℕ). VarUInt (between o a.at b.at) x.id) h.octets x.number,
+      subst (λ (d : List Slot). resolve d x.id ≡ Ok s) h.context x.found,
+    );
   }
 
   notes_found : (ss : List (Option (List ℕ))) (a b : Comparison) → VisitedAnnotations comparing ss a b → StandsWithin a → Found (λ x. Ids c x ss) a b
@@ -75,7 +79,9 @@ module _ (c : List Slot) (w : List ℕ) where
       }
 
   -- a body behind its header
-  framed : (form : Form) (P : List ℕ → Type 0) (Q : List ℕ → Type 0) (end : ℕ) (a m n b : Comparison) → ((h body : List ℕ) → Header form (length body) h → P body → Q (h ++ body)) → StandsWithin a → Enters form a m end → (StandsWithin m → Found P m n) → StandsAt n b end → Found Q a b
+  framed : (form : Form) (P : List ℕ → Type 0) (Q : List ℕ → Type 0) (end : ℕ) (a m n b : Comparison)
+      → ((h body : List ℕ) → Header form (length body) h → P body → Q (h ++ body)) → StandsWithin a → Enters form a m end → (StandsWithin m → Found P m n)
+      → StandsAt n b end → Found Q a b
   framed form P Q end a m n b make h o i x =
       let f = i (moved a m h o.moves) in
       let size : length (between w m.at n.at) ≡ end - m.at = between_size w m.at n.at f.ahead f.here.within ∙ ap (λ k. k - m.at) x.at in
@@ -106,9 +112,11 @@ module _ (c : List Slot) (w : List ℕ) where
         let third = ids.ahead in
         let all : n.at ≤ length w = ids.here.within in
         let ids_size : length (between w m.at n.at) ≡ k.ids - m.at = between_size w m.at n.at third all ∙ ap (λ i. i - m.at) t.at in
-        let body_size : length (between w mid.at y.at) ≡ k.end - mid.at = between_size w mid.at y.at (omega (arith, second, third, behind_ids)) f.here.within ∙ ap (λ i. i - mid.at) u.at in
+        let body_size : length (between w mid.at y.at) ≡ k.end - mid.at = between_size w mid.at y.at (omega (arith, second, third, behind_ids)) f.here.within
+        ∙ ap (λ i. i - mid.at) u.at in
         let inner = between_both w m.at n.at y.at third behind_ids in
-        let body : between w mid.at y.at ≡ between w mid.at m.at ++ (between w m.at n.at ++ between w n.at y.at) = between_both w mid.at m.at y.at second (omega (arith, third, behind_ids)) ∙ ap (λ z. between w mid.at m.at ++ z) inner in
+        let body : between w mid.at y.at ≡ between w mid.at m.at ++ (between w m.at n.at ++ between w n.at y.at) =
+        between_both w mid.at m.at y.at second (omega (arith, third, behind_ids)) ∙ ap (λ z. between w mid.at m.at ++ z) inner in
         let whole = between_both w a.at mid.at y.at first (omega (arith, second, third, behind_ids)) ∙ ap (λ z. between w a.at mid.at ++ z) body in
         let header = subst (λ (z : List ℕ). Header forms.Wrapper (k.end - mid.at) (between z a.at mid.at)) h.octets o.enters.header in
         let count = subst (λ (z : List ℕ). VarUInt (between z mid.at m.at) (k.ids - m.at)) h.octets o.number in
@@ -116,7 +124,8 @@ module _ (c : List Slot) (w : List ℕ) where
         let done : Found (λ z. Binary c z (annotated ss p)) a y = record {
           here = f.here;
           ahead = omega (arith, first, second, third, behind_ids);
-          is = subst (λ z. Binary c z (annotated ss p)) (sym whole) (wrapped (between w a.at mid.at) (between w mid.at m.at) (between w m.at n.at) (between w n.at y.at) ss p
+          is = subst (λ z. Binary c z (annotated ss p)) (sym whole)
+              (wrapped (between w a.at mid.at) (between w mid.at m.at) (between w m.at n.at) (between w n.at y.at) ss p
               (subst (λ (n : ℕ). Header forms.Wrapper n (between w a.at mid.at)) (sym (ap length (sym body) ∙ body_size)) header)
               (subst (VarUInt (between w mid.at m.at)) (sym ids_size) count) (omega (arith, ids_size, size)) ids.is plain);
         } in
@@ -126,11 +135,15 @@ module _ (c : List Slot) (w : List ℕ) where
     payload_found _ _ _ (in_one p a b i x) h = record {
       here = moved a b h x.moves;
       ahead = x.moves.ahead;
-      is = subst (λ (o : List ℕ). Plain c (between o a.at b.at) p) h.octets (subst (λ (d : List Slot). Plain d (between a.octets.now a.at b.at) p) h.context x.is);
+      is = subst (λ (o : List ℕ). Plain c (between o a.at b.at) p) h.octets
+          (subst (λ (d : List Slot). Plain d (between a.octets.now a.at b.at) p) h.context x.is);
     }
-    payload_found _ _ _ (in_list vs k a m n b o i x) h = framed (forms.Listing listings.List) (λ x. Sequence c x vs) (λ x. Plain c x (payloads.List vs)) k.end a m n b (λ h body d s. is_listing h body listings.List vs d s) h o (items_found vs m n i) x
-    payload_found _ _ _ (in_sexp vs k a m n b o i x) h = framed (forms.Listing listings.Sexp) (λ x. Sequence c x vs) (λ x. Plain c x (payloads.Sexp vs)) k.end a m n b (λ h body d s. is_listing h body listings.Sexp vs d s) h o (items_found vs m n i) x
-    payload_found _ _ _ (in_struct ms k a m n b o i x) h = framed forms.Struct (λ x. Fields c x ms) (λ x. Plain c x (payloads.Fields ms)) k.end a m n b (λ h body d s. is_struct h body ms d s) h o (fields_found ms m n i) x
+    payload_found _ _ _ (in_list vs k a m n b o i x) h = framed (forms.Listing listings.List) (λ x. Sequence c x vs) (λ x. Plain c x (payloads.List vs)) k.end a
+        m n b (λ h body d s. is_listing h body listings.List vs d s) h o (items_found vs m n i) x
+    payload_found _ _ _ (in_sexp vs k a m n b o i x) h = framed (forms.Listing listings.Sexp) (λ x. Sequence c x vs) (λ x. Plain c x (payloads.Sexp vs)) k.end a
+        m n b (λ h body d s. is_listing h body listings.Sexp vs d s) h o (items_found vs m n i) x
+    payload_found _ _ _ (in_struct ms k a m n b o i x) h = framed forms.Struct (λ x. Fields c x ms) (λ x. Plain c x (payloads.Fields ms)) k.end a m n b
+        (λ h body d s. is_struct h body ms d s) h o (fields_found ms m n i) x
 
     items_found : (vs : List Value) (a b : Comparison) → VisitedItems comparing vs a b → StandsWithin a → Found (λ x. Sequence c x vs) a b
     items_found _ _ _ (no_items a) h = record { here = h; ahead = omega arith; is = subst (λ x. Sequence c x []) (sym (nothing_between w a.at)) nothing }
@@ -144,7 +157,12 @@ module _ (c : List Slot) (w : List ℕ) where
         }
 
     fields_found : (ms : List Field) (a b : Comparison) → VisitedFields comparing ms a b → StandsWithin a → Found (λ x. Fields c x ms) a b
-    fields_found _ _ _ (no_fields a) h = record { here = h; ahead = omega arith; is = subst (λ x. Fields c x []) (sym (nothing_between w a.at)) grammar.no_fields }
+    fields_found _ _ _ (no_fields a) h = record {
+      here = h;
+      ahead = omega arith;
+      is =
+          subst (λ x. Fields c x []) (sym (nothing_between w a.at)) grammar.no_fields;
+    }
     fields_found _ _ _ (one_field ms s v a m n b i x j) h =
         let f = fields_found ms a m i h in
         let g = found_id m n s f.here x in
@@ -158,12 +176,16 @@ module _ (c : List Slot) (w : List ℕ) where
         }
 
 -- behind a header
-pub header_there : (w rest : List ℕ) (at used n : ℕ) (size : Size) (form : Form) (o : Opening) → at < length w → o ≡ opening_of (get_or w at 0) → o ≡ Sized form size → rest ≡ drop (at + 1) w → Heads size n (take used rest) → Header form (at + 1 + used + n - (at + 1 + used)) (between w at (at + 1 + used))
+pub header_there : (w rest : List ℕ) (at used n : ℕ) (size : Size) (form : Form) (o : Opening) → at < length w → o ≡ opening_of (get_or w at 0)
+    → o ≡ Sized form size → rest ≡ drop (at + 1) w → Heads size n (take used rest)
+    → Header form (at + 1 + used + n - (at + 1 + used)) (between w at (at + 1 + used))
 header_there w rest at used n size form o some is e r heads =
     let place : at + 1 + used - at ≡ suc used = omega arith in
     let count : at + 1 + used + n - (at + 1 + used) ≡ n = omega arith in
-    let octets : between w at (at + 1 + used) ≡ get_or w at 0 ∷ take used rest = ap (λ k. take k (drop at w)) place ∙ (ap (take (suc used)) (drop_more w at 0 some) ∙ ap (λ z. get_or w at 0 ∷ take used z) (sym r)) in
-    subst (λ z. Header form (at + 1 + used + n - (at + 1 + used)) z) (sym octets) (subst (λ k. Header form k (get_or w at 0 ∷ take used rest)) (sym count) (heads form (get_or w at 0) (sym is ∙ e)))
+    let octets : between w at (at + 1 + used) ≡ get_or w at 0 ∷ take used rest =
+    ap (λ k. take k (drop at w)) place ∙ (ap (take (suc used)) (drop_more w at 0 some) ∙ ap (λ z. get_or w at 0 ∷ take used z) (sym r)) in
+    subst (λ z. Header form (at + 1 + used + n - (at + 1 + used)) z) (sym octets)
+    (subst (λ k. Header form k (get_or w at 0 ∷ take used rest)) (sym count) (heads form (get_or w at 0) (sym is ∙ e)))
 
 pub null_there : (k : Kind) (a b : Comparison) → IsOne a b (Null k) → IsPlain a b (payloads.Null k)
 null_there k a b h = record { moves = h.moves; is = subst (λ x. Plain a.context.now x (payloads.Null k)) (sym h.octets) (is_null h.octet k (sym h.is)) }
@@ -172,7 +194,8 @@ pub truth_there : (t : Bool) (a b : Comparison) → IsOne a b (Truth t) → IsPl
 truth_there t a b h = record { moves = h.moves; is = subst (λ x. Plain a.context.now x (payloads.Truth t)) (sym h.octets) (is_truth h.octet t (sym h.is)) }
 
 -- a scalar behind its header
-pub scalar_there : (t : Scalar) (a m b : Comparison) (end : ℕ) (p : Payload) → Enters (forms.Scalar t) a m end → b.context.now ≡ m.context.now → b.octets.now ≡ m.octets.now → b.at ≡ end → IsScalar m.context.now (between m.octets.now m.at end) t p → IsPlain a b p
+pub scalar_there : (t : Scalar) (a m b : Comparison) (end : ℕ) (p : Payload) → Enters (forms.Scalar t) a m end → b.context.now ≡ m.context.now
+    → b.octets.now ≡ m.octets.now → b.at ≡ end → IsScalar m.context.now (between m.octets.now m.at end) t p → IsPlain a b p
 scalar_there t a m b end p o ec eo ea s =
     let w = a.octets.now in
     let first = o.moves.ahead in
@@ -181,8 +204,17 @@ scalar_there t a m b end p o ec eo ea s =
     let end_is : b.at ≡ end = ea in
     let size : length (between w m.at end) ≡ end - m.at = between_size w m.at end order fits in
     let whole : between w a.at b.at ≡ between w a.at m.at ++ between w m.at end = ap (between w a.at) ea ∙ between_both w a.at m.at end first order in
-    let body : IsScalar a.context.now (between w m.at end) t p = subst (λ (d : List Slot). IsScalar d (between w m.at end) t p) o.moves.context (subst (λ (x : List ℕ). IsScalar m.context.now (between x m.at end) t p) o.moves.octets s) in
+    let body : IsScalar a.context.now (between w m.at end) t p =
+    subst (λ (d : List Slot). IsScalar d (between w m.at end) t p) o.moves.context
+    (subst (λ (x : List ℕ). IsScalar m.context.now (between x m.at end) t p) o.moves.octets s) in
     record {
-      moves = record { context = ec ∙ o.moves.context; octets = eo ∙ o.moves.octets; ahead = omega (arith, end_is, first, order); within = omega (arith, end_is, fits) };
-      is = subst (λ x. Plain a.context.now x p) (sym whole) (is_scalar (between w a.at m.at) (between w m.at end) t p (subst (λ k. Header (forms.Scalar t) k (between w a.at m.at)) (sym size) o.header) body);
+      moves = record {
+        context = ec ∙ o.moves.context;
+        octets = eo ∙ o.moves.octets;
+        ahead =
+            omega (arith, end_is, first, order);
+        within = omega (arith, end_is, fits);
+      };
+      is = subst (λ x. Plain a.context.now x p) (sym whole) (is_scalar (between w a.at m.at) (between w m.at end) t p
+          (subst (λ k. Header (forms.Scalar t) k (between w a.at m.at)) (sym size) o.header) body);
     }

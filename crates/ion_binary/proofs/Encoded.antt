@@ -23,17 +23,20 @@ wrapped_some names (s ∷ ss) w h = refl
 pub octets_bare : (names : Names) (v : Value) → length v.annotations ≡ 0 → value_octets names v ≡ layer_octets names (out-Payload v.payload)
 octets_bare names v e = octets-out names v ∙ wrapped_none names v.annotations _ e
 
-pub octets_wrapped : (names : Names) (v : Value) → 0 < length v.annotations → value_octets names v ≡ framed 14 (with_count (ids_octets names v.annotations) ++ layer_octets names (out-Payload v.payload))
+pub octets_wrapped : (names : Names) (v : Value) → 0 < length v.annotations
+    → value_octets names v ≡ framed 14 (with_count (ids_octets names v.annotations) ++ layer_octets names (out-Payload v.payload))
 octets_wrapped names v h = octets-out names v ∙ wrapped_some names v.annotations _ h
 
 -- whichever names are later
 pub octets_bare_later : {A E : Type 0} (r : Result A E) (names : Names) (v : Value) (old new : List ℕ) → length v.annotations ≡ 0
-    → OnOk r ((later : Names) → IsLater names later → new ≡ old ++ layer_octets later (out-Payload v.payload)) → OnOk r ((later : Names) → IsLater names later → new ≡ old ++ value_octets later v)
+    → OnOk r ((later : Names) → IsLater names later → new ≡ old ++ layer_octets later (out-Payload v.payload))
+    → OnOk r ((later : Names) → IsLater names later → new ≡ old ++ value_octets later v)
 octets_bare_later (Ok x) names v old new e h = λ later l. h later l ∙ ap (λ w. old ++ w) (sym (octets_bare later v e))
 octets_bare_later (Err x) names v old new e h = tt
 
 -- the octets of what is left of a list behind one of its items
-pub octets_at : {X : Type 0} (f : X → List ℕ) (body new all : List ℕ) (xs : List X) (i : ℕ) (x : X) → i < length xs → x ≡ get_or xs i x → new ≡ body ++ f x → body ++ flat_map f (drop i xs) ≡ all → new ++ flat_map f (drop (i + 1) xs) ≡ all
+pub octets_at : {X : Type 0} (f : X → List ℕ) (body new all : List ℕ) (xs : List X) (i : ℕ) (x : X) → i < length xs → x ≡ get_or xs i x → new ≡ body ++ f x
+    → body ++ flat_map f (drop i xs) ≡ all → new ++ flat_map f (drop (i + 1) xs) ≡ all
 octets_at f body new all xs i x small is e so_far =
     ap (λ w. w ++ flat_map f (drop (i + 1) xs)) (e ∙ ap (λ y. body ++ f y) is) ∙ append_assoc body (f (get_or xs i x)) (flat_map f (drop (i + 1) xs))
     ∙ ap (λ ys. body ++ flat_map f ys) (sym (drop_more xs i x small)) ∙ so_far
@@ -50,7 +53,8 @@ pub all_fields : (ms : List Field) (i : ℕ) → length ms ≤ i → (KeptFields
 all_fields ms i past h = h (subst KeptFields (sym (drop_of_length-le ms past)) no_fields)
 
 -- a body behind its place
-pub framed_at : (code place : ℕ) (old body mid new : List ℕ) → place ≡ length old → mid ≡ (old ++ 0 ∷ []) ++ body → new ≡ take place mid ++ framed code (drop (place + 1) mid) → new ≡ old ++ framed code body
+pub framed_at : (code place : ℕ) (old body mid new : List ℕ) → place ≡ length old → mid ≡ (old ++ 0 ∷ []) ++ body
+    → new ≡ take place mid ++ framed code (drop (place + 1) mid) → new ≡ old ++ framed code body
 framed_at code place old body mid new at is e =
     let whole : mid ≡ old ++ 0 ∷ body = is ∙ append_assoc old (0 ∷ []) body in
     rw (e, whole, at, take-append_seam old (0 ∷ body), drop-append-add old (0 ∷ body) 1) refl

@@ -8,15 +8,18 @@ on_err (Ok x) p = tt
 on_err (Err e) p = p
 
 -- all was taken, and then nothing more
-pub front_kept : {S A E : Type 0} (took : S → Option (List ℕ)) (written : S → List ℕ) (old mid new : S) (w : List ℕ) (r : Result A E) → Took took written old mid w → Took took written mid new [] → OnErr r (TookFront took written old new w)
+pub front_kept : {S A E : Type 0} (took : S → Option (List ℕ)) (written : S → List ℕ) (old mid new : S) (w : List ℕ) (r : Result A E)
+    → Took took written old mid w → Took took written mid new [] → OnErr r (TookFront took written old new w)
 front_kept took written old mid new w r all kept = on_err r (Front-all took written old mid new w all kept)
 
 -- of what comes first and of what comes behind it
 module _ {S : Type 0} (took : S → Option (List ℕ)) (written : S → List ℕ) (first second third w : List ℕ) (is : w ≡ first ++ second) where
   pub front_first : (old new : S) → TookFront took written old new w → TookFront took written old new (first ++ (second ++ third))
-  front_first old new h = subst (TookFront took written old new) (append_assoc first second third) (Front-more took written old new (first ++ second) third (subst (TookFront took written old new) is h))
+  front_first old new h = subst (TookFront took written old new) (append_assoc first second third)
+      (Front-more took written old new (first ++ second) third (subst (TookFront took written old new) is h))
 
-  pub front_later : {A E : Type 0} (r : Result A E) (old mid new : S) (x : List ℕ) → x ≡ third → Took took written old mid w → OnErr r (TookFront took written mid new x) → OnErr r (TookFront took written old new (first ++ (second ++ third)))
+  pub front_later : {A E : Type 0} (r : Result A E) (old mid new : S) (x : List ℕ) → x ≡ third → Took took written old mid w
+      → OnErr r (TookFront took written mid new x) → OnErr r (TookFront took written old new (first ++ (second ++ third)))
   front_later (Ok a) old mid new x e all h = h
   front_later (Err f) old mid new x e all h =
       subst (TookFront took written old new) (append_assoc first second third)

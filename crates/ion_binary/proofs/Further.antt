@@ -28,7 +28,8 @@ run_further : (g : Catalog) (l : Limits) (to : ℕ) (u w : List ℕ) (s : List (
 run_further g l to u w s m e ran = run-append g l 0 to u w (omega arith) initial ∙ ap (λ r. then_run r (λ n. run g l to n w)) ran
 
 -- behind what a step used, its value comes behind s
-ran_further : (g : Catalog) (l : Limits) (to : ℕ) (u : List ℕ) (s : List (Value × ℕ)) (m n : Machine) (piece : List ℕ) (used : ℕ) (value : Option Value) → to ≡ length u →
+ran_further : (g : Catalog) (l : Limits) (to : ℕ) (u : List ℕ) (s : List (Value × ℕ)) (m n : Machine) (piece : List ℕ) (used : ℕ) (value : Option Value)
+    → to ≡ length u →
     Ran g l u s m → Advances to (run g l to m) piece (Ok (record { used = used; value = value })) n →
     Ran g l (u ++ take used piece) (s ++ given_at value (length u + used)) n
 ran_further g l to u s m n piece used None e ran advances =
@@ -42,8 +43,10 @@ ran_further g l to u s m n piece used (Some v) e ran advances =
     ∙ ap (λ k. record { given = s ++ (v, k) ∷ []; now = Ok n }) (let j : to + used ≡ length u + used = omega arith in j)
 
 -- a step that isn't refused answers what the trace says
-answers_value : (g : Catalog) (l : Limits) (to : ℕ) (u : List ℕ) (s : List (Value × ℕ)) (m n : Machine) (piece : List ℕ) (used : ℕ) (value : Option Value) → to ≡ length u →
-    Ran g l u s m → Advances to (run g l to m) piece (Ok (record { used = used; value = value })) n → Answers (trace g l) u s piece (Ok (record { used = used; value = value }))
+answers_value : (g : Catalog) (l : Limits) (to : ℕ) (u : List ℕ) (s : List (Value × ℕ)) (m n : Machine) (piece : List ℕ) (used : ℕ) (value : Option Value)
+    → to ≡ length u →
+    Ran g l u s m → Advances to (run g l to m) piece (Ok (record { used = used; value = value })) n
+    → Answers (trace g l) u s piece (Ok (record { used = used; value = value }))
 answers_value g l to u s m n piece used None e ran advances =
     let all : take used piece ≡ piece = let h = advances.1.0 in grind (arith, common_steps) in
     let after = ran_further g l to u s m n piece used None e ran advances in
@@ -52,12 +55,14 @@ answers_value g l to u s m n piece used None e ran advances =
 answers_value g l to u s m n piece used (Some v) e ran advances =
     let after = ran_further g l to u s m n piece used (Some v) e ran advances in
     let front = ap (λ (x : Run). (trace_of x).given) after in
-    let whole : (u ++ take used piece) ++ drop used piece ≡ u ++ piece = append_assoc u (take used piece) (drop used piece) ∙ ap (λ w. u ++ w) (take-append-drop used piece) in
+    let whole : (u ++ take used piece) ++ drop used piece ≡ u ++ piece = append_assoc u (take used piece) (drop used piece)
+    ∙ ap (λ w. u ++ w) (take-append-drop used piece) in
     let more = grows g l (u ++ take used piece) (drop used piece) in
     (more.given.0, ap (λ w. (trace g l w).given) (sym whole) ∙ more.given.1 ∙ ap (λ front. front ++ more.given.0) front)
 
 -- so does one that is
-answers : (g : Catalog) (l : Limits) (to : ℕ) (u : List ℕ) (s : List (Value × ℕ)) (m n : Machine) (piece : List ℕ) (result : Result Step Refusal) → to ≡ length u →
+answers : (g : Catalog) (l : Limits) (to : ℕ) (u : List ℕ) (s : List (Value × ℕ)) (m n : Machine) (piece : List ℕ) (result : Result Step Refusal)
+    → to ≡ length u →
     Ran g l u s m → Advances to (run g l to m) piece result n → Answers (trace g l) u s piece result
 answers g l to u s m n piece (Ok step) e ran advances = answers_value g l to u s m n piece step.used step.value e ran advances
 answers g l to u s m n piece (Err refusal) e ran advances = λ other.
@@ -65,7 +70,8 @@ answers g l to u s m n piece (Err refusal) e ran advances = λ other.
     (ap (λ t. t.given) after ∙ append-nil s, ap (λ t. t.refused) after)
 
 -- a run is refused at one of its octets
-run_within : (g : Catalog) (l : Limits) (to : ℕ) (m : Machine) (w : List ℕ) (r : Refusal) → (run g l to m w).now ≡ Err r → (to < r.offset) × (r.offset ≤ to + length w)
+run_within : (g : Catalog) (l : Limits) (to : ℕ) (m : Machine) (w : List ℕ) (r : Refusal) → (run g l to m w).now ≡ Err r → (to < r.offset)
+    × (r.offset ≤ to + length w)
 run_within g l to m w r e =
     let p = stop_of g l to m w r e in
     let o = p.offset in
@@ -77,7 +83,8 @@ run_within g l to m w r e =
 pub step_within : (old : BinaryReader) (n : Machine) (piece : List ℕ) (result : Result Step Refusal) → Advances old.used (run_of old) piece result n →
     IfErr result (λ refusal. refusal.reason ≢ Memory → IsNone old.failed → (old.used < refusal.offset) × (refusal.offset ≤ old.used + length piece))
 step_within old n piece (Ok step) advances = tt
-step_within old n piece (Err refusal) advances = λ other none. run_within old.catalog.now old.limits old.used (machine_of old) piece refusal (ap (λ (x : Run). x.now) (advances other))
+step_within old n piece (Err refusal) advances = λ other none. run_within old.catalog.now old.limits old.used (machine_of old) piece refusal
+    (ap (λ (x : Run). x.now) (advances other))
 
 -- a step of a reader that stands for u answers what the trace says
 pub step_answers : (old : BinaryReader) (n : Machine) (u : List ℕ) (s : List (Value × ℕ)) (piece : List ℕ) (result : Result Step Refusal) → Stands old u s →
@@ -86,8 +93,10 @@ step_answers old n u s piece result h advances = answers old.catalog.now old.lim
 
 -- the reader stands for the octets that a step used, too
 pub step_stands : (old new : BinaryReader) (piece : List ℕ) (result : Result Step Refusal) →
-    Advances old.used (run old.catalog.now old.limits old.used (machine_of old)) piece result (machine_of new) → IfOk result (λ step. new.used ≡ old.used + step.used) → SameSetting old new →
-    IfOk result (λ step. (u : List ℕ) (s : List (Value × ℕ)) → Stands old u s → Stands new (u ++ take step.used piece) (s ++ given_at step.value (length u + step.used)))
+    Advances old.used (run old.catalog.now old.limits old.used (machine_of old)) piece result (machine_of new)
+    → IfOk result (λ step. new.used ≡ old.used + step.used) → SameSetting old new →
+    IfOk result (λ step. (u : List ℕ) (s : List (Value × ℕ)) → Stands old u s
+    → Stands new (u ++ take step.used piece) (s ++ given_at step.value (length u + step.used)))
 step_stands old new piece (Err refusal) advances counts setting = tt
 step_stands old new piece (Ok step) advances counts setting = λ u s h.
     let before = h.counted in
@@ -110,7 +119,8 @@ pub record Passed (old new : BinaryReader) (piece : List ℕ) (used : ℕ) (v : 
   pub setting : SameSetting old new
   pub stands : (u : List ℕ) (s : List (Value × ℕ)) → Stands old u s → Stands new (u ++ take used piece) (s ++ (v, length u + used) ∷ [])
 
-passed : (old new : BinaryReader) (piece : List ℕ) (used : ℕ) (v : Value) → Advances old.used (run_of old) piece (Ok (record { used = used; value = Some v })) (machine_of new) → new.used ≡ old.used + used → SameSetting old new → Passed old new piece used v
+passed : (old new : BinaryReader) (piece : List ℕ) (used : ℕ) (v : Value) → Advances old.used (run_of old) piece (Ok (record { used = used; value = Some v }))
+    (machine_of new) → new.used ≡ old.used + used → SameSetting old new → Passed old new piece used v
 passed old new piece used v advances counts setting = record {
   within = advances.0;
   some = advances.1.0;

@@ -31,7 +31,8 @@ not_here : {X : Type 0} (p : X → Bool) (x : X) (xs : List X) → p x ≡ false
 not_here p x xs e = rw e (let n = position_or_len p xs in let same : 1 + n ≡ suc n = omega arith in same)
 
 -- where all differ, the place of one that is the same is the first such
-place_is : {X : Type 0} (eq : X → X → Bool) → IsEquivalence eq → (xs : List X) (i : ℕ) (x y : X) → IsDistinct eq xs → slice_get xs i ≡ Some y → eq x y ≡ true → i ≡ position_or_len (eq x) xs
+place_is : {X : Type 0} (eq : X → X → Bool) → IsEquivalence eq → (xs : List X) (i : ℕ) (x y : X) → IsDistinct eq xs → slice_get xs i ≡ Some y → eq x y ≡ true
+    → i ≡ position_or_len (eq x) xs
 place_is eq laws [] i x y d e h = cc
 place_is eq laws (z ∷ zs) zero x y d e h = let same : z ≡ y = cc in rw (same, h) refl
 place_is eq laws (z ∷ zs) (suc i) x y d e h = ap suc (place_is eq laws zs i x y (IsDistinct-tail eq z zs d) e h) ∙ sym (not_here (eq x) z zs (by (eq x z) refl))
@@ -46,11 +47,13 @@ place_is eq laws (z ∷ zs) (suc i) x y d e h = ap suc (place_is eq laws zs i x 
 -- 2. Ids.
 
 -- the place of a name that is the same as a symbol is the symbol's id
-pub id_at : (names : Names) (id : ℕ) (s other : Option (List ℕ)) → IsDistinct symbol_same names → slice_get names id ≡ Some other → symbol_same s other ≡ true → id ≡ id_of names s
+pub id_at : (names : Names) (id : ℕ) (s other : Option (List ℕ)) → IsDistinct symbol_same names → slice_get names id ≡ Some other → symbol_same s other ≡ true
+    → id ≡ id_of names s
 id_at = place_is symbol_same symbol_same-equiv
 
 -- the place of a symbol among the names is its id
-pub found_some : (names : Names) (s : Option (List ℕ)) (r : Option ℕ) → r ≡ position (symbol_same s) names → is_some r ≡ list_any (symbol_same s) names → IfSome r (λ id. id < length names) → length names < 2 ^ 63 → IfSome r (λ id. HasId names s id)
+pub found_some : (names : Names) (s : Option (List ℕ)) (r : Option ℕ) → r ≡ position (symbol_same s) names → is_some r ≡ list_any (symbol_same s) names
+    → IfSome r (λ id. id < length names) → length names < 2 ^ 63 → IfSome r (λ id. HasId names s id)
 found_some names s None place among within few = tt
 found_some names s (Some id) place among within few = record {
   is = ap (λ o. unwrap_or o (length names)) place ∙ place_or (symbol_same s) names;

@@ -15,7 +15,8 @@ rest_moved [] (suc i) o le = absurd (omega arith)
 rest_moved (x ∷ w) (suc i) o le = rest_moved w i o (omega arith)
 
 -- more digits in front of one that was inserted
-pub digit_inserted : (w more : List ℕ) (i o : ℕ) → i ≤ length w → take i (insert w i o) ++ (more ++ drop i (insert w i o)) ≡ take i w ++ ((more ++ o ∷ []) ++ drop i w)
+pub digit_inserted : (w more : List ℕ) (i o : ℕ) → i ≤ length w → take i (insert w i o) ++ (more ++ drop i (insert w i o)) ≡ take i w
+    ++ ((more ++ o ∷ []) ++ drop i w)
 digit_inserted w more i o le =
     ap₂ (λ (a b : List ℕ). a ++ (more ++ b)) (front_kept w i o le) (rest_moved w i o le)
     ∙ ap (λ (a : List ℕ). take i w ++ a) (sym (append_assoc more (o ∷ []) (drop i w)))

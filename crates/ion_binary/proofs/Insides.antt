@@ -43,7 +43,8 @@ module _ (g : Catalog) (l : Limits) (spot : Spot) (fs : List Frame) (kept : List
 
   -- the body ends with these octets
   pub body_ends : (t : Scalar) (k : ℕ) (phase : Phase) (piece : List ℕ) → phase ≡ InBody t (k - 1) → 0 < k → k ≤ length piece →
-      run g l spot.used (with_phase spot fs kept phase) (take k piece) ≡ run_after (spot.used + k) (judged (under g l) (moved spot (spot.used + k)) fs (judge spot.context t (kept ++ take k piece)))
+      run g l spot.used (with_phase spot fs kept phase) (take k piece)
+      ≡ run_after (spot.used + k) (judged (under g l) (moved spot (spot.used + k)) fs (judge spot.context t (kept ++ take k piece)))
   body_ends t k phase piece e some within =
       let size : length (take k piece) ≡ k = length-take-le k piece within in
       ap (λ p. run g l spot.used (with_phase spot fs kept p) (take k piece)) e

@@ -13,12 +13,15 @@ use Rattle.ion_binary.specs.Carrying.{WritesValue}
 no_table : (names : Names) → table_octets names names ≡ []
 no_table names = ap (λ b. if b then value_octets names (table_value (drop (length names) names)) else []) (le-ltb (length names) (length names) (omega arith))
 
-module _ {W : Type 0} (O : Outlet W) (names : Names) (begun : Bool) (new : Writing) (before now : W) (v : Value) (octets : List ℕ) (named : names_after names v ≡ names) (is : octets ≡ value_octets names v) where
+module _ {W : Type 0} (O : Outlet W) (names : Names) (begun : Bool) (new : Writing) (before now : W) (v : Value) (octets : List ℕ)
+    (named : names_after names v ≡ names) (is : octets ≡ value_octets names v) where
   adds_known : opening begun ++ octets ≡ adds (record { names = names; begun = begun }) v
   adds_known = rw (named, no_table names) (ap (λ w. opening begun ++ w) is)
 
-  pub wrote_known : (answer : Result (Unit {0}) Fault) → OnOk answer (Took O.took O.written before now (opening begun ++ octets)) → OnErr answer (TookFront O.took O.written before now (opening begun ++ octets))
-      → IfErr answer (λ fault. (fault ≡ Write) × (O.has_failed now ≡ true)) → OnOk answer (new ≡ record { progress = record { names = names; begun = true }; failed = None }) → IfErr answer (λ fault. new.failed ≡ Some fault)
+  pub wrote_known : (answer : Result (Unit {0}) Fault) → OnOk answer (Took O.took O.written before now (opening begun ++ octets))
+      → OnErr answer (TookFront O.took O.written before now (opening begun ++ octets))
+      → IfErr answer (λ fault. (fault ≡ Write) × (O.has_failed now ≡ true))
+      → OnOk answer (new ≡ record { progress = record { names = names; begun = true }; failed = None }) → IfErr answer (λ fault. new.failed ≡ Some fault)
       → WritesValue O (record { progress = record { names = names; begun = begun }; failed = None }) new before now v answer
   wrote_known (Ok x) took front cause goes failed = record {
     fine = refl;

@@ -18,7 +18,8 @@ later_if names s false = (s ∷ [], refl)
 
 pub later_names : (names ss : Names) → IsLater names (with_names names ss)
 later_names names [] = later_self names
-later_names names (s ∷ ss) = later_trans names (with_name names s) (with_names names (s ∷ ss)) (later_if names s (list_any (symbol_same s) names)) (later_names (with_name names s) ss)
+later_names names (s ∷ ss) = later_trans names (with_name names s) (with_names names (s ∷ ss)) (later_if names s (list_any (symbol_same s) names))
+    (later_names (with_name names s) ss)
 
 -- names behind the names of one call are names behind those before it
 pub later_by : (names ss new later : Names) → new ≡ with_names names ss → IsLater new later → IsLater names later

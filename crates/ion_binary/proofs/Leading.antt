@@ -32,7 +32,8 @@ module _ (g : Catalog) (l : Limits) (to : ℕ) where
       }
 
   -- what leads on from where it led
-  pub leads_through : (start m n : Machine) (piece : List ℕ) (i k : ℕ) → LeadsFromStart g l to start piece i m → LeadsFromStart g l (to + i) m (drop i piece) k n → LeadsFromStart g l to start piece (i + k) n
+  pub leads_through : (start m n : Machine) (piece : List ℕ) (i k : ℕ) → LeadsFromStart g l to start piece i m
+      → LeadsFromStart g l (to + i) m (drop i piece) k n → LeadsFromStart g l to start piece (i + k) n
   leads_through start m n piece i k before behind = record {
     onward =
         λ rest.
@@ -49,7 +50,8 @@ pub whole_rest : (piece : List ℕ) (i : ℕ) → take (length piece - i) (drop 
 whole_rest piece i = grind (arith, common_steps)
 
 -- octets of the rest of the piece that were taken up at once lead on
-pub leads_by : (g : Catalog) (l : Limits) (to : ℕ) (start m n : Machine) (piece : List ℕ) (i k used : ℕ) (cat : Catalog) (lim : Limits) → cat ≡ g → lim ≡ l → used ≡ to + i →
+pub leads_by : (g : Catalog) (l : Limits) (to : ℕ) (start m n : Machine) (piece : List ℕ) (i k used : ℕ) (cat : Catalog) (lim : Limits) → cat ≡ g → lim ≡ l
+    → used ≡ to + i →
     k ≤ length (take (length piece - i) (drop i piece)) → run cat lim used m (take k (take (length piece - i) (drop i piece))) ≡ led n →
     LeadsFromStart g l to start piece i m → LeadsFromStart g l to start piece (i + k) n
 leads_by g l to start m n piece i k used cat lim same_catalog same_limits place within e before =
@@ -63,7 +65,8 @@ leads_by g l to start m n piece i k used cat lim same_catalog same_limits place 
     ∙ (ap (λ x. run x lim used m part) (sym same_catalog) ∙ e)))))
 
 -- octets of the rest of the piece with whose last a value came
-leads_to_value : (g : Catalog) (l : Limits) (to : ℕ) (start m n : Machine) (piece : List ℕ) (i k used : ℕ) (cat : Catalog) (lim : Limits) (v : Value) → cat ≡ g → lim ≡ l → used ≡ to + i →
+leads_to_value : (g : Catalog) (l : Limits) (to : ℕ) (start m n : Machine) (piece : List ℕ) (i k used : ℕ) (cat : Catalog) (lim : Limits) (v : Value) → cat ≡ g
+    → lim ≡ l → used ≡ to + i →
     run cat lim used m (take k (take (length piece - i) (drop i piece))) ≡ record { given = (v, used + k) ∷ []; now = Ok n } →
     LeadsFromStart g l to start piece i m → run g l to start (take (i + k) piece) ≡ record { given = (v, to + (i + k)) ∷ []; now = Ok n }
 leads_to_value g l to start m n piece i k used cat lim v same_catalog same_limits place e before =
@@ -81,8 +84,10 @@ within_rest : (piece : List ℕ) (i k : ℕ) → 0 < k → k ≤ length (take (l
 within_rest piece i k some within = omega (arith, length-take {A = ℕ}, length-drop {A = ℕ})
 
 -- a value that came so is what the step gives
-pub leads_to_given : (g : Catalog) (l : Limits) (to : ℕ) (start m n : Machine) (piece : List ℕ) (i k used : ℕ) (cat : Catalog) (lim : Limits) (given : Option Value) → cat ≡ g → lim ≡ l → used ≡ to + i →
-    0 < k → k ≤ length (take (length piece - i) (drop i piece)) → GaveLast (run cat lim used m (take k (take (length piece - i) (drop i piece)))) (used + k) given n →
+pub leads_to_given : (g : Catalog) (l : Limits) (to : ℕ) (start m n : Machine) (piece : List ℕ) (i k used : ℕ) (cat : Catalog) (lim : Limits)
+    (given : Option Value) → cat ≡ g → lim ≡ l → used ≡ to + i →
+    0 < k → k ≤ length (take (length piece - i) (drop i piece)) → GaveLast (run cat lim used m (take k (take (length piece - i) (drop i piece)))) (used + k)
+    given n →
     LeadsFromStart g l to start piece i m → Advances to (run g l to start) piece (Ok (record { used = i + k; value = given })) n
 leads_to_given g l to start m n piece i k used cat lim None same_catalog same_limits place some within e before = absurd e
 leads_to_given g l to start m n piece i k used cat lim (Some v) same_catalog same_limits place some within e before =

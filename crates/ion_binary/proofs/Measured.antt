@@ -49,7 +49,8 @@ notes_counted _ _ _ (one_annotation ss s a m b i e) r =
     }
 
 -- what stands in brackets
-bracketed : (x : Bracket) (d n : ℕ) (a m k b : Measure) → m ≡ opened a → (LevelsLeft d n m → Counts d n m k) → b ≡ closed x k → LevelsLeft (suc d) (suc n) a → Counts (suc d) (suc n) a b
+bracketed : (x : Bracket) (d n : ℕ) (a m k b : Measure) → m ≡ opened a → (LevelsLeft d n m → Counts d n m k) → b ≡ closed x k → LevelsLeft (suc d) (suc n) a
+    → Counts (suc d) (suc n) a b
 bracketed x d n a m k b o i e r =
     let up = more_is a.depth (omega (arith, r.deep)) in
     let m_depth : m.depth ≡ a.depth + 1 = ap (λ (m : Measure). m.depth) o ∙ up in
@@ -79,13 +80,21 @@ mutual
   value_counted _ _ _ (annotated_visited ss p k a m n x y b some o i t e u) r =
       let deep = depth-annotated ss p in
       let many = nodes-annotated ss p in
-      let r0 : LevelsLeft 0 (length ss) m = subst (LevelsLeft 0 (length ss)) (sym o) (record { low = r.low; deep = omega (arith, r.deep); many = omega (arith, r.many, many) }) in
+      let r0 : LevelsLeft 0 (length ss) m = subst (LevelsLeft 0 (length ss)) (sym o)
+      (record { low = r.low; deep = omega (arith, r.deep); many = omega (arith, r.many, many) }) in
       let c = notes_counted ss m n i r0 in
       let f0 = subst (λ m. Counts 0 (length ss) m x) o (subst (Counts 0 (length ss) m) (sym t) c) in
-      let f = payload_counted p x y e (record { low = omega (arith, f0.same, f0.deepest, r.low); deep = omega (arith, f0.same, r.deep, deep); many = omega (arith, f0.nodes, r.many, many) }) in
-      subst (Counts (depth (annotated ss p)) (nodes (annotated ss p)) a) (sym u) (record { same = f.same ∙ f0.same; deepest = omega (arith, f.deepest, f0.deepest, f0.same, deep); nodes = omega (arith, f.nodes, f0.nodes, many) })
+      let f = payload_counted p x y e (record {
+        low = omega (arith, f0.same, f0.deepest, r.low);
+        deep = omega (arith, f0.same, r.deep, deep);
+        many =
+            omega (arith, f0.nodes, r.many, many);
+      }) in
+      subst (Counts (depth (annotated ss p)) (nodes (annotated ss p)) a) (sym u)
+      (record { same = f.same ∙ f0.same; deepest = omega (arith, f.deepest, f0.deepest, f0.same, deep); nodes = omega (arith, f.nodes, f0.nodes, many) })
 
-  payload_counted : (p : Payload) (a b : Measure) → VisitedPayload measuring p a b → LevelsLeft (depth (bare p)) (nodes (bare p)) a → Counts (depth (bare p)) (nodes (bare p)) a b
+  payload_counted : (p : Payload) (a b : Measure) → VisitedPayload measuring p a b → LevelsLeft (depth (bare p)) (nodes (bare p)) a
+      → Counts (depth (bare p)) (nodes (bare p)) a b
   payload_counted _ _ _ (in_one p a b i e) r =
       let flat = i.flat in
       let one = i.one in
@@ -94,20 +103,31 @@ mutual
       let b_deepest : b.deepest ≡ a.deepest = ap (λ (m : Measure). m.deepest) e in
       let b_nodes : b.nodes ≡ a.nodes + 1 = ap (λ (m : Measure). m.nodes) e ∙ up in
       record { same = b_depth; deepest = omega (arith, b_deepest, flat, r.low); nodes = omega (arith, b_nodes, one) }
-  payload_counted _ _ _ (in_list vs k a m n b o i e) r = renamed _ (suc (depths vs)) _ (suc (sum (map nodes vs))) a b (depth-listed listings.List vs) (nodes-listed listings.List vs) (bracketed brackets.List (depths vs) (sum (map nodes vs)) a m n b o (items_counted vs m n i) e) r
-  payload_counted _ _ _ (in_sexp vs k a m n b o i e) r = renamed _ (suc (depths vs)) _ (suc (sum (map nodes vs))) a b (depth-listed listings.Sexp vs) (nodes-listed listings.Sexp vs) (bracketed brackets.Sexp (depths vs) (sum (map nodes vs)) a m n b o (items_counted vs m n i) e) r
-  payload_counted _ _ _ (in_struct ms k a m n b o i e) r = renamed _ (suc (field_depths ms)) _ (suc (sum (map field_nodes ms))) a b (depth-fields ms) (nodes-fields ms) (bracketed brackets.Fields (field_depths ms) (sum (map field_nodes ms)) a m n b o (fields_counted ms m n i) e) r
+  payload_counted _ _ _ (in_list vs k a m n b o i e) r = renamed _ (suc (depths vs)) _ (suc (sum (map nodes vs))) a b (depth-listed listings.List vs)
+      (nodes-listed listings.List vs) (bracketed brackets.List (depths vs) (sum (map nodes vs)) a m n b o (items_counted vs m n i) e) r
+  payload_counted _ _ _ (in_sexp vs k a m n b o i e) r = renamed _ (suc (depths vs)) _ (suc (sum (map nodes vs))) a b (depth-listed listings.Sexp vs)
+      (nodes-listed listings.Sexp vs) (bracketed brackets.Sexp (depths vs) (sum (map nodes vs)) a m n b o (items_counted vs m n i) e) r
+  payload_counted _ _ _ (in_struct ms k a m n b o i e) r =
+      renamed _ (suc (field_depths ms)) _ (suc (sum (map field_nodes ms))) a b (depth-fields ms) (nodes-fields ms)
+      (bracketed brackets.Fields (field_depths ms) (sum (map field_nodes ms)) a m n b o (fields_counted ms m n i) e) r
 
-  items_counted : (vs : List Value) (a b : Measure) → VisitedItems measuring vs a b → LevelsLeft (depths vs) (sum (map nodes vs)) a → Counts (depths vs) (sum (map nodes vs)) a b
+  items_counted : (vs : List Value) (a b : Measure) → VisitedItems measuring vs a b → LevelsLeft (depths vs) (sum (map nodes vs)) a
+      → Counts (depths vs) (sum (map nodes vs)) a b
   items_counted _ _ _ (no_items a) r = record { same = refl; deepest = omega (arith, r.low); nodes = omega arith }
   items_counted _ _ _ (one_item vs v a m b i e) r =
       let deep = deepest-more vs v in
       let many = nodes-more vs v in
       let c = items_counted vs a m i (record { low = r.low; deep = omega (arith, r.deep, deep); many = omega (arith, r.many, many) }) in
-      let f = value_counted v m b e (record { low = omega (arith, c.same, c.deepest, r.low); deep = omega (arith, c.same, r.deep, deep); many = omega (arith, c.nodes, r.many, many) }) in
+      let f = value_counted v m b e (record {
+        low = omega (arith, c.same, c.deepest, r.low);
+        deep = omega (arith, c.same, r.deep, deep);
+        many =
+            omega (arith, c.nodes, r.many, many);
+      }) in
       record { same = f.same ∙ c.same; deepest = omega (arith, f.deepest, c.deepest, c.same, deep); nodes = omega (arith, f.nodes, c.nodes, many) }
 
-  fields_counted : (ms : List Field) (a b : Measure) → VisitedFields measuring ms a b → LevelsLeft (field_depths ms) (sum (map field_nodes ms)) a → Counts (field_depths ms) (sum (map field_nodes ms)) a b
+  fields_counted : (ms : List Field) (a b : Measure) → VisitedFields measuring ms a b → LevelsLeft (field_depths ms) (sum (map field_nodes ms)) a
+      → Counts (field_depths ms) (sum (map field_nodes ms)) a b
   fields_counted _ _ _ (no_fields a) r = record { same = refl; deepest = omega (arith, r.low); nodes = omega arith }
   fields_counted _ _ _ (one_field ms s v a m n b i x e) r =
       let deep = field_deepest-more ms (field_of s v) in
@@ -117,8 +137,18 @@ mutual
       let n_depth : n.depth ≡ m.depth = ap (λ (m : Measure). m.depth) x in
       let n_deepest : n.deepest ≡ m.deepest = ap (λ (m : Measure). m.deepest) x in
       let n_nodes : n.nodes ≡ m.nodes + 1 = ap (λ (m : Measure). m.nodes) x ∙ up in
-      let f = value_counted v n b e (record { low = omega (arith, n_depth, n_deepest, c.same, c.deepest, r.low); deep = omega (arith, n_depth, c.same, r.deep, deep); many = omega (arith, n_nodes, c.nodes, r.many, many) }) in
-      record { same = f.same ∙ n_depth ∙ c.same; deepest = omega (arith, f.deepest, n_deepest, n_depth, c.deepest, c.same, deep); nodes = omega (arith, f.nodes, n_nodes, c.nodes, many) }
+      let f = value_counted v n b e (record {
+        low = omega (arith, n_depth, n_deepest, c.same, c.deepest, r.low);
+        deep =
+            omega (arith, n_depth, c.same, r.deep, deep);
+        many = omega (arith, n_nodes, c.nodes, r.many, many);
+      }) in
+      record {
+        same = f.same ∙ n_depth ∙ c.same;
+        deepest = omega (arith, f.deepest, n_deepest, n_depth, c.deepest, c.same, deep);
+        nodes =
+            omega (arith, f.nodes, n_nodes, c.nodes, many);
+      }
 
 -- the kind of what was visited last
 kind_counted : (p : Payload) (a b : Measure) → VisitedPayload measuring p a b → b.kind ≡ kind_of (bare p)
@@ -132,7 +162,8 @@ value_kind _ _ _ (bare_visited p a b e) = kind_counted p a b e
 value_kind _ _ _ (annotated_visited ss p k a m n x y b some o i t e u) = ap (λ (m : Measure). m.kind) u ∙ kind_counted p x y e
 
 -- the outline of a value, before which nothing was counted
-pub outlined : (v : Value) (a b : Measure) → Visited measuring v a b → a.depth ≡ 0 → a.deepest ≡ 0 → a.nodes ≡ 0 → depth v < 2 ^ 63 → nodes v < 2 ^ 63 → outline_of v ≡ record { kind = b.kind; depth = b.deepest; nodes = b.nodes }
+pub outlined : (v : Value) (a b : Measure) → Visited measuring v a b → a.depth ≡ 0 → a.deepest ≡ 0 → a.nodes ≡ 0 → depth v < 2 ^ 63 → nodes v < 2 ^ 63
+    → outline_of v ≡ record { kind = b.kind; depth = b.deepest; nodes = b.nodes }
 outlined v a b h low deepest none deep many =
     let c = value_counted v a b h (record { low = omega (arith, low); deep = omega (arith, low, deep); many = omega (arith, none, many) }) in
     let d : min (depth v) (2 ^ 64 - 1) ≡ b.deepest = omega (arith, c.deepest, low, deepest, deep) in

@@ -26,7 +26,8 @@ fault_more names ss whole f e (inr (t, l)) = inr (t, omega (arith, no_fewer name
 
 -- the items of a list one by one
 module _ {X : Type 0} (h : X → Names) where
-  pub left : (names old : Names) (xs : List X) (i : ℕ) (x : X) → i < length xs → x ≡ get_or xs i x → with_names names (flat_map h (drop i xs)) ≡ with_names old (flat_map h xs)
+  pub left : (names old : Names) (xs : List X) (i : ℕ) (x : X) → i < length xs → x ≡ get_or xs i x → with_names names (flat_map h (drop i xs))
+      ≡ with_names old (flat_map h xs)
       → with_names (with_names names (h x)) (flat_map h (drop (i + 1) xs)) ≡ with_names old (flat_map h xs)
   left names old xs i x small is so_far =
       sym (fold-append with_name names (h x) (flat_map h (drop (i + 1) xs)))
@@ -34,9 +35,11 @@ module _ {X : Type 0} (h : X → Names) where
       ∙ ap (λ ys. with_names names (flat_map h ys)) (sym (drop_more xs i x small))
       ∙ so_far
 
-  pub fault_at : (names old : Names) (xs : List X) (i : ℕ) (x : X) (f : Fault) → i < length xs → x ≡ get_or xs i x → with_names names (flat_map h (drop i xs)) ≡ with_names old (flat_map h xs)
+  pub fault_at : (names old : Names) (xs : List X) (i : ℕ) (x : X) (f : Fault) → i < length xs → x ≡ get_or xs i x → with_names names (flat_map h (drop i xs))
+      ≡ with_names old (flat_map h xs)
       → IsNumberingFault (with_names names (h x)) f → IsNumberingFault (with_names old (flat_map h xs)) f
-  fault_at names old xs i x f small is so_far fault = fault_more (with_names names (h x)) (flat_map h (drop (i + 1) xs)) (with_names old (flat_map h xs)) f (left names old xs i x small is so_far) fault
+  fault_at names old xs i x f small is so_far fault = fault_more (with_names names (h x)) (flat_map h (drop (i + 1) xs)) (with_names old (flat_map h xs)) f
+      (left names old xs i x small is so_far) fault
 
 -- symbols one by one
 pub left_symbols : (names old ss : Names) (i : ℕ) (s : Option (List ℕ)) → i < length ss → s ≡ get_or ss i s → with_names names (drop i ss) ≡ with_names old ss
@@ -44,9 +47,11 @@ pub left_symbols : (names old ss : Names) (i : ℕ) (s : Option (List ℕ)) → 
 left_symbols names old ss i s small is so_far =
     ap (λ t. with_names (with_name names t) (drop (i + 1) ss)) is ∙ ap (with_names names) (sym (drop_more ss i s small)) ∙ so_far
 
-pub fault_at_symbol : (names old ss : Names) (i : ℕ) (s : Option (List ℕ)) (f : Fault) → i < length ss → s ≡ get_or ss i s → with_names names (drop i ss) ≡ with_names old ss
+pub fault_at_symbol : (names old ss : Names) (i : ℕ) (s : Option (List ℕ)) (f : Fault) → i < length ss → s ≡ get_or ss i s → with_names names (drop i ss)
+    ≡ with_names old ss
     → IsNumberingFault (with_name names s) f → IsNumberingFault (with_names old ss) f
-fault_at_symbol names old ss i s f small is so_far fault = fault_more (with_name names s) (drop (i + 1) ss) (with_names old ss) f (left_symbols names old ss i s small is so_far) fault
+fault_at_symbol names old ss i s f small is so_far fault =
+    fault_more (with_name names s) (drop (i + 1) ss) (with_names old ss) f (left_symbols names old ss i s small is so_far) fault
 
 -- the symbols of a value: annotations, then its payload
 pub of_value : (names : Names) (v : Value) → with_names (with_names names v.annotations) (layer_symbols (out-Payload v.payload)) ≡ names_after names v

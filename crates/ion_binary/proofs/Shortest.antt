@@ -78,7 +78,8 @@ module _ (c : List Slot) (names : Names) (body before after : List ℕ) (o : Are
     kept = kept_int (pos (positional 256 body)) (omega (arith, h.bound));
     named = ap (λ d. with_names names (layer_symbols d)) (views.outs-Int (pos (positional 256 body)));
     octets = e ∙ (ap (λ w. before ++ framed 2 w) (sym (shortest_spells body o h.first).digits)
-        ∙ (ap (λ w. before ++ w) (sym (positive_octets (positional 256 body))) ∙ ap (λ d. before ++ layer_octets names d) (sym (views.outs-Int (pos (positional 256 body))))));
+        ∙ (ap (λ w. before ++ w) (sym (positive_octets (positional 256 body)))
+        ∙ ap (λ d. before ++ layer_octets names d) (sym (views.outs-Int (pos (positional 256 body))))));
   }
 
   pub negative_as_it_stands : after ≡ before ++ framed 3 body → TranscribedScalar c names scalars.NegativeInt body before after

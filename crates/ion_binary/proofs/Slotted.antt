@@ -18,17 +18,21 @@ pub int_is : (c : List Slot) (body : List ℕ) (n : ℕ) (z : ℤ) → n ≡ pos
 int_is c body n z e small same =
     subst (λ w. IsScalar c body scalars.Int (payloads.Int w)) (sym (same ∙ ap pos e)) (is_int (subst (λ k. k < 2 ^ 127) e small))
 
-pub negative_is : (c : List Slot) (body : List ℕ) (n : ℕ) (z : ℤ) → n ≡ positional 256 body → n < 2 ^ 127 → 0 < n → z ≡ neg_ℤ (pos n) → IsScalar c body scalars.NegativeInt (payloads.Int z)
+pub negative_is : (c : List Slot) (body : List ℕ) (n : ℕ) (z : ℤ) → n ≡ positional 256 body → n < 2 ^ 127 → 0 < n → z ≡ neg_ℤ (pos n)
+    → IsScalar c body scalars.NegativeInt (payloads.Int z)
 negative_is c body n z e small some same =
-    subst (λ w. IsScalar c body scalars.NegativeInt (payloads.Int w)) (sym (same ∙ ap (λ k. neg_ℤ (pos k)) e)) (is_negative (subst (λ k. k < 2 ^ 127) e small) (subst (λ k. 0 < k) e some))
+    subst (λ w. IsScalar c body scalars.NegativeInt (payloads.Int w)) (sym (same ∙ ap (λ k. neg_ℤ (pos k)) e))
+    (is_negative (subst (λ k. k < 2 ^ 127) e small) (subst (λ k. 0 < k) e some))
 
 pub decimal_is : (c : List Slot) (body : List ℕ) (d : DecimalParts) → decimal_of_body body ≡ Ok d → IsScalar c body scalars.Decimal (payloads.Decimal d)
 decimal_is c body d e = decimal_sound c body (payloads.Decimal d) (decimal_of_body body) (decimal_answers body) (ap as_decimal e)
 
-pub timestamp_is : (c : List Slot) (body : List ℕ) (t : TimestampParts) → timestamp_of_body body ≡ Ok t → IsScalar c body scalars.Timestamp (payloads.Timestamp t)
+pub timestamp_is : (c : List Slot) (body : List ℕ) (t : TimestampParts) → timestamp_of_body body ≡ Ok t
+    → IsScalar c body scalars.Timestamp (payloads.Timestamp t)
 timestamp_is c body t e = timestamp_sound c body (payloads.Timestamp t) (timestamp_of_body body) refl (ap as_timestamp e)
 
-pub symbol_is : (c : List Slot) (body : List ℕ) (id : ℕ) (s : Option (List ℕ)) → id ≡ positional 256 body → id < 2 ^ 64 → resolve c id ≡ Ok s → IsScalar c body scalars.Symbol (payloads.Symbol s)
+pub symbol_is : (c : List Slot) (body : List ℕ) (id : ℕ) (s : Option (List ℕ)) → id ≡ positional 256 body → id < 2 ^ 64 → resolve c id ≡ Ok s
+    → IsScalar c body scalars.Symbol (payloads.Symbol s)
 symbol_is c body id s e small found =
     is_symbol s (subst (λ k. k < 2 ^ 127) e (omega arith)) (subst (λ k. resolve c k ≡ Ok s) e found)
 

@@ -69,7 +69,11 @@ module _ {S H : Type 0} (N : Names) where
       record {
         kept = texts_last ss s c.kept x.kept;
         named = named_both N ss (s ∷ []) c.named (id_named s m b c.wrote.names x);
-        wrote = record { names = f.names; octets = written_more (λ s. var_uint_octets (id_of N s)) a.out.items m.out.items b.out.items ss s c.wrote.octets f.octets };
+        wrote = record {
+          names = f.names;
+          octets = written_more (λ s. var_uint_octets (id_of N s)) a.out.items m.out.items b.out.items ss s c.wrote.octets
+              f.octets;
+        };
       }
 
   -- what was written behind a place became a body
@@ -92,9 +96,15 @@ module _ {S H : Type 0} (N : Names) where
         let v = annotated ss p in
         let layer = layer_octets N (views.out-Payload p) in
         let c = notes_written ss m n i (o.names ∙ e) in
-        let turned : x.out.items ≡ m.out.items ++ with_count (ids_octets N ss) = counted_behind k a.out.items (ids_octets N ss) m.out.items n.out.items x.out.items o.place o.octets c.wrote.octets t.octets in
+        let turned : x.out.items ≡ m.out.items ++ with_count (ids_octets N ss) =
+        counted_behind k a.out.items (ids_octets N ss) m.out.items n.out.items x.out.items o.place o.octets c.wrote.octets t.octets in
         let f = payload_written p x y j (t.names ∙ c.wrote.names) in
-        let all : Wrote m y (with_count (ids_octets N ss) ++ layer) = record { names = f.wrote.names; octets = f.wrote.octets ∙ (ap (λ w. w ++ layer) turned ∙ append_assoc m.out.items (with_count (ids_octets N ss)) layer) } in
+        let all : Wrote m y (with_count (ids_octets N ss) ++ layer) =
+        record {
+          names = f.wrote.names;
+          octets = f.wrote.octets
+              ∙ (ap (λ w. w ++ layer) turned ∙ append_assoc m.out.items (with_count (ids_octets N ss)) layer);
+        } in
         let whole = framed_behind 14 k a m y b (with_count (ids_octets N ss) ++ layer) o all u in
         record {
           kept = kepts.kept ss p c.kept f.kept;
@@ -141,7 +151,10 @@ module _ {S H : Type 0} (N : Names) where
         record {
           kept = items_last vs v c.kept f.kept;
           named = named_more symbols_of N vs v c.named f.named;
-          wrote = record { names = f.wrote.names; octets = written_more (value_octets N) a.out.items m.out.items b.out.items vs v c.wrote.octets f.wrote.octets };
+          wrote = record {
+            names = f.wrote.names;
+            octets = written_more (value_octets N) a.out.items m.out.items b.out.items vs v c.wrote.octets f.wrote.octets;
+          };
         }
 
     fields_written : (ms : List Field) (a b : Transcription S H) → VisitedFields transcribing ms a b → a.names.now ≡ N → WroteFields ms a b
@@ -150,22 +163,40 @@ module _ {S H : Type 0} (N : Names) where
         let c = fields_written ms a m i e in
         let g = id_added s m n c.wrote.names x in
         let f = value_written v n b j g.names in
-        let both : b.out.items ≡ m.out.items ++ field_octets N (field_of s v) = f.wrote.octets ∙ (ap (λ w. w ++ value_octets N v) g.octets ∙ append_assoc m.out.items (var_uint_octets (id_of N s)) (value_octets N v)) in
+        let both : b.out.items ≡ m.out.items ++ field_octets N (field_of s v) =
+        f.wrote.octets ∙ (ap (λ w. w ++ value_octets N v) g.octets ∙ append_assoc m.out.items (var_uint_octets (id_of N s)) (value_octets N v)) in
         record {
           kept = fields_last ms s v c.kept x.kept f.kept;
-          named = named_more field_symbols N ms (field_of s v) c.named (ap (λ (n : Names). with_names n (symbols_of v)) (id_named s m n c.wrote.names x) ∙ f.named);
-          wrote = record { names = f.wrote.names; octets = written_more (field_octets N) a.out.items m.out.items b.out.items ms (field_of s v) c.wrote.octets both };
+          named = named_more field_symbols N ms (field_of s v) c.named (ap (λ (n : Names). with_names n (symbols_of v)) (id_named s m n c.wrote.names x)
+              ∙ f.named);
+          wrote = record {
+            names = f.wrote.names;
+            octets = written_more (field_octets N) a.out.items m.out.items b.out.items ms (field_of s v) c.wrote.octets
+                both;
+          };
         }
 
 -- what was gone over was written
-pub transcribed : {S H : Type 0} (c : List Slot) (N : Names) (level : ℕ) (octets before : List ℕ) (a b : Transcription S H) (r : Option ℕ) → a.names.now ≡ N → a.out.items ≡ before → IfSome r (λ n. Walked transcribing c level (take n octets) a b) → IfSome r (λ n. Transcribed c N level (take n octets) before b.out.items)
+pub transcribed : {S H : Type 0} (c : List Slot) (N : Names) (level : ℕ) (octets before : List ℕ) (a b : Transcription S H) (r : Option ℕ) → a.names.now ≡ N
+    → a.out.items ≡ before → IfSome r (λ n. Walked transcribing c level (take n octets) a b)
+    → IfSome r (λ n. Transcribed c N level (take n octets) before b.out.items)
 transcribed c N level octets before a b None e o t = t
 transcribed c N level octets before a b (Some n) e o t =
     let f = value_written N t.value a b t.visited e in
-    record { value = t.value; is = t.is; deep = t.deep; given = t.given; kept = f.kept; named = f.named; octets = f.wrote.octets ∙ ap (λ w. w ++ value_octets N t.value) o }
+    record {
+      value = t.value;
+      is = t.is;
+      deep = t.deep;
+      given = t.given;
+      kept = f.kept;
+      named = f.named;
+      octets =
+          f.wrote.octets ∙ ap (λ w. w ++ value_octets N t.value) o;
+    }
 
 -- the same, where whatever is so of it is kept
-pub visited : {S H : Type 0} (P : ℕ → Value → Type 0) (N : Names) (before : List ℕ) (a b : Transcription S H) (r : Option ℕ) → a.names.now ≡ N → a.out.items ≡ before → IfSome r (λ n. (v : Value) × P n v × Visited transcribing v a b)
+pub visited : {S H : Type 0} (P : ℕ → Value → Type 0) (N : Names) (before : List ℕ) (a b : Transcription S H) (r : Option ℕ) → a.names.now ≡ N
+    → a.out.items ≡ before → IfSome r (λ n. (v : Value) × P n v × Visited transcribing v a b)
     → IfSome r (λ n. (v : Value) × P n v × Appends N v before b.out.items)
 visited P N before a b None e o t = t
 visited P N before a b (Some n) e o t =
@@ -173,11 +204,25 @@ visited P N before a b (Some n) e o t =
     (t.0, t.1, record { kept = f.kept; named = f.named; octets = f.wrote.octets ∙ ap (λ w. w ++ value_octets N t.0) o })
 
 -- payloads of one octet
-pub null_added : {S H : Type 0} (k : Kind) (a b : Transcription S H) → b.names.now ≡ a.names.now → b.out.items ≡ a.out.items ++ null_octet k ∷ [] → AddsPart a b (payloads.Null k)
-null_added k a b e o = record { names = e; kept = kepts.kept_null k; named = ap (λ d. with_names a.names.now (layer_symbols d)) (views.outs-Null k); octets = o ∙ ap (λ d. a.out.items ++ layer_octets a.names.now d) (sym (views.outs-Null k)) }
+pub null_added : {S H : Type 0} (k : Kind) (a b : Transcription S H) → b.names.now ≡ a.names.now → b.out.items ≡ a.out.items ++ null_octet k ∷ []
+    → AddsPart a b (payloads.Null k)
+null_added k a b e o = record {
+  names = e;
+  kept = kepts.kept_null k;
+  named = ap (λ d. with_names a.names.now (layer_symbols d)) (views.outs-Null k);
+  octets =
+      o ∙ ap (λ d. a.out.items ++ layer_octets a.names.now d) (sym (views.outs-Null k));
+}
 
-pub truth_added : {S H : Type 0} (t : Bool) (a b : Transcription S H) → b.names.now ≡ a.names.now → b.out.items ≡ a.out.items ++ truth_octet t ∷ [] → AddsPart a b (payloads.Truth t)
-truth_added t a b e o = record { names = e; kept = kepts.kept_truth t; named = ap (λ d. with_names a.names.now (layer_symbols d)) (views.outs-Truth t); octets = o ∙ ap (λ d. a.out.items ++ layer_octets a.names.now d) (sym (views.outs-Truth t)) }
+pub truth_added : {S H : Type 0} (t : Bool) (a b : Transcription S H) → b.names.now ≡ a.names.now → b.out.items ≡ a.out.items ++ truth_octet t ∷ []
+    → AddsPart a b (payloads.Truth t)
+truth_added t a b e o = record {
+  names = e;
+  kept = kepts.kept_truth t;
+  named = ap (λ d. with_names a.names.now (layer_symbols d)) (views.outs-Truth t);
+  octets =
+      o ∙ ap (λ d. a.out.items ++ layer_octets a.names.now d) (sym (views.outs-Truth t));
+}
 
 -- payloads that have no symbols
 module _ {S H : Type 0} (a b : Transcription S H) (p : Payload) (d : Layer) (is : views.out-Payload p ≡ d) where
@@ -190,16 +235,19 @@ module _ {S H : Type 0} (a b : Transcription S H) (p : Payload) (d : Layer) (is 
   }
 
 -- a symbol
-pub symbol_added : {S H : Type 0} (s : Option (List ℕ)) (id : ℕ) (a b : Transcription S H) → IsText s → HasId a.names.now s id → b.names.now ≡ a.names.now → b.out.items ≡ a.out.items ++ framed 7 (uint_octets id) → AddsPart a b (payloads.Symbol s)
+pub symbol_added : {S H : Type 0} (s : Option (List ℕ)) (id : ℕ) (a b : Transcription S H) → IsText s → HasId a.names.now s id → b.names.now ≡ a.names.now
+    → b.out.items ≡ a.out.items ++ framed 7 (uint_octets id) → AddsPart a b (payloads.Symbol s)
 symbol_added s id a b kept has names octets = record {
   names = names;
   kept = kepts.kept_symbol s kept;
   named = ap (λ d. with_names a.names.now (layer_symbols d)) (views.outs-Symbol s) ∙ has.named;
-  octets = octets ∙ (ap (λ (k : ℕ). a.out.items ++ framed 7 (uint_octets k)) has.is ∙ ap (λ d. a.out.items ++ layer_octets a.names.now d) (sym (views.outs-Symbol s)));
+  octets = octets ∙ (ap (λ (k : ℕ). a.out.items ++ framed 7 (uint_octets k)) has.is
+      ∙ ap (λ d. a.out.items ++ layer_octets a.names.now d) (sym (views.outs-Symbol s)));
 }
 
 -- an id
-pub id_appended : {S H : Type 0} (s : Option (List ℕ)) (id : ℕ) (a b : Transcription S H) → IsText s → HasId a.names.now s id → b.names.now ≡ a.names.now → b.out.items ≡ a.out.items ++ var_uint_octets id → AddsId a b s
+pub id_appended : {S H : Type 0} (s : Option (List ℕ)) (id : ℕ) (a b : Transcription S H) → IsText s → HasId a.names.now s id → b.names.now ≡ a.names.now
+    → b.out.items ≡ a.out.items ++ var_uint_octets id → AddsId a b s
 id_appended s id a b kept has names octets = record {
   names = names;
   kept = kept;

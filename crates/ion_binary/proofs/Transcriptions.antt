@@ -37,25 +37,30 @@ ok_some (Err f') o e p f = rw e tt
 pub named_both : (names ss ts : Names) → Named names ss → Named names ts → Named names (ss ++ ts)
 named_both names ss ts h k = fold-append with_name names ss ts ∙ (ap (λ (n : Names). with_names n ts) h ∙ k)
 
-pub named_more : {X : Type 0} (f : X → Names) (names : Names) (xs : List X) (x : X) → Named names (flat_map f xs) → Named names (f x) → Named names (flat_map f (xs ++ x ∷ []))
+pub named_more : {X : Type 0} (f : X → Names) (names : Names) (xs : List X) (x : X) → Named names (flat_map f xs) → Named names (f x)
+    → Named names (flat_map f (xs ++ x ∷ []))
 named_more f names xs x h k = subst (Named names) (flat_map_more f [] xs x) (named_both names (flat_map f xs) (f x) h k)
 
 -- octets behind octets
 
-pub written_more : {X : Type 0} (f : X → List ℕ) (first now later : List ℕ) (xs : List X) (x : X) → now ≡ first ++ flat_map f xs → later ≡ now ++ f x → later ≡ first ++ flat_map f (xs ++ x ∷ [])
+pub written_more : {X : Type 0} (f : X → List ℕ) (first now later : List ℕ) (xs : List X) (x : X) → now ≡ first ++ flat_map f xs → later ≡ now ++ f x
+    → later ≡ first ++ flat_map f (xs ++ x ∷ [])
 written_more f first now later xs x e h = h ∙ (ap (λ w. w ++ f x) e ∙ flat_map_more f first xs x)
 
 -- the number of the octets behind an octet is put before them
-pub counted_behind : (place : ℕ) (first body at mid new : List ℕ) → place ≡ length first → at ≡ first ++ 0 ∷ [] → mid ≡ at ++ body → new ≡ take (place + 1) mid ++ with_count (drop (place + 1) mid) → new ≡ at ++ with_count body
+pub counted_behind : (place : ℕ) (first body at mid new : List ℕ) → place ≡ length first → at ≡ first ++ 0 ∷ [] → mid ≡ at ++ body → new ≡ take (place + 1) mid
+    ++ with_count (drop (place + 1) mid) → new ≡ at ++ with_count body
 counted_behind place first body at mid new p a m e =
     let here : place + 1 ≡ length at = omega (arith, p, ap length a, length-append first (0 ∷ [])) in
-    let behind : drop (length at) (at ++ body) ≡ body = ap (λ (k : ℕ). drop k (at ++ body)) (let z : length at ≡ length at + 0 = omega arith in z) ∙ drop-append-add at body 0 in
+    let behind : drop (length at) (at ++ body) ≡ body = ap (λ (k : ℕ). drop k (at ++ body)) (let z : length at ≡ length at + 0 = omega arith in z)
+    ∙ drop-append-add at body 0 in
     e ∙ rw (m, here, take-append_seam at body, behind) refl
 
 -- scalars
 
 -- a scalar of octets is kept, if the symbol that it may be is
-pub kept_scalar : (c : List Slot) (body : List ℕ) (t : Scalar) (p : Payload) → IsScalar c body t p → AreOctets body → ((s : Option (List ℕ)) → p ≡ payloads.Symbol s → IsText s) → KeptPayload p
+pub kept_scalar : (c : List Slot) (body : List ℕ) (t : Scalar) (p : Payload) → IsScalar c body t p → AreOctets body
+    → ((s : Option (List ℕ)) → p ≡ payloads.Symbol s → IsText s) → KeptPayload p
 kept_scalar c body _ _ (is_int k) o h = kept_int (pos (positional 256 body)) k
 kept_scalar c body _ _ (is_negative k n) o h = kept_int (neg_ℤ (pos (positional 256 body))) (negative_whole (positional 256 body) k)
 kept_scalar c body _ _ (is_decimal d b k) o h = kept_decimal d k
@@ -93,7 +98,8 @@ module _ (c : List Slot) (names : Names) (body before after : List ℕ) where
     octets = e ∙ ap (λ d. before ++ layer_octets names d) (sym (views.outs-Blob body));
   }
 
-  pub symbol_again : (n id : ℕ) (s : Option (List ℕ)) → n ≡ positional 256 body → n < 2 ^ 64 → resolve c n ≡ Ok s → IsText s → HasId names s id → after ≡ before ++ framed 7 (uint_octets id) → TranscribedScalar c names scalars.Symbol body before after
+  pub symbol_again : (n id : ℕ) (s : Option (List ℕ)) → n ≡ positional 256 body → n < 2 ^ 64 → resolve c n ≡ Ok s → IsText s → HasId names s id
+      → after ≡ before ++ framed 7 (uint_octets id) → TranscribedScalar c names scalars.Symbol body before after
   symbol_again n id s is small found text has e = record {
     payload = payloads.Symbol s;
     is = symbol_is c body n s is small found;
@@ -110,23 +116,28 @@ module _ (c : List Slot) (names : Names) (body before after : List ℕ) where
       is = is;
       kept = kept_scalar c body t p is o (λ s h. absurd (let k : payloads.Int z ≡ payloads.Symbol s = sym same ∙ h in cc));
       named = ap (λ x. with_names names (layer_symbols (views.out-Payload x))) same ∙ ap (λ d. with_names names (layer_symbols d)) (views.outs-Int z);
-      octets = e ∙ (ap (λ d. before ++ layer_octets names d) (sym (views.outs-Int z)) ∙ ap (λ x. before ++ layer_octets names (views.out-Payload x)) (sym same));
+      octets = e ∙ (ap (λ d. before ++ layer_octets names d) (sym (views.outs-Int z))
+          ∙ ap (λ x. before ++ layer_octets names (views.out-Payload x)) (sym same));
     }
 
-    pub decimal_again : (d : DecimalParts) → p ≡ payloads.Decimal d → after ≡ before ++ framed 5 (decimal_octets d) → TranscribedScalar c names t body before after
+    pub decimal_again : (d : DecimalParts) → p ≡ payloads.Decimal d → after ≡ before ++ framed 5 (decimal_octets d)
+        → TranscribedScalar c names t body before after
     decimal_again z same e = record {
       payload = p;
       is = is;
       kept = kept_scalar c body t p is o (λ s h. absurd (let k : payloads.Decimal z ≡ payloads.Symbol s = sym same ∙ h in cc));
       named = ap (λ x. with_names names (layer_symbols (views.out-Payload x))) same ∙ ap (λ d. with_names names (layer_symbols d)) (views.outs-Decimal z);
-      octets = e ∙ (ap (λ d. before ++ layer_octets names d) (sym (views.outs-Decimal z)) ∙ ap (λ x. before ++ layer_octets names (views.out-Payload x)) (sym same));
+      octets = e ∙ (ap (λ d. before ++ layer_octets names d) (sym (views.outs-Decimal z))
+          ∙ ap (λ x. before ++ layer_octets names (views.out-Payload x)) (sym same));
     }
 
-    pub timestamp_again : (d : TimestampParts) → p ≡ payloads.Timestamp d → after ≡ before ++ framed 6 (timestamp_octets d) → TranscribedScalar c names t body before after
+    pub timestamp_again : (d : TimestampParts) → p ≡ payloads.Timestamp d → after ≡ before ++ framed 6 (timestamp_octets d)
+        → TranscribedScalar c names t body before after
     timestamp_again z same e = record {
       payload = p;
       is = is;
       kept = kept_scalar c body t p is o (λ s h. absurd (let k : payloads.Timestamp z ≡ payloads.Symbol s = sym same ∙ h in cc));
       named = ap (λ x. with_names names (layer_symbols (views.out-Payload x))) same ∙ ap (λ d. with_names names (layer_symbols d)) (views.outs-Timestamp z);
-      octets = e ∙ (ap (λ d. before ++ layer_octets names d) (sym (views.outs-Timestamp z)) ∙ ap (λ x. before ++ layer_octets names (views.out-Payload x)) (sym same));
+      octets = e ∙ (ap (λ d. before ++ layer_octets names d) (sym (views.outs-Timestamp z))
+          ∙ ap (λ x. before ++ layer_octets names (views.out-Payload x)) (sym same));
     }

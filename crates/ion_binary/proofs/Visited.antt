@@ -34,38 +34,77 @@ some_symbols c _ _ no_ids h = absurd (omega (arith, h))
 some_symbols c _ _ (one_id us w ss k s i v r) h = omega (arith, length-append ss (s ∷ []))
 
 module _ {S M : Type 0} (h : Visits S M) (c : List Slot) where
-  pub walked_scalar : (form : Form) (t : Scalar) (level : ℕ) (body : List ℕ) (a b : S) (p : Payload) → form ≡ forms.Scalar t → IsScalar c body t p → h.takes a (part p) b → WalkedBody h c form level body a b
+  pub walked_scalar : (form : Form) (t : Scalar) (level : ℕ) (body : List ℕ) (a b : S) (p : Payload) → form ≡ forms.Scalar t → IsScalar c body t p
+      → h.takes a (part p) b → WalkedBody h c form level body a b
   walked_scalar form t level body a b p e s x =
       let flat = scalar_flat c body t p s in
-      record { payload = p; framed = framed_scalar c form t body p e s; deep = omega (arith, flat); visited = in_one p a b (record { flat = flat; one = scalar_nodes c body t p s }) x }
+      record {
+        payload = p;
+        framed = framed_scalar c form t body p e s;
+        deep = omega (arith, flat);
+        visited =
+            in_one p a b (record { flat = flat; one = scalar_nodes c body t p s }) x;
+      }
 
-  pub walked_listing : (form : Form) (x : Listing) (level : ℕ) (body : List ℕ) (a b : S) → form ≡ forms.Listing x → WalkedListing h c x level body a b → WalkedBody h c form level body a b
+  pub walked_listing : (form : Form) (x : Listing) (level : ℕ) (body : List ℕ) (a b : S) → form ≡ forms.Listing x → WalkedListing h c x level body a b
+      → WalkedBody h c form level body a b
   walked_listing form x level body a b e s =
       let deep = depth-listed x s.values in
-      record { payload = listed x s.values; framed = framed_listing c form x body (listed x s.values) e (record { values = s.values; same = refl; items = s.are }); deep = omega (arith, deep, s.deep); visited = s.visited }
+      record {
+        payload = listed x s.values;
+        framed = framed_listing c form x body (listed x s.values) e
+            (record { values = s.values; same = refl; items = s.are });
+        deep = omega (arith, deep, s.deep);
+        visited = s.visited;
+      }
 
-  pub walked_struct : (form : Form) (level : ℕ) (body : List ℕ) (a b : S) → form ≡ forms.Struct → WalkedStruct h c level body a b → WalkedBody h c form level body a b
+  pub walked_struct : (form : Form) (level : ℕ) (body : List ℕ) (a b : S) → form ≡ forms.Struct → WalkedStruct h c level body a b
+      → WalkedBody h c form level body a b
   walked_struct form level body a b e s =
       let deep = depth-fields s.fields in
-      record { payload = payloads.Fields s.fields; framed = framed_struct c form body (payloads.Fields s.fields) e (record { fields = s.fields; same = refl; items = s.are }); deep = omega (arith, deep, s.deep); visited = s.visited }
+      record {
+        payload = payloads.Fields s.fields;
+        framed = framed_struct c form body (payloads.Fields s.fields) e
+            (record { fields = s.fields; same = refl; items = s.are });
+        deep = omega (arith, deep, s.deep);
+        visited = s.visited;
+      }
 
-  pub walked_ordered : (form : Form) (level : ℕ) (body : List ℕ) (a b : S) → form ≡ forms.OrderedStruct → 0 < length body → WalkedStruct h c level body a b → WalkedBody h c form level body a b
+  pub walked_ordered : (form : Form) (level : ℕ) (body : List ℕ) (a b : S) → form ≡ forms.OrderedStruct → 0 < length body → WalkedStruct h c level body a b
+      → WalkedBody h c form level body a b
   walked_ordered form level body a b e some s =
       let deep = depth-fields s.fields in
-      record { payload = payloads.Fields s.fields; framed = framed_ordered c form body (payloads.Fields s.fields) e some (record { fields = s.fields; same = refl; items = s.are }); deep = omega (arith, deep, s.deep); visited = s.visited }
+      record {
+        payload = payloads.Fields s.fields;
+        framed = framed_ordered c form body (payloads.Fields s.fields) e some
+            (record { fields = s.fields; same = refl; items = s.are });
+        deep = omega (arith, deep, s.deep);
+        visited = s.visited;
+      }
 
   -- what stands in brackets
-  pub visited_listed : (x : Listing) (vs : List Value) (k : M) (a m n b : S) → h.opens a (bracket_of x) k m → VisitedItems h vs m n → h.closes n (bracket_of x) k b → VisitedPayload h (listed x vs) a b
+  pub visited_listed : (x : Listing) (vs : List Value) (k : M) (a m n b : S) → h.opens a (bracket_of x) k m → VisitedItems h vs m n
+      → h.closes n (bracket_of x) k b → VisitedPayload h (listed x vs) a b
   visited_listed listings.List vs k a m n b o i d = in_list vs k a m n b o i d
   visited_listed listings.Sexp vs k a m n b o i d = in_sexp vs k a m n b o i d
 
   -- a value without annotations
-  pub walked_bare : (level : ℕ) (octets : List ℕ) (a b : S) (r : Option ℕ) → IfSome r (λ n. WalkedPlain h c level (take n octets) a b) → IfSome r (λ n. Walked h c level (take n octets) a b)
+  pub walked_bare : (level : ℕ) (octets : List ℕ) (a b : S) (r : Option ℕ) → IfSome r (λ n. WalkedPlain h c level (take n octets) a b)
+      → IfSome r (λ n. Walked h c level (take n octets) a b)
   walked_bare level octets a b None t = t
-  walked_bare level octets a b (Some n) t = record { value = bare t.payload; is = unannotated (take n octets) t.payload t.is; deep = t.deep; given = refl; visited = bare_visited t.payload a b t.visited }
+  walked_bare level octets a b (Some n) t = record {
+    value = bare t.payload;
+    is = unannotated (take n octets) t.payload t.is;
+    deep = t.deep;
+    given =
+        refl;
+    visited = bare_visited t.payload a b t.visited;
+  }
 
-  pub walked_wrapper : (level : ℕ) (body ids inner : List ℕ) (used size n : ℕ) (k : M) (a m i x y b : S) → ids ≡ take size (drop used body) → inner ≡ drop (used + size) body → VarUInt (take used body) size → 0 < size → used + size ≤ length body → length ids ≡ size
-      → h.opens_wrapper a k m → WalkedIds h c ids m i → h.ends_annotations i k x → WalkedPlain h c level (take n inner) x y → length inner ≤ n → h.closes_wrapper y k b → WalkedWrapper h c level body a b
+  pub walked_wrapper : (level : ℕ) (body ids inner : List ℕ) (used size n : ℕ) (k : M) (a m i x y b : S) → ids ≡ take size (drop used body)
+      → inner ≡ drop (used + size) body → VarUInt (take used body) size → 0 < size → used + size ≤ length body → length ids ≡ size
+      → h.opens_wrapper a k m → WalkedIds h c ids m i → h.ends_annotations i k x → WalkedPlain h c level (take n inner) x y → length inner ≤ n
+      → h.closes_wrapper y k b → WalkedWrapper h c level body a b
   walked_wrapper level body ids inner used size n k a m i x y b ei en v some fits long o s u t all e = record {
     value = annotated s.symbols t.payload;
     wraps = wraps c body ids inner used size n s.symbols t.payload ei en v some fits s.are t.is all;

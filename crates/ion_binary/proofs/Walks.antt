@@ -68,14 +68,16 @@ decimal_on c body (Err reason) e h = absurd cc
 pub walked_decimal : (c : List Slot) (body : List ℕ) → is_ok (decimal_of_body body) ≡ true → WalkedScalar c scalars.Decimal body
 walked_decimal c body h = decimal_on c body (decimal_of_body body) refl h
 
-timestamp_on : (c : List Slot) (body : List ℕ) (r : Result TimestampParts Reason) → timestamp_of_body body ≡ r → is_ok r ≡ true → WalkedScalar c scalars.Timestamp body
+timestamp_on : (c : List Slot) (body : List ℕ) (r : Result TimestampParts Reason) → timestamp_of_body body ≡ r → is_ok r ≡ true
+    → WalkedScalar c scalars.Timestamp body
 timestamp_on c body (Ok t) e h = record { payload = payloads.Timestamp t; is = timestamp_is c body t e }
 timestamp_on c body (Err reason) e h = absurd cc
 
 pub walked_timestamp : (c : List Slot) (body : List ℕ) → is_ok (timestamp_of_body body) ≡ true → WalkedScalar c scalars.Timestamp body
 walked_timestamp c body h = timestamp_on c body (timestamp_of_body body) refl h
 
-pub walked_symbol : (c : List Slot) (body : List ℕ) (id : ℕ) (s : Option (List ℕ)) → id ≡ positional 256 body → id < 2 ^ 64 → resolve c id ≡ Ok s → WalkedScalar c scalars.Symbol body
+pub walked_symbol : (c : List Slot) (body : List ℕ) (id : ℕ) (s : Option (List ℕ)) → id ≡ positional 256 body → id < 2 ^ 64 → resolve c id ≡ Ok s
+    → WalkedScalar c scalars.Symbol body
 walked_symbol c body id s e small found = record { payload = payloads.Symbol s; is = symbol_is c body id s e small found }
 
 pub walked_text : (c : List Slot) (body : List ℕ) → IsUtf8 body → WalkedScalar c scalars.Str body
@@ -107,9 +109,11 @@ no_table_more [] s h e = λ k. ap (λ b. b && is_fields k) e
 no_table_more (x ∷ xs) s h e = λ k. h k
 
 -- the machine over the octets of a value at the top level
-pub walk_gives : (g : Catalog) (l : Limits) (spot : Spot) (fs : List Frame) (kept : List ℕ) (phase : Phase) (piece : List ℕ) (n : ℕ) → phase ≡ Ready → fs ≡ [] → n ≤ length piece → (v : Value) → Binary spot.context (take n piece) v → depth v ≤ l.depth → is_table v ≡ false
+pub walk_gives : (g : Catalog) (l : Limits) (spot : Spot) (fs : List Frame) (kept : List ℕ) (phase : Phase) (piece : List ℕ) (n : ℕ) → phase ≡ Ready → fs ≡ []
+    → n ≤ length piece → (v : Value) → Binary spot.context (take n piece) v → depth v ≤ l.depth → is_table v ≡ false
     → unfit l.item spot.start fs forms.Wrapper (spot.used + n) ≡ None
-    → Advances spot.used (run g l spot.used (with_phase spot fs kept phase)) piece (Ok (record { used = n; value = Some v })) (with_phase (anew (spot.used + n) spot.context) fs kept phase)
+    → Advances spot.used (run g l spot.used (with_phase spot fs kept phase)) piece (Ok (record { used = n; value = Some v }))
+    (with_phase (anew (spot.used + n) spot.context) fs kept phase)
 walk_gives g l spot fs kept phase piece n e none within v is deep given fits =
     let empty : levels fs ≡ 0 = ap levels none in
     let room : depth v + levels fs ≤ l.depth = omega (arith, empty, deep) in

@@ -64,11 +64,13 @@ one_digit (b ∷ bs) some last octet =
 
 -- one octet
 
-pub plain_null : (c : List Slot) (octets : List ℕ) (k : Kind) → 0 < length octets → opening_of (get_or octets 0 0) ≡ Null k → Plain c (take 1 octets) (payloads.Null k)
+pub plain_null : (c : List Slot) (octets : List ℕ) (k : Kind) → 0 < length octets → opening_of (get_or octets 0 0) ≡ Null k
+    → Plain c (take 1 octets) (payloads.Null k)
 plain_null c [] k h e = absurd (omega arith)
 plain_null c (b ∷ bs) k h e = is_null b k e
 
-pub plain_truth : (c : List Slot) (octets : List ℕ) (t : Bool) → 0 < length octets → opening_of (get_or octets 0 0) ≡ Truth t → Plain c (take 1 octets) (payloads.Truth t)
+pub plain_truth : (c : List Slot) (octets : List ℕ) (t : Bool) → 0 < length octets → opening_of (get_or octets 0 0) ≡ Truth t
+    → Plain c (take 1 octets) (payloads.Truth t)
 plain_truth c [] t h e = absurd (omega arith)
 plain_truth c (b ∷ bs) t h e = is_truth b t e
 
@@ -79,47 +81,59 @@ pub flat_truth : (t : Bool) → depth (bare (payloads.Truth t)) ≡ 0
 flat_truth t = depth-out (bare (payloads.Truth t)) ∙ ap layer_depth (views.outs-Truth t)
 
 -- what a body is behind each header, it is behind the one that stands there
-pub headed : (octets rest body : List ℕ) (form : Form) (size : Size) (used n : ℕ) → 0 < length octets → opening_of (get_or octets 0 0) ≡ Sized form size → rest ≡ drop 1 octets → used + n ≤ length rest → Heads size n (take used rest)
+pub headed : (octets rest body : List ℕ) (form : Form) (size : Size) (used n : ℕ) → 0 < length octets → opening_of (get_or octets 0 0) ≡ Sized form size
+    → rest ≡ drop 1 octets → used + n ≤ length rest → Heads size n (take used rest)
     → body ≡ take n (drop used rest) → (P : List ℕ → Type 0) → ((h : List ℕ) → Header form (length body) h → P (h ++ body)) → P (take (1 + used + n) octets)
 headed [] rest body form size used n some e er fits heads eb P framed = absurd (omega arith)
 headed (b ∷ bs) rest body form size used n some e er fits heads eb P framed =
     let size_body : length (take n (drop used rest)) ≡ n = grind (arith, common_steps) in
     let place : 1 + used + n ≡ 1 + (used + n) = omega arith in
     let whole : take (1 + used + n) (b ∷ bs) ≡ (b ∷ take used rest) ++ body =
-    ap (λ k. take k (b ∷ bs)) place ∙ (take-add 1 (used + n) (b ∷ bs) ∙ (ap (λ w. b ∷ take (used + n) w) (sym er) ∙ (ap (λ w. b ∷ w) (take-add used n rest) ∙ ap (λ w. (b ∷ take used rest) ++ w) (sym eb)))) in
+    ap (λ k. take k (b ∷ bs)) place ∙ (take-add 1 (used + n) (b ∷ bs)
+    ∙ (ap (λ w. b ∷ take (used + n) w) (sym er) ∙ (ap (λ w. b ∷ w) (take-add used n rest) ∙ ap (λ w. (b ∷ take used rest) ++ w) (sym eb)))) in
     subst P (sym whole) (framed (b ∷ take used rest) (subst (λ k. Header form k (b ∷ take used rest)) (sym (ap length eb ∙ size_body)) (heads form b e)))
 
 -- bodies
 
-pub framed_scalar : (c : List Slot) (form : Form) (t : Scalar) (body : List ℕ) (p : Payload) → form ≡ forms.Scalar t → IsScalar c body t p → Framed c form body p
+pub framed_scalar : (c : List Slot) (form : Form) (t : Scalar) (body : List ℕ) (p : Payload) → form ≡ forms.Scalar t → IsScalar c body t p
+    → Framed c form body p
 framed_scalar c form t body p e i h d = is_scalar h body t p (subst (λ f. Header f (length body) h) e d) i
 
-pub framed_listing : (c : List Slot) (form : Form) (x : Listing) (body : List ℕ) (p : Payload) → form ≡ forms.Listing x → IsListing c x body p → Framed c form body p
-framed_listing c form x body p e l h d = subst (Plain c (h ++ body)) (sym l.same) (is_listing h body x l.values (subst (λ f. Header f (length body) h) e d) l.items)
+pub framed_listing : (c : List Slot) (form : Form) (x : Listing) (body : List ℕ) (p : Payload) → form ≡ forms.Listing x → IsListing c x body p
+    → Framed c form body p
+framed_listing c form x body p e l h d = subst (Plain c (h ++ body)) (sym l.same)
+    (is_listing h body x l.values (subst (λ f. Header f (length body) h) e d) l.items)
 
 pub framed_struct : (c : List Slot) (form : Form) (body : List ℕ) (p : Payload) → form ≡ forms.Struct → IsStructBody c body p → Framed c form body p
 framed_struct c form body p e l h d = subst (Plain c (h ++ body)) (sym l.same) (is_struct h body l.fields (subst (λ f. Header f (length body) h) e d) l.items)
 
-pub framed_ordered : (c : List Slot) (form : Form) (body : List ℕ) (p : Payload) → form ≡ forms.OrderedStruct → 0 < length body → IsStructBody c body p → Framed c form body p
-framed_ordered c form body p e some l h d = subst (Plain c (h ++ body)) (sym l.same) (is_ordered h body l.fields (subst (λ f. Header f (length body) h) e d) some l.items)
+pub framed_ordered : (c : List Slot) (form : Form) (body : List ℕ) (p : Payload) → form ≡ forms.OrderedStruct → 0 < length body → IsStructBody c body p
+    → Framed c form body p
+framed_ordered c form body p e some l h d = subst (Plain c (h ++ body)) (sym l.same)
+    (is_ordered h body l.fields (subst (λ f. Header f (length body) h) e d) some l.items)
 
 -- a value without annotations
-pub bare_some : (c : List Slot) (octets : List ℕ) (a : List (Option (List ℕ))) (p : Payload) (r : Option ℕ) → a ≡ [] → IfSome r (λ n. Plain c (take n octets) p) → IfSome r (λ n. Binary c (take n octets) (annotated a p))
+pub bare_some : (c : List Slot) (octets : List ℕ) (a : List (Option (List ℕ))) (p : Payload) (r : Option ℕ) → a ≡ [] → IfSome r (λ n. Plain c (take n octets) p)
+    → IfSome r (λ n. Binary c (take n octets) (annotated a p))
 bare_some c octets a p None e h = h
 bare_some c octets a p (Some n) e h = subst (λ a. Binary c (take n octets) (annotated a p)) (sym e) (unannotated (take n octets) p h)
 
 -- items one behind the other
 
-pub sequence_more : (c : List Slot) (body rest : List ℕ) (at n : ℕ) (vs : List Value) (v : Value) → rest ≡ drop at body → Sequence c (take at body) vs → Binary c (take n rest) v → Sequence c (take (at + n) body) (vs ++ v ∷ [])
+pub sequence_more : (c : List Slot) (body rest : List ℕ) (at n : ℕ) (vs : List Value) (v : Value) → rest ≡ drop at body → Sequence c (take at body) vs
+    → Binary c (take n rest) v → Sequence c (take (at + n) body) (vs ++ v ∷ [])
 sequence_more c body rest at n vs v e s b =
-    subst (λ w. Sequence c w (vs ++ v ∷ [])) (sym (take-add at n body)) (one_more (take at body) (take n (drop at body)) vs v s (subst (λ w. Binary c (take n w) v) e b))
+    subst (λ w. Sequence c w (vs ++ v ∷ [])) (sym (take-add at n body))
+    (one_more (take at body) (take n (drop at body)) vs v s (subst (λ w. Binary c (take n w) v) e b))
 
-pub sequence_padded : (c : List Slot) (body rest : List ℕ) (at n : ℕ) (vs : List Value) → rest ≡ drop at body → Sequence c (take at body) vs → IsPad (take n rest) → Sequence c (take (at + n) body) vs
+pub sequence_padded : (c : List Slot) (body rest : List ℕ) (at n : ℕ) (vs : List Value) → rest ≡ drop at body → Sequence c (take at body) vs
+    → IsPad (take n rest) → Sequence c (take (at + n) body) vs
 sequence_padded c body rest at n vs e s b =
     subst (λ w. Sequence c w vs) (sym (take-add at n body)) (padded (take at body) (take n (drop at body)) vs s (subst (λ w. IsPad (take n w)) e b))
 
 -- a number and what is behind it
-two_parts : (body rest behind : List ℕ) (at used n : ℕ) → rest ≡ drop at body → behind ≡ drop (at + used) body → take (at + used + n) body ≡ take at body ++ (take used rest ++ take n behind)
+two_parts : (body rest behind : List ℕ) (at used n : ℕ) → rest ≡ drop at body → behind ≡ drop (at + used) body → take (at + used + n) body ≡ take at body
+    ++ (take used rest ++ take n behind)
 two_parts body rest behind at used n e eb =
     take-add (at + used) n body
     ∙ (ap (λ w. w ++ take n (drop (at + used) body)) (take-add at used body)
@@ -127,19 +141,24 @@ two_parts body rest behind at used n e eb =
     ∙ (ap (λ w. take at body ++ (take used w ++ take n (drop (at + used) body))) (sym e)
     ∙ ap (λ w. take at body ++ (take used rest ++ take n w)) (sym eb))))
 
-pub fields_more : (c : List Slot) (body rest behind : List ℕ) (at used n : ℕ) (k : ℕ) (s : Option (List ℕ)) (ms : List Field) (v : Value) → rest ≡ drop at body → behind ≡ drop (at + used) body
-    → Fields c (take at body) ms → VarUInt (take used rest) k → resolve c k ≡ Ok s → Binary c (take n behind) v → Fields c (take (at + used + n) body) (ms ++ field_of s v ∷ [])
+pub fields_more : (c : List Slot) (body rest behind : List ℕ) (at used n : ℕ) (k : ℕ) (s : Option (List ℕ)) (ms : List Field) (v : Value) → rest ≡ drop at body
+    → behind ≡ drop (at + used) body
+    → Fields c (take at body) ms → VarUInt (take used rest) k → resolve c k ≡ Ok s → Binary c (take n behind) v
+    → Fields c (take (at + used + n) body) (ms ++ field_of s v ∷ [])
 fields_more c body rest behind at used n k s ms v e eb f i r b =
-    subst (λ w. Fields c w (ms ++ field_of s v ∷ [])) (sym (two_parts body rest behind at used n e eb)) (one_field (take at body) (take used rest) (take n behind) ms k s v f i r b)
+    subst (λ w. Fields c w (ms ++ field_of s v ∷ [])) (sym (two_parts body rest behind at used n e eb))
+    (one_field (take at body) (take used rest) (take n behind) ms k s v f i r b)
 
 pub fields_padded : (c : List Slot) (body rest behind : List ℕ) (at used n : ℕ) (k : ℕ) (ms : List Field) → rest ≡ drop at body → behind ≡ drop (at + used) body
     → Fields c (take at body) ms → VarUInt (take used rest) k → IsPad (take n behind) → Fields c (take (at + used + n) body) ms
 fields_padded c body rest behind at used n k ms e eb f i b =
     subst (λ w. Fields c w ms) (sym (two_parts body rest behind at used n e eb)) (padded_field (take at body) (take used rest) (take n behind) ms k f i b)
 
-pub ids_more : (c : List Slot) (ids rest : List ℕ) (at used k : ℕ) (s : Option (List ℕ)) (ss : List (Option (List ℕ))) → rest ≡ drop at ids → Ids c (take at ids) ss → VarUInt (take used rest) k → resolve c k ≡ Ok s → Ids c (take (at + used) ids) (ss ++ s ∷ [])
+pub ids_more : (c : List Slot) (ids rest : List ℕ) (at used k : ℕ) (s : Option (List ℕ)) (ss : List (Option (List ℕ))) → rest ≡ drop at ids
+    → Ids c (take at ids) ss → VarUInt (take used rest) k → resolve c k ≡ Ok s → Ids c (take (at + used) ids) (ss ++ s ∷ [])
 ids_more c ids rest at used k s ss e i v r =
-    subst (λ w. Ids c w (ss ++ s ∷ [])) (sym (take-add at used ids)) (one_id (take at ids) (take used (drop at ids)) ss k s i (subst (λ w. VarUInt (take used w) k) e v) r)
+    subst (λ w. Ids c w (ss ++ s ∷ [])) (sym (take-add at used ids))
+    (one_id (take at ids) (take used (drop at ids)) ss k s i (subst (λ w. VarUInt (take used w) k) e v) r)
 
 -- depths
 
@@ -171,16 +190,19 @@ last_was xs new b d n e l =
     ap (λ i. get_or new i d) k ∙ (ap (λ w. get_or w (length xs) d) e ∙ get_or-append_seam xs b [] d)
 
 -- wrappers
-pub wraps : (c : List Slot) (body ids inner : List ℕ) (used size n : ℕ) (ss : List (Option (List ℕ))) (p : Payload) → ids ≡ take size (drop used body) → inner ≡ drop (used + size) body → VarUInt (take used body) size → 0 < size → used + size ≤ length body
+pub wraps : (c : List Slot) (body ids inner : List ℕ) (used size n : ℕ) (ss : List (Option (List ℕ))) (p : Payload) → ids ≡ take size (drop used body)
+    → inner ≡ drop (used + size) body → VarUInt (take used body) size → 0 < size → used + size ≤ length body
     → Ids c ids ss → Plain c (take n inner) p → length inner ≤ n → WrapsAs c body (annotated ss p)
 wraps c body ids inner used size n ss p ei en v some fits i b all h d =
     let cut : length (take size (drop used body)) ≡ size = grind (arith, common_steps) in
     let size_ids : length ids ≡ size = ap length ei ∙ cut in
     let both : drop (used + size) body ≡ drop size (drop used body) = grind (arith, common_steps) in
-    let behind : ids ++ inner ≡ drop used body = ap (λ w. w ++ inner) ei ∙ (ap (λ w. take size (drop used body) ++ w) (en ∙ both) ∙ take-append-drop size (drop used body)) in
+    let behind : ids ++ inner ≡ drop used body = ap (λ w. w ++ inner) ei
+    ∙ (ap (λ w. take size (drop used body) ++ w) (en ∙ both) ∙ take-append-drop size (drop used body)) in
     let parts : take used body ++ (ids ++ inner) ≡ body = ap (λ w. take used body ++ w) behind ∙ take-append-drop used body in
     subst (λ w. Binary c (h ++ w) (annotated ss p)) parts
-    (wrapped h (take used body) ids inner ss p (subst (λ w. Header forms.Wrapper (length w) h) (sym parts) d) (subst (VarUInt (take used body)) (sym size_ids) v) (omega arith) i (subst (λ w. Plain c w p) (take_whole inner n all) b))
+    (wrapped h (take used body) ids inner ss p (subst (λ w. Header forms.Wrapper (length w) h) (sym parts) d)
+    (subst (VarUInt (take used body)) (sym size_ids) v) (omega arith) i (subst (λ w. Plain c w p) (take_whole inner n all) b))
 
 -- the machine over the octets of a value, in an open container or outside of all
 
@@ -188,14 +210,16 @@ either_none : (o p : Option Reason) → or_else o p ≡ None → (o ≡ None) ×
 either_none None p h = (refl, h)
 either_none (Some e) p h = absurd cc
 
-pub whole_runs : (g : Catalog) (l : Limits) (spot : Spot) (fs : List Frame) (kept : List ℕ) (phase : Phase) (piece : List ℕ) (n : ℕ) (v : Value) → phase ≡ Ready → n ≤ length piece → Binary spot.context (take n piece) v → unfit l.item spot.start fs forms.Wrapper (spot.used + n) ≡ None → depth v + levels fs ≤ l.depth
+pub whole_runs : (g : Catalog) (l : Limits) (spot : Spot) (fs : List Frame) (kept : List ℕ) (phase : Phase) (piece : List ℕ) (n : ℕ) (v : Value) → phase ≡ Ready
+    → n ≤ length piece → Binary spot.context (take n piece) v → unfit l.item spot.start fs forms.Wrapper (spot.used + n) ≡ None → depth v + levels fs ≤ l.depth
     → run g l spot.used (with_phase spot fs kept phase) (take n piece) ≡ run_after (spot.used + n) (deliver (under g l) (moved spot (spot.used + n)) fs v)
 whole_runs g l spot fs kept phase piece n v e within b fits deep =
     let size = length-take-le n piece within in
     let first = either_none (stray fs forms.Wrapper) (or_else (misfits l.item spot.start fs forms.Wrapper (spot.used + n)) (nameless fs forms.Wrapper)) fits in
     let rest = either_none (misfits l.item spot.start fs forms.Wrapper (spot.used + n)) (nameless fs forms.Wrapper) first.1 in
     ap (λ p. run g l spot.used (with_phase spot fs kept p) (take n piece)) e
-    ∙ binary_run g l spot fs (spot.used + n) (take n piece) v b (record { fitting = first.0; named = rest.1 }) (omega arith) (ends_back l spot.start fs forms.Wrapper (spot.used + n) refl (misfits_ends l spot.start fs forms.Wrapper (spot.used + n) rest.0)) deep
+    ∙ binary_run g l spot fs (spot.used + n) (take n piece) v b (record { fitting = first.0; named = rest.1 }) (omega arith)
+    (ends_back l spot.start fs forms.Wrapper (spot.used + n) refl (misfits_ends l spot.start fs forms.Wrapper (spot.used + n) rest.0)) deep
 
 pub whole_some : (c : List Slot) (piece : List ℕ) (n : ℕ) (v : Value) → Binary c (take n piece) v → 0 < n
 whole_some c piece n v b =

@@ -247,7 +247,8 @@ pub data Decides (g : Catalog) (l : Limits) : List ℕ → Reason → Type 0 whe
   too_large : (c : List Slot) (start : ℕ) (ks : List Container) (p : Number) (a : ℕ) (u : List ℕ) (b : ℕ)
       → InNumber g l c start ks p a u → 2 ^ 63 ≤ 128 * a + seven_bits b
       → Decides g l (u ++ b ∷ []) TooLarge
-  -- | a length past its container, one that doesn't fill its wrapper, 0 behind `D1`, `Depth`, `ItemTooLong` | the last octet of the length, or the descriptor if none follows |
+  -- | a length past its container, one that doesn't fill its wrapper, 0 behind `D1`, `Depth`, `ItemTooLong` | the last octet of the length, or the descriptor
+  -- if none follows |
   past_container : (c : List Slot) (start : ℕ) (k : Container) (ks : List Container) (pad : Bool) (to : ℕ) (u : List ℕ)
       → Reaches g l c start (k ∷ ks) pad to u → container_end k < to
       → Decides g l u Malformed

@@ -38,7 +38,8 @@ pub data IsScalar (c : List Slot) (body : List ℕ) : Scalar → Payload → Typ
   is_negative : positional 256 body < 2 ^ 127 → 0 < positional 256 body → IsScalar c body scalars.NegativeInt (payloads.Int (neg_ℤ (pos (positional 256 body))))
   is_decimal : (d : DecimalParts) → IsDecimalField body d → IsDecimal d → IsScalar c body scalars.Decimal (payloads.Decimal d)
   is_timestamp : (t : TimestampParts) → IsTimestampBody body t → IsScalar c body scalars.Timestamp (payloads.Timestamp t)
-  is_symbol : (s : Option (List ℕ)) → positional 256 body < 2 ^ 127 → resolve c (positional 256 body) ≡ Ok s → IsScalar c body scalars.Symbol (payloads.Symbol s)
+  is_symbol : (s : Option (List ℕ)) → positional 256 body < 2 ^ 127 → resolve c (positional 256 body) ≡ Ok s
+      → IsScalar c body scalars.Symbol (payloads.Symbol s)
   is_string : IsUtf8 body → IsScalar c body scalars.Str (payloads.Str body)
   is_clob : IsScalar c body scalars.Clob (payloads.Clob body)
   is_blob : IsScalar c body scalars.Blob (payloads.Blob body)
@@ -50,7 +51,8 @@ pub data IsPad : List ℕ → Type 0 where
 -- ids one behind the other, and their symbols
 pub data Ids (c : List Slot) : List ℕ → List (Option (List ℕ)) → Type 0 where
   no_ids : Ids c [] []
-  one_id : (us w : List ℕ) (ss : List (Option (List ℕ))) (k : ℕ) (s : Option (List ℕ)) → Ids c us ss → VarUInt w k → resolve c k ≡ Ok s → Ids c (us ++ w) (ss ++ s ∷ [])
+  one_id : (us w : List ℕ) (ss : List (Option (List ℕ))) (k : ℕ) (s : Option (List ℕ)) → Ids c us ss → VarUInt w k → resolve c k ≡ Ok s
+      → Ids c (us ++ w) (ss ++ s ∷ [])
 
 -- a list or an s-expression of these items
 abbrev pub listed : Listing → List Value → Payload
@@ -63,14 +65,17 @@ mutual
     is_null : (b : ℕ) (k : Kind) → opening_of b ≡ Null k → Plain c (b ∷ []) (payloads.Null k)
     is_truth : (b : ℕ) (t : Bool) → opening_of b ≡ Truth t → Plain c (b ∷ []) (payloads.Truth t)
     is_scalar : (h body : List ℕ) (t : Scalar) (p : Payload) → Header (forms.Scalar t) (length body) h → IsScalar c body t p → Plain c (h ++ body) p
-    is_listing : (h body : List ℕ) (x : Listing) (vs : List Value) → Header (forms.Listing x) (length body) h → Sequence c body vs → Plain c (h ++ body) (listed x vs)
+    is_listing : (h body : List ℕ) (x : Listing) (vs : List Value) → Header (forms.Listing x) (length body) h → Sequence c body vs
+        → Plain c (h ++ body) (listed x vs)
     is_struct : (h body : List ℕ) (ms : List Field) → Header forms.Struct (length body) h → Fields c body ms → Plain c (h ++ body) (payloads.Fields ms)
-    is_ordered : (h body : List ℕ) (ms : List Field) → Header forms.OrderedStruct (length body) h → 0 < length body → Fields c body ms → Plain c (h ++ body) (payloads.Fields ms)
+    is_ordered : (h body : List ℕ) (ms : List Field) → Header forms.OrderedStruct (length body) h → 0 < length body → Fields c body ms
+        → Plain c (h ++ body) (payloads.Fields ms)
 
   -- these octets are this value; in a wrapper the number of the octets of its annotations comes first
   pub data Binary (c : List Slot) : List ℕ → Value → Type 0 where
     unannotated : (w : List ℕ) (p : Payload) → Plain c w p → Binary c w (bare p)
-    wrapped : (h count ids w : List ℕ) (ss : List (Option (List ℕ))) (p : Payload) → Header forms.Wrapper (length (count ++ (ids ++ w))) h → VarUInt count (length ids) → 0 < length ids → Ids c ids ss → Plain c w p
+    wrapped : (h count ids w : List ℕ) (ss : List (Option (List ℕ))) (p : Payload) → Header forms.Wrapper (length (count ++ (ids ++ w))) h
+        → VarUInt count (length ids) → 0 < length ids → Ids c ids ss → Plain c w p
         → Binary c (h ++ (count ++ (ids ++ w))) (annotated ss p)
 
   -- these octets are these values, one behind the other, with pads anywhere
@@ -82,7 +87,8 @@ mutual
   -- these octets are these fields: ids and values, one behind the other; an id with a pad behind it is skipped, whatever it is
   pub data Fields (c : List Slot) : List ℕ → List Field → Type 0 where
     no_fields : Fields c [] []
-    one_field : (us id w : List ℕ) (ms : List Field) (k : ℕ) (s : Option (List ℕ)) (v : Value) → Fields c us ms → VarUInt id k → resolve c k ≡ Ok s → Binary c w v → Fields c (us ++ (id ++ w)) (ms ++ field_of s v ∷ [])
+    one_field : (us id w : List ℕ) (ms : List Field) (k : ℕ) (s : Option (List ℕ)) (v : Value) → Fields c us ms → VarUInt id k → resolve c k ≡ Ok s
+        → Binary c w v → Fields c (us ++ (id ++ w)) (ms ++ field_of s v ∷ [])
     padded_field : (us id w : List ℕ) (ms : List Field) (k : ℕ) → Fields c us ms → VarUInt id k → IsPad w → Fields c (us ++ (id ++ w)) ms
 
 -- the version marker of Ion 1.0
@@ -95,8 +101,10 @@ pub data Pieces (g : Catalog) (l : Limits) : List ℕ → List Value → List Sl
   begins : Pieces g l the_marker [] system_slots
   marked : (u : List ℕ) (s : List Value) (c : List Slot) → Pieces g l u s c → Pieces g l (u ++ the_marker) s system_slots
   skips : (u w : List ℕ) (s : List Value) (c : List Slot) → Pieces g l u s c → IsPad w → Pieces g l (u ++ w) s c
-  turns : (u w : List ℕ) (s : List Value) (c d : List Slot) (v : Value) → Pieces g l u s c → Binary c w v → is_table v ≡ true → next c v g ≡ Ok d → depth v ≤ l.depth → length w ≤ l.item → Pieces g l (u ++ w) s d
-  holds : (u w : List ℕ) (s : List Value) (c : List Slot) (v : Value) → Pieces g l u s c → Binary c w v → is_table v ≡ false → depth v ≤ l.depth → length w ≤ l.item → Pieces g l (u ++ w) (s ++ v ∷ []) c
+  turns : (u w : List ℕ) (s : List Value) (c d : List Slot) (v : Value) → Pieces g l u s c → Binary c w v → is_table v ≡ true → next c v g ≡ Ok d
+      → depth v ≤ l.depth → length w ≤ l.item → Pieces g l (u ++ w) s d
+  holds : (u w : List ℕ) (s : List Value) (c : List Slot) (v : Value) → Pieces g l u s c → Binary c w v → is_table v ≡ false → depth v ≤ l.depth
+      → length w ≤ l.item → Pieces g l (u ++ w) (s ++ v ∷ []) c
 
 -- the octets are a document with these values
 abbrev pub Document : Catalog → Limits → List ℕ → List Value → Type 0
@@ -107,7 +115,8 @@ pub data Whole (g : Catalog) (l : Limits) : List ℕ → List Value → Type 0 w
   no_piece : Whole g l [] []
   document : (u : List ℕ) (s : List Value) (c : List Slot) → Pieces g l u s c → Whole g l u s
 
--- octets that may stand open behind whole pieces: of a marker at most three, of an item at most the limit on items, of a pad its descriptor and the digits of a length below 2^63, or its header and less than that says
+-- octets that may stand open behind whole pieces: of a marker at most three, of an item at most the limit on items, of a pad its descriptor and the digits of a
+-- length below 2^63, or its header and less than that says
 pub data OpenRest (l : Limits) : List ℕ → Type 0 where
   of_marker : (w : List ℕ) → length w ≤ 3 → OpenRest l w
   of_item : (w : List ℕ) → length w ≤ l.item → OpenRest l w

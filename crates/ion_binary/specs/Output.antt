@@ -112,7 +112,8 @@ octets_step names (Payload-F.Fields fs) = framed 13 (flat_map (λ w. w) fs)
 
 -- the octets of a value whose symbols have these ids
 unfoldable pub value_octets : Names → Value → List ℕ
-value_octets names v = fold-Value (List ℕ) (List ℕ) (List ℕ) (octets_step names) (λ f. named_octets names f.name f.value) (λ v. wrapped names v.annotations v.payload) v
+value_octets names v = fold-Value (List ℕ) (List ℕ) (List ℕ) (octets_step names) (λ f. named_octets names f.name f.value)
+    (λ v. wrapped names v.annotations v.payload) v
 
 -- 3. Tables ("Local Symbol Tables").
 

@@ -1,14 +1,14 @@
-//! Values whose octets lie whole in memory on two sides, each with a symbol table of its own: they are
-//! compared as they stand, judged once, and not built. What is cut, refused, unusual or spelled in
-//! different ways isn't told here: the readers take it up.
+//! Values whose octets lie whole in memory on two sides, each with a symbol table of its own: they
+//! are compared as they stand, judged once, and not built. What is cut, refused, unusual or spelled
+//! in different ways isn't told here: the readers take it up.
 ghost use Rattle.std.specs.Prelude.{◌≡◌, ◌≤◌, true, length, take, Ok, IfSome};
 ghost use Rattle.ion_symtab.specs.Slots.{resolve};
 ghost use Rattle.ion_binary.specs.declared.form.Scalar.TheVariants as scalars;
 ghost use Rattle.ion_binary.specs.machine.Alike.{Alike, AlikeScalar};
 
+use crate::build_scalars::small_uint;
 use crate::comparison::Comparison;
 use crate::form::Scalar;
-use crate::build_scalars::small_uint;
 use crate::walk::{is_scalar, walk_value};
 use ion_model::Symbol;
 use ion_symtab::Context;
@@ -36,8 +36,8 @@ fn same_symbol<'a>(
     None
 }
 
-/// Whether two bodies are this scalar, and the same one (Ion 1.0, "Ion Binary Encoding", typed value
-/// formats).
+/// Whether two bodies are this scalar, and the same one (Ion 1.0, "Ion Binary Encoding", typed
+/// value formats).
 #[inline(always)]
 pub(crate) fn alike_scalars(
     context: &Context,
@@ -72,10 +72,10 @@ fn alike_symbols(context: &Context, other_context: &Context, body: &[u8], other_
     }
 }
 
-/// How many octets on each side the value at both fronts has, where it is the same, of at most so many
-/// levels (Ion 1.0, "Ion Binary Encoding", typed value formats). `None` also where it isn't whole, is
-/// refused, is spelled in different ways other than by its lengths and its ids, or is in any way
-/// unusual, as local symbol tables are.
+/// How many octets on each side the value at both fronts has, where it is the same, of at most so
+/// many levels (Ion 1.0, "Ion Binary Encoding", typed value formats). `None` also where it isn't
+/// whole, is refused, is spelled in different ways other than by its lengths and its ids, or is in
+/// any way unusual, as local symbol tables are.
 pub(crate) fn alike_value(
     context: &Context,
     other_context: &Context,

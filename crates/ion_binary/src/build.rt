@@ -1,5 +1,5 @@
-//! Values whose octets lie whole in memory. What is cut, refused or unusual isn't told here: the reader
-//! takes it up octet by octet.
+//! Values whose octets lie whole in memory. What is cut, refused or unusual isn't told here: the
+//! reader takes it up octet by octet.
 ghost use Rattle.std.specs.Prelude.{◌≡◌, ◌≤◌, ◌<◌, ◌+◌, ◌-◌, ◌∷◌, ◌++◌, true, length, take, [], get_or, IfSome};
 ghost use Rattle.ion_model.specs.Measures.{bare, depth};
 ghost use Rattle.ion_scalar.specs.binary.Fields.{VarUInt};
@@ -8,8 +8,8 @@ ghost use Rattle.ion_binary.specs.Grammar.{listed, Ids, IsPad, Plain, Binary, Fi
 ghost use Rattle.ion_binary.specs.Depths.{depths, field_depths};
 ghost use Rattle.ion_binary.specs.machine.Framed.{Heads, Framed, WrapsAs, IsListing, IsStructBody};
 
-use crate::form::{Form, Listing, Opening, opening_of};
 use crate::build_scalars::{put, put_scalar};
+use crate::form::{Form, Listing, Opening, opening_of};
 use ion_model::{Field, Kind, Payload, Sequence, Symbol, Value};
 use ion_scalar::{Size, read_var_uint};
 use ion_symtab::Context;
@@ -43,7 +43,8 @@ fn long_number(octets: &[u8]) -> Option<(u64, usize)>
     }
 }
 
-/// How many octets behind a descriptor are a length, and how many there are of the body behind them.
+/// How many octets behind a descriptor are a length, and how many there are of the body behind
+/// them.
 #[inline(always)]
 pub(crate) fn lengths(size: Size, rest: &[u8]) -> Option<(usize, usize)>
     ensures within { IfSome result (λ sizes. sizes.0 + sizes.1 ≤ length rest.now) }
@@ -67,8 +68,8 @@ pub(crate) fn lengths(size: Size, rest: &[u8]) -> Option<(usize, usize)>
     }
 }
 
-/// How many octets the value or pad at the front has, if they are all here; a null or a bool has one,
-/// and what is neither isn't told.
+/// How many octets the value or pad at the front has, if they are all here; a null or a bool has
+/// one, and what is neither isn't told.
 pub(crate) fn extent(octets: &[u8]) -> usize
     ensures { result ≤ length octets.now }
 {
@@ -151,8 +152,8 @@ fn symbols_of(alloc: Global, context: &Context, ids: &[u8]) -> Option<Vec<Symbol
 }
 
 /// Writes the value at the front of these octets, of at most so many levels, into a slot: how many
-/// octets it has (Ion 1.0, "Ion Binary Encoding", typed value formats). `None` where it isn't whole, is
-/// refused, is in any way unusual or memory runs out; the slot is of no meaning then.
+/// octets it has (Ion 1.0, "Ion Binary Encoding", typed value formats). `None` where it isn't
+/// whole, is refused, is in any way unusual or memory runs out; the slot is of no meaning then.
 #[cycle(whole)]
 pub(crate) fn whole_value(
     alloc: Global,
@@ -183,8 +184,8 @@ pub(crate) fn whole_value(
     whole_payload(alloc, context, opening, octets, level, &mut slot.payload)
 }
 
-/// Whether these octets are the body of an annotation wrapper, whose value the slot then holds (Ion 1.0,
-/// "Ion Binary Encoding", "14: Annotations").
+/// Whether these octets are the body of an annotation wrapper, whose value the slot then holds (Ion
+/// 1.0, "Ion Binary Encoding", "14: Annotations").
 #[cycle(whole)]
 #[inline(never)]
 fn wrapped(alloc: Global, context: &Context, body: &[u8], level: u32, slot: &mut Value) -> bool
@@ -277,7 +278,8 @@ fn whole_body(
     }
 }
 
-/// Whether these octets are items one behind the other, with pads anywhere, as the slot then holds them.
+/// Whether these octets are items one behind the other, with pads anywhere, as the slot then holds
+/// them.
 #[cycle(whole)]
 #[inline(never)]
 fn items(

@@ -19,8 +19,8 @@ pub(crate) fn put<T: Drop>(slot: &mut T, value: T)
     *slot = value;
 }
 
-/// Whether a body is this scalar, which the slot then holds (Ion 1.0, "Ion Binary Encoding", typed value
-/// formats). `false` also for want of memory.
+/// Whether a body is this scalar, which the slot then holds (Ion 1.0, "Ion Binary Encoding", typed
+/// value formats). `false` also for want of memory.
 #[inline(always)]
 pub(crate) fn put_scalar(
     alloc: Global,
@@ -84,7 +84,8 @@ pub(crate) fn magnitude_of(body: &[u8]) -> Option<u128>
 /// The int of a sign and a magnitude.
 fn whole_of(negative: bool, magnitude: u128) -> Option<Whole>
     requires { magnitude < 2 ^ 127 }
-    ensures { IfSome result (λ whole. whole ≡ (if negative then neg_ℤ (pos magnitude) else pos magnitude)) }
+    ensures { IfSome result (λ whole. whole
+        ≡ (if negative then neg_ℤ (pos magnitude) else pos magnitude)) }
 {
     let value = magnitude as i128;
     Whole::new(if negative { -value } else { value })

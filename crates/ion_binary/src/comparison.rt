@@ -1,6 +1,6 @@
-//! The visitor that compares: whether the value that is gone over stands in other octets, too, which have a
-//! symbol table of their own. Both are judged once, and neither is built. What is spelled in different ways
-//! other than by its lengths and ids isn't told here.
+//! The visitor that compares: whether the value that is gone over stands in other octets, too,
+//! which have a symbol table of their own. Both are judged once, and neither is built. What is
+//! spelled in different ways other than by its lengths and ids isn't told here.
 ghost use Rattle.std.specs.Prelude.{◌≡◌, ◌≤◌, ◌<◌, ◌-◌, true, length, get_or, IfSome};
 ghost use Rattle.ion_scalar.specs.binary.Fields.{VarUInt};
 ghost use Rattle.ion_binary.specs.visiting.Brackets.{form_in};
@@ -9,15 +9,16 @@ ghost use Rattle.ion_binary.specs.declared.form.Opening.TheVariants.{Null, Truth
 ghost use Rattle.ion_binary.specs.visiting.Comparing.{Enters, IsThere, IsOne, IsIdOf, Moves, between};
 
 use crate::alike::alike_scalars;
+use crate::build::{lengths, number};
 use crate::form::{Form, Listing, Opening, Scalar, opening_of};
 use crate::visitor::Visitor;
-use crate::build::{lengths, number};
 use ion_model::{Kind, Symbol};
 use ion_scalar::Size;
 use ion_symtab::Context;
 use ion_visiting::Bracket;
 
-/// Where a container that is open in the other octets ends, and the ids of its annotations where it is a wrapper.
+/// Where a container that is open in the other octets ends, and the ids of its annotations where it
+/// is a wrapper.
 #[derive(Clone, Copy, Drop)]
 pub(crate) struct Ends {
     ids: usize,

@@ -144,8 +144,9 @@ pub fn kind_of(form: Form) -> Kind
     }
 }
 
-/// Why a form has no body of this size: a negative int, a timestamp, a struct that announces the order of
-/// its fields and a wrapper have some octets (Ion 1.0, "Ion Binary Encoding", typed value formats).
+/// Why a form has no body of this size: a negative int, a timestamp, a struct that announces the
+/// order of its fields and a wrapper have some octets (Ion 1.0, "Ion Binary Encoding", typed value
+/// formats).
 pub fn hollow(form: Form, size: u64) -> Option<Reason>
     ensures { result ≡ hollow form size }
 {

@@ -31,9 +31,9 @@ ghost use Rattle.ion_binary.specs.laws.writing.RoundTrip.{FitsIn};
 
 use ion_symtab::Outlet;
 
-/// The headers of the grammar are the descriptors and lengths that the specification's table of type
-/// codes and length codes has, and its nulls and bools are the octets there. Those of negative ints have
-/// a null of their own, which is the null of ints.
+/// The headers of the grammar are the descriptors and lengths that the specification's table of
+/// type codes and length codes has, and its nulls and bools are the octets there. Those of negative
+/// ints have a null of their own, which is the null of ints.
 pub fn headers()
     ensures sized { (form : Form) (n : ℕ) (octets : List ℕ) →
         Header form n octets ↔ IsHeader form n octets }
@@ -56,10 +56,14 @@ pub fn round_trip()
 /// Each refusal is one that the table of the format has, and each row of the table refuses.
 pub fn refusals()
     ensures answers { (g : List Table) (l : Limits) (u : List ℕ) (r : Refusal) →
-        (trace g l u).refused ≡ Some r → (r.offset ≤ length u) × Answers g l (take r.offset u) r.reason }
-    ensures refuses { (g : List Table) (l : Limits) (u : List ℕ) (k : ℕ) (e : Reason) → k ≤ length u →
-        Decides g l (take k u) e → (r : Refusal) × ((trace g l u).refused ≡ Some r) × (r.offset ≡ k) }
-    ensures ends { (g : List Table) (l : Limits) (u : List ℕ) (r : Refusal) → (trace g l u).refused ≡ None →
+        (trace g l u).refused ≡ Some r → (r.offset ≤ length u)
+        × Answers g l (take r.offset u) r.reason }
+    ensures refuses { (g : List Table) (l : Limits) (u : List ℕ) (k : ℕ) (e : Reason) → k ≤ length u
+        →
+        Decides g l (take k u) e → (r : Refusal) × ((trace g l u).refused ≡ Some r)
+        × (r.offset ≡ k) }
+    ensures ends { (g : List Table) (l : Limits) (u : List ℕ) (r : Refusal) → (trace g l u).refused
+        ≡ None →
         (trace g l u).ends ≡ Err r → r ≡ record { offset = length u; reason = Incomplete } }
 {}
 
@@ -74,8 +78,8 @@ pub fn one_stream()
         Document g l u s → Document g l u t → s ≡ t }
 {}
 
-/// The values of a document of octets are such as the types keep, where the catalog's texts are UTF-8, and
-/// none of them is a local symbol table.
+/// The values of a document of octets are such as the types keep, where the catalog's texts are
+/// UTF-8, and none of them is a local symbol table.
 pub fn document_values()
     ensures kept { (g : List Table) (l : Limits) (u : List ℕ) (s : List Value) →
         AreTextTables g → AreOctets u → Document g l u s → AreKept s }
@@ -83,22 +87,22 @@ pub fn document_values()
         Document g l u s → NoTables s }
 {}
 
-/// Where `put` was called with each value of a stream in turn, and then `finish`, and all answered `Ok`, the
-/// device took the document of the stream.
+/// Where `put` was called with each value of a stream in turn, and then `finish`, and all answered
+/// `Ok`, the device took the document of the stream.
 pub fn written<W: Outlet>()
     ensures { (s : List Value) (old new : W) → WritesEach W.Outlet nothing_yet old s new →
         Took W.took W.written old new (bin_of s) }
 {}
 
-/// What is written of worked streams: of no value, symbols with ids of their own and ids that a table gives
-/// in the order of first use, a list, a year, the sign of a zero, a field.
+/// What is written of worked streams: of no value, symbols with ids of their own and ids that a
+/// table gives in the order of first use, a list, a year, the sign of a zero, a field.
 pub fn worked_binary()
     ensures { map (λ row. bin_of row.0) worked ≡ map (λ row. row.1) worked }
 {}
 
-/// Worked documents denote their streams, under every catalog and all limits whose items may have as many
-/// octets: lengths in more octets than are needed, a pad behind a field name, an annotation, the greatest id
-/// of the system symbols.
+/// Worked documents denote their streams, under every catalog and all limits whose items may have
+/// as many octets: lengths in more octets than are needed, a pad behind a field name, an
+/// annotation, the greatest id of the system symbols.
 pub fn worked_documents()
     ensures { (g : List Table) (l : Limits) → AreDocuments g l worked_documents }
 {}

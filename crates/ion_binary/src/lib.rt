@@ -2,18 +2,18 @@
 #![tactic(auto)]
 
 mod alike;
+mod build;
+mod build_scalars;
 mod comparison;
 mod form;
 pub mod laws;
 mod measure;
 mod reader;
 mod scalar;
-mod build_scalars;
 mod state;
 mod transcription;
 mod visitor;
 mod walk;
-mod build;
 mod writer;
 
 pub use reader::{BinaryReader, Carried};

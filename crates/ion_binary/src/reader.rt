@@ -12,21 +12,21 @@ pub use passing::Carried;
 use std::alloc::Global;
 use std::fmt::{self, Debug, Formatter};
 
-mod bodies;
-mod frames;
 mod advance;
+mod bodies;
+mod bounds;
+mod built;
+mod frames;
 mod items;
 mod numbers;
 mod passing;
-mod bounds;
-mod built;
 
 /// A reader of a binary document that comes in pieces (Ion 1.0, "Ion Binary Encoding").
 ///
-/// It reads values of every type but floats, which are refused at their descriptor. It keeps the open
-/// containers and the body of one scalar: a length that goes beyond its container or the limit on items
-/// is refused before any octet of what it counts. Local symbol tables change what symbol ids stand for
-/// and aren't given; a version marker sets that back to the system symbols.
+/// It reads values of every type but floats, which are refused at their descriptor. It keeps the
+/// open containers and the body of one scalar: a length that goes beyond its container or the limit
+/// on items is refused before any octet of what it counts. Local symbol tables change what symbol
+/// ids stand for and aren't given; a version marker sets that back to the system symbols.
 #[derive(Drop)]
 pub struct BinaryReader<'a> {
     alloc: Global,
@@ -108,8 +108,8 @@ impl BinaryReader<'_> {
     }
 
     /// Takes up an octet of a version marker, E0 01 00 EA (Ion 1.0, "Ion Binary Encoding", "Value
-    /// Streams"). Its fourth octet decides: a marker of another version is `Version`, and without EA
-    /// it is none.
+    /// Streams"). Its fourth octet decides: a marker of another version is `Version`, and without
+    /// EA it is none.
     fn on_marker(&mut self, mark: Mark, good: bool, octet: u8) -> Result<Effect, Reason>
         ensures does { Does
             (on_marker (spot_of self.old) (open_frames self.old) mark good octet)
@@ -141,8 +141,8 @@ impl BinaryReader<'_> {
         Ok(Effect::Goes)
     }
 
-    /// Takes up one octet that is in no body: what it did, or why it is refused. Behind an `Err` nothing
-    /// is known of the machine.
+    /// Takes up one octet that is in no body: what it did, or why it is refused. Behind an `Err`
+    /// nothing is known of the machine.
     fn feed(&mut self, octet: u8) -> Result<Effect, Reason>
         requires used { self.old.used < 2 ^ 63 - 1 }
         requires outside { is_in_body self.old.phase ≡ false }

@@ -13,9 +13,10 @@ use std::mem;
 /// The scalar that a body is (Ion 1.0, "Ion Binary Encoding", typed value formats). The octets of a
 /// string, clob or blob are taken over without a copy; nothing is said of what is left of the body.
 ///
-/// `TooLarge` for an int of magnitude 2^127 and more, `Malformed` for a negative zero, `BadUtf8` for a
-/// string that isn't UTF-8; for a symbol what `Context::resolve` says of its id, and `TooLarge` from
-/// 2^127 on; for a decimal or timestamp what its body is refused for. `Memory` may come at any point.
+/// `TooLarge` for an int of magnitude 2^127 and more, `Malformed` for a negative zero, `BadUtf8`
+/// for a string that isn't UTF-8; for a symbol what `Context::resolve` says of its id, and
+/// `TooLarge` from 2^127 on; for a decimal or timestamp what its body is refused for. `Memory` may
+/// come at any point.
 #[tactic(auto, unfolding(crate::specs::Judge::judge))]
 pub fn judge(context: &Context, scalar: Scalar, body: &mut Vec<u8>) -> Result<Payload, Reason>
     ensures { Gives (judge context.now scalar body.old.items) result }

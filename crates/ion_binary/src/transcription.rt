@@ -1,7 +1,8 @@
-//! Values whose octets lie whole in memory, and that are written as binary values again: each symbol by its
-//! id in the document that is written, each length and number in the fewest octets, pads left out. They are
-//! judged as they are gone over, and not built. What is cut, refused or unusual isn't told here, nor a
-//! symbol that has no id yet: the reader takes such values up, and the writer puts them.
+//! Values whose octets lie whole in memory, and that are written as binary values again: each
+//! symbol by its id in the document that is written, each length and number in the fewest octets,
+//! pads left out. They are judged as they are gone over, and not built. What is cut, refused or
+//! unusual isn't told here, nor a symbol that has no id yet: the reader takes such values up, and
+//! the writer puts them.
 //!
 //! Each function appends to `out`. Where it answers `None`, some octets may stand there.
 ghost use Rattle.std.specs.Prelude.{◌≡◌, ◌≤◌, ◌<◌, true, List, Option, ℕ, length, take, IfSome};
@@ -12,8 +13,8 @@ ghost use Rattle.ion_binary.specs.visiting.Transcribing.{AddsId, AddsPlace, Coun
 ghost use Rattle.ion_binary.specs.declared.form.Scalar.TheVariants as scalars;
 ghost use Rattle.ion_binary.specs.machine.Transcribed.{HasId, IsShortest, Transcribed, TranscribedScalar};
 
-use crate::form::Scalar;
 use crate::build_scalars::{put_scalar, small_uint};
+use crate::form::Scalar;
 use crate::visitor::Visitor;
 use crate::walk::walk_value;
 use crate::writer::crossings::Crossings;
@@ -31,8 +32,8 @@ use std::mem;
 
 pub(crate) mod texts;
 
-/// The id of a symbol among the names, where it has one; its id in the document that is read tells where it
-/// probably is.
+/// The id of a symbol among the names, where it has one; its id in the document that is read tells
+/// where it probably is.
 fn id_among<S: BuildHasher + Drop>(
     names: &Names<S>,
     crossings: &mut Crossings,
@@ -179,7 +180,8 @@ impl<S: BuildHasher + Drop> Visitor for Transcription<'_, S> {
     }
 }
 
-/// The type code of what stands in brackets (Ion 1.0, "Ion Binary Encoding", "11: List", "12: S-expression", "13: Structure").
+/// The type code of what stands in brackets (Ion 1.0, "Ion Binary Encoding", "11: List", "12:
+/// S-expression", "13: Structure").
 fn code_of(bracket: Bracket) -> u8
     ensures code { result ≡ code_in bracket }
     ensures small { result < 16 }
@@ -191,9 +193,9 @@ fn code_of(bracket: Bracket) -> u8
     }
 }
 
-/// Appends the value at the front of these octets, of at most so many levels: how many octets it has
-/// (Ion 1.0, "Ion Binary Encoding", typed value formats). `None` where it isn't whole, is refused, has a
-/// symbol without an id or is in any way unusual, as local symbol tables are.
+/// Appends the value at the front of these octets, of at most so many levels: how many octets it
+/// has (Ion 1.0, "Ion Binary Encoding", typed value formats). `None` where it isn't whole, is
+/// refused, has a symbol without an id or is in any way unusual, as local symbol tables are.
 pub(crate) fn transcribe<S: BuildHasher + Drop>(
     context: &Context,
     names: &Names<S>,
@@ -241,7 +243,8 @@ fn put_scalar_again<S: BuildHasher + Drop>(
     }
 }
 
-/// Whether the number that these octets make has no shorter spelling, and may be the magnitude of an int.
+/// Whether the number that these octets make has no shorter spelling, and may be the magnitude of
+/// an int.
 #[inline(always)]
 fn is_shortest(body: &[u8]) -> bool
     ensures { result ≡ true → IsShortest body.now }
@@ -356,8 +359,8 @@ fn put_blob(body: &[u8], out: &mut Vec<u8>) -> Option<()>
     put_framed(10, body, out).ok()
 }
 
-/// Octets are whole numbers below 256. Does nothing: a proof knows an octet to be one once it is read, and
-/// the compiled loop is empty.
+/// Octets are whole numbers below 256. Does nothing: a proof knows an octet to be one once it is
+/// read, and the compiled loop is empty.
 fn are_octets(octets: &[u8])
     ensures { AreOctets octets.now }
 {

@@ -1,5 +1,5 @@
-//! What is made of a value that is gone over: a visitor takes its parts in order, and the walk knows nothing of
-//! what it does with them.
+//! What is made of a value that is gone over: a visitor takes its parts in order, and the walk
+//! knows nothing of what it does with them.
 ghost use Rattle.std.specs.Prelude.{◌≡◌, true, IfSome, Option, List, ℕ};
 ghost use Rattle.ion_model.specs.declared.value.Payload.TheVariants as payloads;
 ghost use Rattle.ion_model.specs.declared.value.Payload.{Payload as SpecPayload};
@@ -15,8 +15,8 @@ use ion_scalar::Size;
 use ion_symtab::Context;
 use ion_visiting::Bracket;
 
-/// What takes the parts of a value in order. It answers `false` or `None` where it can't go on, and its state
-/// means nothing then.
+/// What takes the parts of a value in order. It answers `false` or `None` where it can't go on, and
+/// its state means nothing then.
 pub(crate) trait Visitor {
     /// What it keeps of a container until its close.
     type Mark: Drop;
@@ -24,7 +24,8 @@ pub(crate) trait Visitor {
     /// From which state to which it gets by what it takes.
     ghost visits: { Visits Self Self.Mark };
 
-    /// A scalar, if the body is this one. The descriptor before it is this octet, which says this size.
+    /// A scalar, if the body is this one. The descriptor before it is this octet, which says this
+    /// size.
     fn scalar(
         &mut self,
         context: &Context,

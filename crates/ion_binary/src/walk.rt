@@ -9,10 +9,10 @@ ghost use Rattle.ion_binary.specs.declared.form.Scalar.TheVariants as scalars;
 ghost use Rattle.ion_binary.specs.machine.Walked.{WalkedScalar};
 ghost use Rattle.ion_binary.specs.machine.Walked.{Walked, WalkedPlain, WalkedBody, WalkedWrapper, WalkedListing, WalkedStruct, WalkedItems, WalkedFields, WalkedIds};
 
-use crate::form::{Form, Listing, Opening, Scalar, bracket_of, opening_of};
-use crate::build_scalars::{magnitude_of, small_uint};
-use crate::visitor::Visitor;
 use crate::build::{lengths, number, pad_of};
+use crate::build_scalars::{magnitude_of, small_uint};
+use crate::form::{Form, Listing, Opening, Scalar, bracket_of, opening_of};
+use crate::visitor::Visitor;
 use ion_scalar::{Size, is_decimal_body, is_timestamp_body, is_uint};
 use ion_symtab::Context;
 use ion_visiting::Bracket;
@@ -107,9 +107,9 @@ fn annotations<T: Visitor>(context: &Context, ids: &[u8], visitor: &mut T) -> bo
     at >= ids.len()
 }
 
-/// How many octets the value at the front of these has, of at most so many levels (Ion 1.0, "Ion Binary
-/// Encoding", typed value formats). `None` where it isn't whole, is refused or is in any way unusual, as
-/// local symbol tables are.
+/// How many octets the value at the front of these has, of at most so many levels (Ion 1.0, "Ion
+/// Binary Encoding", typed value formats). `None` where it isn't whole, is refused or is in any way
+/// unusual, as local symbol tables are.
 #[cycle(walk)]
 pub(crate) fn walk_value<T: Visitor>(
     context: &Context,
@@ -208,7 +208,8 @@ fn walk_plain<T: Visitor>(
     }
 }
 
-/// Whether these octets are the body of a value of this form, behind a descriptor that says so and this size.
+/// Whether these octets are the body of a value of this form, behind a descriptor that says so and
+/// this size.
 #[cycle(walk)]
 #[inline(always)]
 fn walk_body<T: Visitor>(
@@ -263,7 +264,8 @@ fn walk_listing<T: Visitor>(
 #[cycle(walk)]
 #[inline(always)]
 fn walk_items<T: Visitor>(context: &Context, body: &[u8], level: u32, visitor: &mut T) -> bool
-    ensures { result ≡ true → WalkedItems T.visits context.now level body.now visitor.old visitor.new }
+    ensures { result ≡ true → WalkedItems T.visits context.now level body.now visitor.old
+        visitor.new }
 {
     let mut at = 0;
     for _ in 0..body.len() {
@@ -301,12 +303,13 @@ fn walk_struct<T: Visitor>(context: &Context, body: &[u8], level: u32, visitor: 
     visitor.close(Bracket::Fields, mark)
 }
 
-/// Whether these octets are fields one behind the other: an id and its value, or an id of any kind and a
-/// pad.
+/// Whether these octets are fields one behind the other: an id and its value, or an id of any kind
+/// and a pad.
 #[cycle(walk)]
 #[inline(always)]
 fn walk_fields<T: Visitor>(context: &Context, body: &[u8], level: u32, visitor: &mut T) -> bool
-    ensures { result ≡ true → WalkedFields T.visits context.now level body.now visitor.old visitor.new }
+    ensures { result ≡ true → WalkedFields T.visits context.now level body.now visitor.old
+        visitor.new }
 {
     let mut at = 0;
     for _ in 0..body.len() {

@@ -16,11 +16,11 @@ use crate::transcription::texts::transcribe_visited;
 use crate::transcription::transcribe;
 use crossings::Crossings;
 use encoding::put_value;
-use recent_ids::Guesses;
 use ion_model::Value;
 use ion_symtab::{Context, Fault, Outlet, flushed, write_whole};
 use ion_visiting::{Visitable, is_tried};
 use names::Names;
+use recent_ids::Guesses;
 use std::alloc::Global;
 use std::fmt::{self, Debug, Formatter};
 use std::hash::{BuildHasher, BuildHasherDefault, FoldHasher};
@@ -30,19 +30,20 @@ use table::put_table;
 pub(crate) mod crossings;
 mod encoding;
 pub(crate) mod framing;
-pub(crate) mod recent_ids;
 pub(crate) mod names;
+pub(crate) mod recent_ids;
 mod table;
 
 /// The marker of Ion 1.0 (Ion 1.0, "Ion Binary Encoding", "Value Streams").
 const MARKER: [u8; 4] = [0xE0, 0x01, 0x00, 0xEA];
 
-/// Writes values, one after another, as one binary document (Ion 1.0, "Ion Binary Encoding"). Contracts
-/// see the symbols that have ids, whether the marker is out, and the fault that each call answers.
+/// Writes values, one after another, as one binary document (Ion 1.0, "Ion Binary Encoding").
+/// Contracts see the symbols that have ids, whether the marker is out, and the fault that each call
+/// answers.
 ///
-/// Every length and number has the fewest octets. Before a value with symbols whose texts have no ids yet
-/// stands one local symbol table, which appends them in the order of their first use. Ids are found by a
-/// hash of the texts, and don't depend on it.
+/// Every length and number has the fewest octets. Before a value with symbols whose texts have no
+/// ids yet stands one local symbol table, which appends them in the order of their first use. Ids
+/// are found by a hash of the texts, and don't depend on it.
 #[derive(Drop)]
 pub struct BinaryWriter<S: BuildHasher = BuildHasherDefault<FoldHasher>> {
     alloc: Global,
@@ -74,14 +75,18 @@ impl<S: BuildHasher> Model for BinaryWriter<S> {
 
     ghost Value = { Writing };
 
-    ghost view = { λ w. record { progress = record { names = w.names; begun = w.begun }; failed = w.failed } };
+    ghost view = { λ w. record {
+      progress = record { names = w.names; begun = w.begun };
+      failed = w.failed;
+    } };
 }
 
 impl BinaryWriter {
-    /// A writer of a document of which nothing is written yet. The only fault is `Memory`.
-    /// The hasher has a fixed seed: where a stranger chooses the texts, `with_hasher` has a random one.
+    /// A writer of a document of which nothing is written yet. The only fault is `Memory`. The
+    /// hasher has a fixed seed: where a stranger chooses the texts, `with_hasher` has a random one.
     pub fn new(alloc: Global) -> Result<BinaryWriter, Fault>
-        ensures { MatchResult result (λ w. w ≡ record { progress = nothing_yet; failed = None }) (λ f. f ≡ faults.Memory) }
+        ensures { MatchResult result (λ w. w ≡ record { progress = nothing_yet; failed = None })
+            (λ f. f ≡ faults.Memory) }
     {
         BinaryWriter::with_hasher(alloc, BuildHasherDefault::new())
     }
@@ -90,7 +95,8 @@ impl BinaryWriter {
 impl<S: BuildHasher + Drop> BinaryWriter<S> {
     /// The same, of a writer that finds ids by this hasher. What it writes is the same.
     pub fn with_hasher(alloc: Global, hasher: S) -> Result<BinaryWriter<S>, Fault>
-        ensures { MatchResult result (λ w. w ≡ record { progress = nothing_yet; failed = None }) (λ f. f ≡ faults.Memory) }
+        ensures { MatchResult result (λ w. w ≡ record { progress = nothing_yet; failed = None })
+            (λ f. f ≡ faults.Memory) }
     {
         Ok(BinaryWriter {
             alloc,
@@ -106,20 +112,28 @@ impl<S: BuildHasher + Drop> BinaryWriter<S> {
         })
     }
 
-    /// Writes a value; before the first one the version marker. A local symbol table isn't one: it would be
-    /// written as it stands and read as a table. A value that is written is one that the types keep.
+    /// Writes a value; before the first one the version marker. A local symbol table isn't one: it
+    /// would be written as it stands and read as a table. A value that is written is one that the
+    /// types keep.
     ///
-    /// `Memory`; `Write` where the device failed; `TooLarge` where a symbol would need an id above 2^31-1, so
-    /// that no value that is written has one. After a fault each later call answers the same.
+    /// `Memory`; `Write` where the device failed; `TooLarge` where a symbol would need an id above
+    /// 2^31-1, so that no value that is written has one. After a fault each later call answers the
+    /// same.
     pub fn put<W: Outlet>(&mut self, out: &mut W, value: &Value) -> Result<(), Fault>
-        ensures ok { OnOk result (Took W.took W.written out.old out.new (adds self.old.progress value.now)) }
-        ensures after { OnOk result (self.new ≡ record { progress = after self.old.progress value.now; failed = None }) }
+        ensures ok { OnOk result (Took W.took W.written out.old out.new
+            (adds self.old.progress value.now)) }
+        ensures after { OnOk result (self.new
+            ≡ record { progress = after self.old.progress value.now; failed = None }) }
         ensures in_range { OnOk result
             (length (names_after self.old.progress.names value.now) ≤ suc greatest_id) }
         ensures kept { OnOk result (IsKept value.now) }
-        ensures front { OnErr result (TookFront W.took W.written out.old out.new (adds self.old.progress value.now)) }
-        ensures cause { self.old.failed ≡ None → IfErr result (IsWritingFault (names_after self.old.progress.names value.now) (W.has_failed out.new)) }
-        ensures again { (fault : AnyFault) → self.old.failed ≡ Some fault → (result ≡ Err fault) × (out.new ≡ out.old) }
+        ensures front { OnErr result (TookFront W.took W.written out.old out.new
+            (adds self.old.progress value.now)) }
+        ensures cause { self.old.failed ≡ None
+            → IfErr result (IsWritingFault (names_after self.old.progress.names value.now)
+            (W.has_failed out.new)) }
+        ensures again { (fault : AnyFault) → self.old.failed ≡ Some fault → (result ≡ Err fault)
+            × (out.new ≡ out.old) }
         ensures failed { IfErr result (λ fault. self.new.failed ≡ Some fault) }
     {
         if let Some(fault) = self.failed {
@@ -129,11 +143,12 @@ impl<S: BuildHasher + Drop> BinaryWriter<S> {
         self.note_fault(answer)
     }
 
-    /// Writes the value that these octets are, of at most so many levels, without building it; its ids stand
-    /// for what they do in this context. The answer is that of `put`.
+    /// Writes the value that these octets are, of at most so many levels, without building it; its
+    /// ids stand for what they do in this context. The answer is that of `put`.
     ///
-    /// `None`, with nothing written, where that isn't so or isn't seen: where the value isn't whole, is
-    /// refused, is a local symbol table, has a symbol without an id yet, or the writer has answered a fault.
+    /// `None`, with nothing written, where that isn't so or isn't seen: where the value isn't
+    /// whole, is refused, is a local symbol table, has a symbol without an id yet, or the writer
+    /// has answered a fault.
     pub(crate) fn put_octets<W: Outlet>(
         &mut self,
         out: &mut W,
@@ -160,12 +175,12 @@ impl<S: BuildHasher + Drop> BinaryWriter<S> {
         Some(self.note_fault(answer))
     }
 
-    /// Writes the value at the front of a piece of what can be gone over, without building it: how many octets were
-    /// taken up, and the answer of `put`.
+    /// Writes the value at the front of a piece of what can be gone over, without building it: how
+    /// many octets were taken up, and the answer of `put`.
     ///
-    /// `None`, with nothing taken up and nothing written, where no value is gone over there, where it has a symbol without
-    /// an id yet, where memory runs out, and where the writer has answered a fault. Where that was so of several in a
-    /// row, few are tried.
+    /// `None`, with nothing taken up and nothing written, where no value is gone over there, where
+    /// it has a symbol without an id yet, where memory runs out, and where the writer has answered
+    /// a fault. Where that was so of several in a row, few are tried.
     pub fn put_visited<V: Visitable, W: Outlet>(
         &mut self,
         out: &mut W,
@@ -193,16 +208,21 @@ impl<S: BuildHasher + Drop> BinaryWriter<S> {
         Some(Carried { used, written })
     }
 
-    /// Writes the version marker where no value was put, and makes the device pass on all that it took.
+    /// Writes the version marker where no value was put, and makes the device pass on all that it
+    /// took.
     ///
     /// `Write` where the device failed; the fault of an earlier call, where there was one.
     pub fn finish<W: Outlet>(self, out: &mut W) -> Result<(), Fault>
-        ensures ok { OnOk result (Took W.took W.written out.old out.new (opening self.progress.begun)) }
+        ensures ok { OnOk result (Took W.took W.written out.old out.new
+            (opening self.progress.begun)) }
         ensures passed_on { OnOk result (W.passed out.new ≡ W.written out.new) }
         ensures no_write_failed { OnOk result (W.has_failed out.new ≡ false) }
-        ensures front { OnErr result (TookFront W.took W.written out.old out.new (opening self.progress.begun)) }
-        ensures cause { self.failed ≡ None → IfErr result (λ fault. (fault ≡ faults.Write) × (W.has_failed out.new ≡ true)) }
-        ensures again { (fault : AnyFault) → self.failed ≡ Some fault → (result ≡ Err fault) × (out.new ≡ out.old) }
+        ensures front { OnErr result (TookFront W.took W.written out.old out.new
+            (opening self.progress.begun)) }
+        ensures cause { self.failed ≡ None
+            → IfErr result (λ fault. (fault ≡ faults.Write) × (W.has_failed out.new ≡ true)) }
+        ensures again { (fault : AnyFault) → self.failed ≡ Some fault → (result ≡ Err fault)
+            × (out.new ≡ out.old) }
     {
         if let Some(fault) = self.failed {
             return Err(fault);
@@ -228,13 +248,17 @@ impl<S: BuildHasher + Drop> BinaryWriter<S> {
 
     // The same for a writer that has answered no fault.
     fn put_next<W: Outlet>(&mut self, out: &mut W, value: &Value) -> Result<(), Fault>
-        ensures ok { OnOk result (Took W.took W.written out.old out.new (adds self.old.progress value.now)) }
-        ensures after { OnOk result (self.new ≡ record { progress = after self.old.progress value.now; failed = self.old.failed }) }
+        ensures ok { OnOk result (Took W.took W.written out.old out.new
+            (adds self.old.progress value.now)) }
+        ensures after { OnOk result (self.new
+            ≡ record { progress = after self.old.progress value.now; failed = self.old.failed }) }
         ensures in_range { OnOk result
             (length (names_after self.old.progress.names value.now) ≤ suc greatest_id) }
         ensures kept { OnOk result (IsKept value.now) }
-        ensures front { OnErr result (TookFront W.took W.written out.old out.new (adds self.old.progress value.now)) }
-        ensures cause { IfErr result (IsWritingFault (names_after self.old.progress.names value.now) (W.has_failed out.new)) }
+        ensures front { OnErr result (TookFront W.took W.written out.old out.new
+            (adds self.old.progress value.now)) }
+        ensures cause { IfErr result (IsWritingFault (names_after self.old.progress.names value.now)
+            (W.has_failed out.new)) }
     {
         self.octets.clear();
         self.front.clear();
@@ -251,7 +275,8 @@ impl<S: BuildHasher + Drop> BinaryWriter<S> {
 // Writes octets, behind the marker where none is out. The only fault is `Write`.
 fn put_opened<W: Outlet>(out: &mut W, begun: bool, octets: &[u8]) -> Result<(), Fault>
     ensures ok { OnOk result (Took W.took W.written out.old out.new (opening begun ++ octets.now)) }
-    ensures front { OnErr result (TookFront W.took W.written out.old out.new (opening begun ++ octets.now)) }
+    ensures front { OnErr result (TookFront W.took W.written out.old out.new
+        (opening begun ++ octets.now)) }
     ensures cause { IfErr result (λ fault. (fault ≡ faults.Write) × (W.has_failed out.new ≡ true)) }
 {
     if begun {
@@ -261,8 +286,8 @@ fn put_opened<W: Outlet>(out: &mut W, begun: bool, octets: &[u8]) -> Result<(), 
     write_whole(out, octets)
 }
 
-// Appends what stands before a value: the marker where none is out, and the table of the names from an id
-// on where there are any. The only fault is `Memory`.
+// Appends what stands before a value: the marker where none is out, and the table of the names from
+// an id on where there are any. The only fault is `Memory`.
 fn put_front<S: BuildHasher + Drop>(
     alloc: Global,
     names: &Names<S>,

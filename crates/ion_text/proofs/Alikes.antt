@@ -29,29 +29,36 @@ use Rattle.ion_text.proofs.Tops.{gone_on, top_advances}
 
 -- 1. Both give one value.
 
-pub alike_values : (g : Catalog) (l l' : Limits) (octets beside : List ℕ) (count : ℕ) (before after before' after' : Rest) (v w : Value) → before.colon ≡ before'.colon → take count octets ≡ take count beside → length octets ≤ l.item → length beside ≤ l'.item
+pub alike_values : (g : Catalog) (l l' : Limits) (octets beside : List ℕ) (count : ℕ) (before after before' after' : Rest) (v w : Value)
+    → before.colon ≡ before'.colon → take count octets ≡ take count beside → length octets ≤ l.item → length beside ≤ l'.item
     → IsTop l.depth octets count before after v → IsTop l'.depth beside count before' after' w → v ≡ w
 alike_values g l l' octets beside count before after before' after' v w colons same few few' t u =
     let a = t.first.rest in
     let b = u.first.rest in
     let colon : a.colon ≡ b.colon = ap (λ (r : Rest). r.colon) t.begins ∙ (colons ∙ sym (ap (λ (r : Rest). r.colon) u.begins)) in
-    let there : state_at b.start b.used 0 0 (rested a 0 [] [] [] nows.Ready) ≡ rested b 0 [] [] [] nows.Ready = ap (λ c. with_scan (record { mode = modes.Blank; kept = []; colon = c; start = b.start; used = b.used }) (at 0 [] [] [] nows.Ready)) colon in
+    let there : state_at b.start b.used 0 0 (rested a 0 [] [] [] nows.Ready) ≡ rested b 0 [] [] [] nows.Ready =
+    ap (λ c. with_scan (record { mode = modes.Blank; kept = []; colon = c; start = b.start; used = b.used }) (at 0 [] [] [] nows.Ready)) colon in
     let mine = t.walked.gives g l 0 [] (omega arith) few in
     let others = u.walked.gives g l' 0 [] (omega arith) few' in
     sym t.gives
-    ∙ (one_value g l l' (take count octets) a.used b.used (rested a 0 [] [] [] nows.Ready) b.start b.used 0 0 t.walked.value u.walked.value (a.used + count) (b.used + count) (rested t.last.rest 0 [] [] [] nows.Ready) (rested u.last.rest 0 [] [] [] nows.Ready)
+    ∙ (one_value g l l' (take count octets) a.used b.used (rested a 0 [] [] [] nows.Ready) b.start b.used 0 0 t.walked.value u.walked.value (a.used + count)
+    (b.used + count) (rested t.last.rest 0 [] [] [] nows.Ready) (rested u.last.rest 0 [] [] [] nows.Ready)
     mine (ap (λ m. run g l' b.used m (take count octets)) there ∙ (ap (run g l' b.used (rested b 0 [] [] [] nows.Ready)) same ∙ others))
     ∙ u.gives)
 
-pub both_tops : (g : Catalog) (l l' : Limits) (octets beside : List ℕ) (count count' : ℕ) (before after before' after' : Rest) → count' ≡ count → before.colon ≡ before'.colon → take count octets ≡ take count beside → length octets ≤ l.item → length beside ≤ l'.item
-    → ((v : Value) × IsTop l.depth octets count before after v) → ((w : Value) × IsTop l'.depth beside count' before' after' w) → (v : Value) × IsTop l.depth octets count before after v × IsTop l'.depth beside count' before' after' v
+pub both_tops : (g : Catalog) (l l' : Limits) (octets beside : List ℕ) (count count' : ℕ) (before after before' after' : Rest) → count' ≡ count
+    → before.colon ≡ before'.colon → take count octets ≡ take count beside → length octets ≤ l.item → length beside ≤ l'.item
+    → ((v : Value) × IsTop l.depth octets count before after v) → ((w : Value) × IsTop l'.depth beside count' before' after' w) → (v : Value)
+    × IsTop l.depth octets count before after v × IsTop l'.depth beside count' before' after' v
 both_tops g l l' octets beside count count' before after before' after' e colons same few few' t u =
-    let one = alike_values g l l' octets beside count before after before' after' t.0 u.0 colons same few few' t.1 (subst (λ n. IsTop l'.depth beside n before' after' u.0) e u.1) in
+    let one = alike_values g l l' octets beside count before after before' after' t.0 u.0 colons same few few' t.1
+    (subst (λ n. IsTop l'.depth beside n before' after' u.0) e u.1) in
     (t.0, t.1, subst (λ x. IsTop l'.depth beside count' before' after' x) (sym one) u.1)
 
 -- 2. One of the readers takes it up.
 
-module _ (old : TextReader) (piece item : List ℕ) (blank count : ℕ) (rest behind : Rest) (v : Value) (f : IsFront old piece blank rest) (is : item ≡ take (min (length piece - blank) old.limits.item) (drop blank piece)) (t : IsTop old.limits.depth item count rest behind v) where
+module _ (old : TextReader) (piece item : List ℕ) (blank count : ℕ) (rest behind : Rest) (v : Value) (f : IsFront old piece blank rest)
+    (is : item ≡ take (min (length piece - blank) old.limits.item) (drop blank piece)) (t : IsTop old.limits.depth item count rest behind v) where
   pub size : length item ≡ min (length piece - blank) old.limits.item
   size = ap (λ (w : List ℕ). length w) is ∙ omega (arith, length-take {A = ℕ}, length-drop {A = ℕ})
 
@@ -61,17 +68,21 @@ module _ (old : TextReader) (piece item : List ℕ) (blank count : ℕ) (rest be
       let within = f.within in
       let fits = t.walked.within in
       let used = t.walked.used in
-      let first : t.first.rest.used ≡ f.before.used + blank = ap (λ (r : Rest). r.used) t.begins ∙ (ap (λ (r : Rest). r.used) f.rests ∙ blank_used f.before blank) in
+      let first : t.first.rest.used ≡ f.before.used + blank =
+      ap (λ (r : Rest). r.used) t.begins ∙ (ap (λ (r : Rest). r.used) f.rests ∙ blank_used f.before blank) in
       let last : t.last.rest.used ≡ behind.used = ap (λ (r : Rest). r.used) t.ends in
       let now : (scanned old.scanner).used ≡ f.before.used = ap (λ (s : Known). s.used) f.fresh.rests in
       (omega arith, omega arith)
 
   pub side_advances : (moved : Scanner) → scanned moved ≡ resting behind
-      → Advances old.catalog.now old.limits (is_some old.awaited) (scanned old.scanner).used (state_of old) piece (Ok (record { used = blank + count; value = Some v })) old.awaited (state_of (gone_on old moved old.beside))
+      → Advances old.catalog.now old.limits (is_some old.awaited) (scanned old.scanner).used (state_of old) piece
+      (Ok (record { used = blank + count; value = Some v })) old.awaited (state_of (gone_on old moved old.beside))
   side_advances moved there =
       let s = size in
-      subst (λ x. Advances old.catalog.now old.limits (is_some old.awaited) (scanned old.scanner).used (state_of old) piece (Ok (record { used = blank + count; value = Some x })) old.awaited (state_of (gone_on old moved old.beside))) t.gives
-      (top_advances old moved old.beside old.limits.depth item count t.first t.last t.walked f.before piece blank (min (length piece - blank) old.limits.item) f.fresh (there ∙ ap resting (sym t.ends))
+      subst (λ x. Advances old.catalog.now old.limits (is_some old.awaited) (scanned old.scanner).used (state_of old) piece
+      (Ok (record { used = blank + count; value = Some x })) old.awaited (state_of (gone_on old moved old.beside))) t.gives
+      (top_advances old moved old.beside old.limits.depth item count t.first t.last t.walked f.before piece blank (min (length piece - blank) old.limits.item)
+      f.fresh (there ∙ ap resting (sym t.ends))
       is f.within f.few (omega arith) (omega arith) f.passed (t.begins ∙ f.rests) (omega arith))
 
 -- 3. What is so of it then.
@@ -98,15 +109,19 @@ pub record TakesUp (old new : TextReader) (piece : List ℕ) (used : ℕ) (v : V
   pub awaited : IsNone new.awaited
   pub stands : (u : List ℕ) (s : List (Value × ℕ)) → Stands old u s → Stands new (u ++ take used piece) (s ++ (v, length u + used) ∷ [])
 
-module _ (old new : TextReader) (piece : List ℕ) (none : failed old ≡ None) (fine : IsFine old → IsFine new) (steady : StaysSteady old new) (same : SameSettings old new) where
+module _ (old new : TextReader) (piece : List ℕ) (none : failed old ≡ None) (fine : IsFine old → IsFine new) (steady : StaysSteady old new)
+    (same : SameSettings old new) where
   abbrev pub Moves : ℕ → Value → Type 0
-  Moves used v = Advances old.catalog.now old.limits (is_some old.awaited) (octets_used old) (state_of old) piece (Ok (record { used = used; value = Some v })) new.awaited (state_of new)
+  Moves used v = Advances old.catalog.now old.limits (is_some old.awaited) (octets_used old) (state_of old) piece (Ok (record { used = used; value = Some v }))
+      new.awaited (state_of new)
 
-  pub takes_up : (used : ℕ) (v : Value) → Moves used v → octets_used new ≡ octets_used old + used → (old.awaited ≡ None) × (new.awaited ≡ None) → TakesUp old new piece used v
+  pub takes_up : (used : ℕ) (v : Value) → Moves used v → octets_used new ≡ octets_used old + used → (old.awaited ≡ None) × (new.awaited ≡ None)
+      → TakesUp old new piece used v
   takes_up used v does counts nothing =
       let parts = or_none old.failed (failure old.scanner) none in
       let now = fine (is_none (failure old.scanner) parts.1) in
-      let free : or_first new.failed (failure new.scanner) ≡ None = ap (λ r. or_first r (failure new.scanner)) (same.failed ∙ parts.0) ∙ none_is (failure new.scanner) now in
+      let free : or_first new.failed (failure new.scanner) ≡ None = ap (λ r. or_first r (failure new.scanner)) (same.failed ∙ parts.0)
+      ∙ none_is (failure new.scanner) now in
       record {
         not_failed = free;
         within = does.0;
@@ -114,25 +129,30 @@ module _ (old new : TextReader) (piece : List ℕ) (none : failed old ≡ None) 
         counts = counts;
         progress = step_progress old new piece (Ok (record { used = used; value = Some v })) does refl;
         awaited = is_none new.awaited nothing.1;
-        stands = step_stands old new piece (Ok (record { used = used; value = Some v })) (subst (λ o. IfSome o (λ octet. (rest : List ℕ) × (piece ≡ octet ∷ rest))) (sym nothing.0) tt) does counts now steady same;
+        stands = step_stands old new piece (Ok (record { used = used; value = Some v }))
+            (subst (λ o. IfSome o (λ octet. (rest : List ℕ) × (piece ≡ octet ∷ rest))) (sym nothing.0) tt) does counts now steady same;
       }
 
   -- and a value that is kept
-  pub one_takes_up : {A : Type 0} (P : Value → A → Type 0) (r : Option (ℕ × A)) → IfSome r (λ n. (v : Value) × IsKept v × Moves n.0 v × P v n.1) → IfSome r (λ n. octets_used new ≡ octets_used old + n.0)
+  pub one_takes_up : {A : Type 0} (P : Value → A → Type 0) (r : Option (ℕ × A)) → IfSome r (λ n. (v : Value) × IsKept v × Moves n.0 v × P v n.1)
+      → IfSome r (λ n. octets_used new ≡ octets_used old + n.0)
       → IfSome r (λ n. (old.awaited ≡ None) × (new.awaited ≡ None)) → IfSome r (λ n. (v : Value) × IsKept v × TakesUp old new piece n.0 v × P v n.1)
   one_takes_up P None does counts nothing = tt
   one_takes_up P (Some n) does counts nothing = (does.0, does.1, takes_up n.0 does.0 does.2 counts nothing, does.3)
 
   -- and a value that was gone over
-  pub visited_up : (P : Value → Type 0) (r : Option ℕ) → IfSome r (λ n. (v : Value) × P v × Moves n v) → IfSome r (λ n. octets_used new ≡ octets_used old + n) → IfSome r (λ n. (old.awaited ≡ None) × (new.awaited ≡ None))
+  pub visited_up : (P : Value → Type 0) (r : Option ℕ) → IfSome r (λ n. (v : Value) × P v × Moves n v) → IfSome r (λ n. octets_used new ≡ octets_used old + n)
+      → IfSome r (λ n. (old.awaited ≡ None) × (new.awaited ≡ None))
       → IfSome r (λ n. (v : Value) × P v × TakesUp old new piece n v)
   visited_up P None does counts nothing = tt
   visited_up P (Some n) does counts nothing = (does.0, does.1, takes_up n does.0 does.2 counts nothing)
 
 -- both do
-module _ (old new other later : TextReader) (piece beside : List ℕ) (none : failed old ≡ None) (fine : IsFine old → IsFine new) (steady : StaysSteady old new) (same : SameSettings old new)
+module _ (old new other later : TextReader) (piece beside : List ℕ) (none : failed old ≡ None) (fine : IsFine old → IsFine new) (steady : StaysSteady old new)
+    (same : SameSettings old new)
     (none' : failed other ≡ None) (fine' : IsFine other → IsFine later) (steady' : StaysSteady other later) (same' : SameSettings other later) where
-  pub both_take_up : (r : Option (ℕ × ℕ)) → IfSome r (λ n. (v : Value) × Moves old new piece none fine steady same n.0 v × Moves other later beside none' fine' steady' same' n.1 v)
+  pub both_take_up : (r : Option (ℕ × ℕ)) → IfSome r (λ n. (v : Value) × Moves old new piece none fine steady same n.0 v
+      × Moves other later beside none' fine' steady' same' n.1 v)
       → IfSome r (λ n. octets_used new ≡ octets_used old + n.0) → IfSome r (λ n. octets_used later ≡ octets_used other + n.1)
       → IfSome r (λ n. (old.awaited ≡ None) × (new.awaited ≡ None)) → IfSome r (λ n. (other.awaited ≡ None) × (later.awaited ≡ None))
       → IfSome r (λ n. (v : Value) × TakesUp old new piece n.0 v × TakesUp other later beside n.1 v)

@@ -47,12 +47,14 @@ begun_inner start begin [] ss h = absurd cc
 begun_inner start begin (f ∷ fs) ss h = refl
 
 module _ (g : Catalog) (l : Limits) where
-  pub ready_turns : (r : Reading) (x : Lexeme) (c : Content) → r.now ≡ nows.Ready → is_top r.frames ≡ false → turn g l r (token_of x c) ≡ on_ready (under g l) (spot_in r x.end) r.frames r.notes c
+  pub ready_turns : (r : Reading) (x : Lexeme) (c : Content) → r.now ≡ nows.Ready → is_top r.frames ≡ false → turn g l r (token_of x c)
+      ≡ on_ready (under g l) (spot_in r x.end) r.frames r.notes c
   ready_turns r x c now inner =
       ap (turn_now (under g l) r (token_of x c)) now
       ∙ ap (λ s. on_ready (under g l) (spot_at x.end s r.context) r.frames r.notes c) (begun_inner r.start x.start r.frames r.notes inner)
 
-  pub after_turns : (r : Reading) (x : Lexeme) (c : Content) → r.now ≡ nows.After → turn g l r (token_of x c) ≡ on_after (under g l) (spot_in r x.end) r.frames c
+  pub after_turns : (r : Reading) (x : Lexeme) (c : Content) → r.now ≡ nows.After → turn g l r (token_of x c)
+      ≡ on_after (under g l) (spot_in r x.end) r.frames c
   after_turns r x c now = ap (turn_now (under g l) r (token_of x c)) now
 
 -- behind a token a container is still open, in the same item, and nothing waits
@@ -83,36 +85,63 @@ module _ (setting : Setting) (spot : Spot) (q : Reading) where
   comma_stays (frames.Fields ss ms ∷ fs) e = went (StaysIn spot.start) _ q e (refl, refl, tt)
 
 -- a token of the machine, where it is found
-module _ (g : Catalog) (l : Limits) (r : Reading) (still : settle g l r ≡ goes r) (rest : Rest) (octets : List ℕ) (kind : TokenKind) (kept : List ℕ) (n : ℕ) (c : Content) (q : Reading)
+module _ (g : Catalog) (l : Limits) (r : Reading) (still : settle g l r ≡ goes r) (rest : Rest) (octets : List ℕ) (kind : TokenKind) (kept : List ℕ) (n : ℕ)
+    (c : Content) (q : Reading)
     (says : said kind kept ≡ Ok c) (turns : turn g l r (token_of (lexeme_at rest kind kept n) c) ≡ goes q) where
-  pub left_found : IsFound (place r) rest octets kind kept n true → Quiet g l r (place r) (resting rest) (take n octets) → Passes g l (with_scan (resting rest) r) octets n (with_scan (resting (past_token (place r) rest kind n)) q)
+  pub left_found : IsFound (place r) rest octets kind kept n true → Quiet g l r (place r) (resting rest) (take n octets)
+      → Passes g l (with_scan (resting rest) r) octets n (with_scan (resting (past_token (place r) rest kind n)) q)
   left_found f quiet =
       let shown = f.shown in
-      passes_left g l r still (resting rest) f.known (resting (past_token (place r) rest kind n)) octets n (lexeme_at rest kind kept n) c q shown quiet f.ran says turns refl refl f.ends
+      passes_left g l r still (resting rest) f.known (resting (past_token (place r) rest kind n)) octets n (lexeme_at rest kind kept n) c q shown quiet f.ran
+      says turns refl refl f.ends
 
-  pub given_found : IsFound (place r) rest octets kind kept n false → Quiet g l r (place r) (resting rest) (take (n - 1) octets) → (most : ℕ) → NoticesNothing l q most → rest.used + length octets ≤ most → Passes g l (with_scan (resting rest) r) octets n (with_scan (resting (past_token (place r) rest kind n)) q)
+  pub given_found : IsFound (place r) rest octets kind kept n false → Quiet g l r (place r) (resting rest) (take (n - 1) octets) → (most : ℕ)
+      → NoticesNothing l q most → rest.used + length octets ≤ most
+      → Passes g l (with_scan (resting rest) r) octets n (with_scan (resting (past_token (place r) rest kind n)) q)
   given_found f quiet most notices room =
       let some = f.some in
       let shown = f.shown in
       let last : n - 1 + 1 ≡ n = omega arith in
       let used : rest.used + n ≡ rest.used + (n - 1) + 1 = omega arith in
       subst (λ k. Passes g l (with_scan (resting rest) r) octets k (with_scan (resting (past_token (place r) rest kind n)) q)) last
-      (passes_given g l r still (resting rest) f.known (resting (past_token (place r) rest kind n)) octets (n - 1) (lexeme_at rest kind kept n) c q shown quiet f.ran says turns refl used most notices (omega arith) f.ends)
+      (passes_given g l r still (resting rest) f.known (resting (past_token (place r) rest kind n)) octets (n - 1) (lexeme_at rest kind kept n) c q shown quiet
+      f.ran says turns refl used most notices (omega arith) f.ends)
 
 -- where a container is open
-module _ (g : Catalog) (l : Limits) (r : Reading) (inner : is_top r.frames ≡ false) (still : settle g l r ≡ goes r) (rest : Rest) (octets : List ℕ) (kind : TokenKind) (kept : List ℕ) (n : ℕ) (c : Content) (q : Reading)
-    (says : said kind kept ≡ Ok c) (turns : turn g l r (token_of (lexeme_at rest kind kept n) c) ≡ goes q) (room : rest.used + length octets ≤ l.item + r.start) where
-  pub left_passes : IsFound (place r) rest octets kind kept n true → Quiet g l r (place r) (resting rest) (take n octets) → Passes g l (with_scan (resting rest) r) octets n (with_scan (resting (past_token (place r) rest kind n)) q)
+module _ (g : Catalog) (l : Limits) (r : Reading) (inner : is_top r.frames ≡ false) (still : settle g l r ≡ goes r) (rest : Rest) (octets : List ℕ)
+    (kind : TokenKind) (kept : List ℕ) (n : ℕ) (c : Content) (q : Reading)
+    (says : said kind kept ≡ Ok c) (turns : turn g l r (token_of (lexeme_at rest kind kept n) c) ≡ goes q)
+    (room : rest.used + length octets ≤ l.item + r.start) where
+  pub left_passes : IsFound (place r) rest octets kind kept n true → Quiet g l r (place r) (resting rest) (take n octets)
+      → Passes g l (with_scan (resting rest) r) octets n (with_scan (resting (past_token (place r) rest kind n)) q)
   left_passes f quiet = left_found g l r still rest octets kind kept n c q says turns f quiet
 
-  pub given_leads : IsFound (place r) rest octets kind kept n false → Quiet g l r (place r) (resting rest) (take (n - 1) octets) → is_top q.frames ≡ false → q.start ≡ r.start → Passes g l (with_scan (resting rest) r) octets n (with_scan (resting (past_token (place r) rest kind n)) q)
-  given_leads f quiet inside same = given_found g l r still rest octets kind kept n c q says turns f quiet (l.item + q.start) (inner_notices l q inside) (omega arith)
+  pub given_leads : IsFound (place r) rest octets kind kept n false → Quiet g l r (place r) (resting rest) (take (n - 1) octets) → is_top q.frames ≡ false
+      → q.start ≡ r.start → Passes g l (with_scan (resting rest) r) octets n (with_scan (resting (past_token (place r) rest kind n)) q)
+  given_leads f quiet inside same = given_found g l r still rest octets kind kept n c q says turns f quiet (l.item + q.start) (inner_notices l q inside)
+      (omega arith)
 
-  pub given_passes : IsFound (place r) rest octets kind kept n false → Quiet g l r (place r) (resting rest) (take (n - 1) octets) → StaysIn r.start q → Passes g l (with_scan (resting rest) r) octets n (with_scan (resting (past_token (place r) rest kind n)) q)
+  pub given_passes : IsFound (place r) rest octets kind kept n false → Quiet g l r (place r) (resting rest) (take (n - 1) octets) → StaysIn r.start q
+      → Passes g l (with_scan (resting rest) r) octets n (with_scan (resting (past_token (place r) rest kind n)) q)
   given_passes f quiet stays = given_leads f quiet stays.0 stays.1
 
 abbrev pub with_scanner : TextReader → Scanner → TextReader
-with_scanner r s = record { alloc = r.alloc; catalog = r.catalog; limits = r.limits; scanner = s; beside = r.beside; start = r.start; context = r.context; frames = r.frames; notes = r.notes; stage = r.stage; given = r.given; awaited = r.awaited; failed = r.failed }
+with_scanner r s = record {
+  alloc = r.alloc;
+  catalog = r.catalog;
+  limits = r.limits;
+  scanner = s;
+  beside = r.beside;
+  start = r.start;
+  context =
+      r.context;
+  frames = r.frames;
+  notes = r.notes;
+  stage = r.stage;
+  given = r.given;
+  awaited = r.awaited;
+  failed = r.failed;
+}
 
 -- a scanner that was moved there
 pub record Moved (s moved : Scanner) (rest : Rest) : Type 0 where
@@ -120,12 +149,15 @@ pub record Moved (s moved : Scanner) (rest : Rest) : Type 0 where
   pub failure : failure moved ≡ failure s
   pub steady : IsSteady (scanned s) (looks s) → IsSteady (scanned moved) (looks moved)
 
-module _ (old new : TextReader) (moved : Scanner) (rest behind : Rest) (octets : List ℕ) (inside : Inside old octets) (rests : scanned old.scanner ≡ resting rest) (move : Moved old.scanner moved behind) (setting : SameSetting (with_scanner old moved) new) where
+module _ (old new : TextReader) (moved : Scanner) (rest behind : Rest) (octets : List ℕ) (inside : Inside old octets)
+    (rests : scanned old.scanner ≡ resting rest) (move : Moved old.scanner moved behind) (setting : SameSetting (with_scanner old moved) new) where
   here : scanned new.scanner ≡ resting behind
   here = ap scanned setting.scanner ∙ move.rests
 
   -- what was taken up so goes there
-  pub moved_strides : (n : ℕ) → n < length octets → behind.used ≡ rest.used + n → StaysIn old.start (reading_of new) → Passes old.catalog.now old.limits (with_scan (resting rest) (reading_of old)) octets n (with_scan (resting behind) (reading_of new)) → Strides old new octets n
+  pub moved_strides : (n : ℕ) → n < length octets → behind.used ≡ rest.used + n → StaysIn old.start (reading_of new)
+      → Passes old.catalog.now old.limits (with_scan (resting rest) (reading_of old)) octets n (with_scan (resting behind) (reading_of new))
+      → Strides old new octets n
   moved_strides n within counted stays passes = record {
     within = within;
     passes =
@@ -144,20 +176,31 @@ module _ (old new : TextReader) (moved : Scanner) (rest behind : Rest) (octets :
   room = subst (λ (s : Known). s.used + length octets ≤ old.limits.item + old.start) rests inside.fits
 
   -- a token
-  module _ (kind : TokenKind) (kept : List ℕ) (n : ℕ) (left : Bool) (c : Content) (within : n < length octets) (there : behind ≡ past_token (place (reading_of old)) rest kind n) (still : IsStill old.stage) (may : IsCalm old.stage ⊎ (before_end left n ≡ 0))
-      (found : IsFound (place (reading_of old)) rest octets kind kept n left) (says : said kind kept ≡ Ok c) (turns : turn old.catalog.now old.limits (reading_of old) (token_of (lexeme_at rest kind kept n) c) ≡ goes (reading_of new)) (stays : StaysIn old.start (reading_of new)) where
-    quiet : (k : ℕ) → k ≤ n → IsCalm old.stage ⊎ (k ≡ 0) → Quiet old.catalog.now old.limits (reading_of old) (place (reading_of old)) (resting rest) (take k octets)
-    quiet k few (inl calm) = let r = room in calm_quiet old.catalog.now old.limits (reading_of old) inside.inner calm (resting rest) refl octets k (omega arith) (omega arith)
-    quiet k few (inr none) = subst (λ j. Quiet old.catalog.now old.limits (reading_of old) (place (reading_of old)) (resting rest) (take j octets)) (sym none) tt
+  module _ (kind : TokenKind) (kept : List ℕ) (n : ℕ) (left : Bool) (c : Content) (within : n < length octets)
+      (there : behind ≡ past_token (place (reading_of old)) rest kind n) (still : IsStill old.stage) (may : IsCalm old.stage ⊎ (before_end left n ≡ 0))
+      (found : IsFound (place (reading_of old)) rest octets kind kept n left) (says : said kind kept ≡ Ok c)
+      (turns : turn old.catalog.now old.limits (reading_of old) (token_of (lexeme_at rest kind kept n) c) ≡ goes (reading_of new))
+      (stays : StaysIn old.start (reading_of new)) where
+    quiet : (k : ℕ) → k ≤ n → IsCalm old.stage ⊎ (k ≡ 0) → Quiet old.catalog.now old.limits (reading_of old) (place (reading_of old)) (resting rest)
+        (take k octets)
+    quiet k few (inl calm) = let r = room in calm_quiet old.catalog.now old.limits (reading_of old) inside.inner calm (resting rest) refl octets k (omega arith)
+        (omega arith)
+    quiet k few (inr none) = subst (λ j. Quiet old.catalog.now old.limits (reading_of old) (place (reading_of old)) (resting rest) (take j octets)) (sym none)
+        tt
 
-    by : (b : Bool) → IsFound (place (reading_of old)) rest octets kind kept n b → IsCalm old.stage ⊎ (before_end b n ≡ 0) → Passes old.catalog.now old.limits (with_scan (resting rest) (reading_of old)) octets n (with_scan (resting (past_token (place (reading_of old)) rest kind n)) (reading_of new))
-    by true f m = left_passes old.catalog.now old.limits (reading_of old) inside.inner (still_settles old.catalog.now old.limits (reading_of old) still) rest octets kind kept n c (reading_of new) says turns room f (quiet n (omega arith) m)
-    by false f m = given_passes old.catalog.now old.limits (reading_of old) inside.inner (still_settles old.catalog.now old.limits (reading_of old) still) rest octets kind kept n c (reading_of new) says turns room f (quiet (n - 1) (omega arith) m) stays
+    by : (b : Bool) → IsFound (place (reading_of old)) rest octets kind kept n b → IsCalm old.stage ⊎ (before_end b n ≡ 0)
+        → Passes old.catalog.now old.limits (with_scan (resting rest) (reading_of old)) octets n
+        (with_scan (resting (past_token (place (reading_of old)) rest kind n)) (reading_of new))
+    by true f m = left_passes old.catalog.now old.limits (reading_of old) inside.inner (still_settles old.catalog.now old.limits (reading_of old) still) rest
+        octets kind kept n c (reading_of new) says turns room f (quiet n (omega arith) m)
+    by false f m = given_passes old.catalog.now old.limits (reading_of old) inside.inner (still_settles old.catalog.now old.limits (reading_of old) still) rest
+        octets kind kept n c (reading_of new) says turns room f (quiet (n - 1) (omega arith) m) stays
 
     pub token_strides : Strides old new octets n
     token_strides =
         moved_strides n within (ap (λ (k : Rest). k.used) there) stays
-        (subst (λ (k : Rest). Passes old.catalog.now old.limits (with_scan (resting rest) (reading_of old)) octets n (with_scan (resting k) (reading_of new))) (sym there) (by left found may))
+        (subst (λ (k : Rest). Passes old.catalog.now old.limits (with_scan (resting rest) (reading_of old)) octets n (with_scan (resting k) (reading_of new)))
+        (sym there) (by left found may))
 
 pub mark_says : (m : Mark) → said (kinds.Mark m) [] ≡ Ok (Mark' m)
 unfolding said
@@ -206,31 +249,44 @@ blank_colon r n = by (n == 0)
     by false = refl
 
 -- a blank
-pub blank_strides : (old : TextReader) (moved : Scanner) (rest behind : Rest) (octets : List ℕ) (n : ℕ) → Inside old octets → scanned old.scanner ≡ resting rest → behind ≡ past_blank rest n → Moved old.scanner moved behind → IsStill old.stage → n < length octets → IsPassed octets n
+pub blank_strides : (old : TextReader) (moved : Scanner) (rest behind : Rest) (octets : List ℕ) (n : ℕ) → Inside old octets → scanned old.scanner ≡ resting rest
+    → behind ≡ past_blank rest n → Moved old.scanner moved behind → IsStill old.stage → n < length octets → IsPassed octets n
     → Strides old (with_scanner old moved) octets n
 blank_strides old moved rest behind octets n inside rests there move still within passed =
     let fits = room old (with_scanner old moved) moved rest behind octets inside rests move same in
-    moved_strides old (with_scanner old moved) moved rest behind octets inside rests move same n within (ap (λ (k : Rest). k.used) there ∙ blank_used rest n) (inside.inner, refl, still)
-    (subst (λ (k : Rest). Passes old.catalog.now old.limits (with_scan (resting rest) (reading_of old)) octets n (with_scan (resting k) (reading_of old))) (sym there)
-    (passes_blank old.catalog.now old.limits (reading_of old) (old.limits.item + old.start) (inner_notices old.limits (reading_of old) inside.inner) (resting rest) (resting (past_blank rest n)) octets n (omega arith) refl refl (passed (place (reading_of old)) rest) (omega arith) (still_settles old.catalog.now old.limits (reading_of old) still)))
+    moved_strides old (with_scanner old moved) moved rest behind octets inside rests move same n within (ap (λ (k : Rest). k.used) there ∙ blank_used rest n)
+    (inside.inner, refl, still)
+    (subst (λ (k : Rest). Passes old.catalog.now old.limits (with_scan (resting rest) (reading_of old)) octets n (with_scan (resting k) (reading_of old)))
+    (sym there)
+    (passes_blank old.catalog.now old.limits (reading_of old) (old.limits.item + old.start) (inner_notices old.limits (reading_of old) inside.inner)
+    (resting rest) (resting (past_blank rest n)) octets n (omega arith) refl refl (passed (place (reading_of old)) rest) (omega arith)
+    (still_settles old.catalog.now old.limits (reading_of old) still)))
   where
     same : SameSetting (with_scanner old moved) (with_scanner old moved)
     same = record { catalog = refl; limits = refl; scanner = refl; awaited = refl; failed = refl }
 
 -- a value that is a token
-pub value_strides : (old new : TextReader) (moved : Scanner) (rest behind : Rest) (octets : List ℕ) (kind : TokenKind) (kept : List ℕ) (n : ℕ) (left : Bool) (c : Content) (v : Value) → Inside old octets → scanned old.scanner ≡ resting rest → Moved old.scanner moved behind → SameSetting (with_scanner old moved) new
-    → n < length octets → behind ≡ past_token (place (reading_of old)) rest kind n → old.stage ≡ nows.Ready → IsFound (place (reading_of old)) rest octets kind kept n left → said kind kept ≡ Ok c
-    → on_ready (setting_of old) (spot_of old (rest.used + n)) (open_frames old) old.notes c ≡ ended (setting_of old) (spot_of old (rest.used + n)) (open_frames old) v
+pub value_strides : (old new : TextReader) (moved : Scanner) (rest behind : Rest) (octets : List ℕ) (kind : TokenKind) (kept : List ℕ) (n : ℕ) (left : Bool)
+    (c : Content) (v : Value) → Inside old octets → scanned old.scanner ≡ resting rest → Moved old.scanner moved behind
+    → SameSetting (with_scanner old moved) new
+    → n < length octets → behind ≡ past_token (place (reading_of old)) rest kind n → old.stage ≡ nows.Ready
+    → IsFound (place (reading_of old)) rest octets kind kept n left → said kind kept ≡ Ok c
+    → on_ready (setting_of old) (spot_of old (rest.used + n)) (open_frames old) old.notes c ≡ ended (setting_of old) (spot_of old (rest.used + n))
+    (open_frames old) v
     → ended (setting_of old) (spot_of old (rest.used + n)) (open_frames old) v ≡ goes (reading_of new) → Strides old new octets n
 value_strides old new moved rest behind octets kind kept n left c v inside rests move setting within there now found says same does =
-    token_strides old new moved rest behind octets inside rests move setting kind kept n left c within there (subst IsStill (sym now) tt) (inl (subst IsCalm (sym now) tt)) found says
+    token_strides old new moved rest behind octets inside rests move setting kind kept n left c within there (subst IsStill (sym now) tt)
+    (inl (subst IsCalm (sym now) tt)) found says
     (ready_turns old.catalog.now old.limits (reading_of old) (lexeme_at rest kind kept n) c now inside.inner ∙ (same ∙ does))
     (ended_stays (setting_of old) (spot_of old (rest.used + n)) (reading_of new) (open_frames old) v inside.inner does)
 
-pub comma_strides : (old new : TextReader) (moved : Scanner) (rest behind : Rest) (octets : List ℕ) → Inside old octets → scanned old.scanner ≡ resting rest → Moved old.scanner moved behind → SameSetting (with_scanner old moved) new
-    → 1 < length octets → get_or octets 0 0 ≡ 44 → behind ≡ past_token (place (reading_of old)) rest (kinds.Mark marks.Comma) 1 → old.stage ≡ nows.After → on_comma old.start old.context (open_frames old) ≡ goes (reading_of new) → Strides old new octets 1
+pub comma_strides : (old new : TextReader) (moved : Scanner) (rest behind : Rest) (octets : List ℕ) → Inside old octets → scanned old.scanner ≡ resting rest
+    → Moved old.scanner moved behind → SameSetting (with_scanner old moved) new
+    → 1 < length octets → get_or octets 0 0 ≡ 44 → behind ≡ past_token (place (reading_of old)) rest (kinds.Mark marks.Comma) 1 → old.stage ≡ nows.After
+    → on_comma old.start old.context (open_frames old) ≡ goes (reading_of new) → Strides old new octets 1
 comma_strides old new moved rest behind octets inside rests move setting within first there now does =
-    token_strides old new moved rest behind octets inside rests move setting (kinds.Mark marks.Comma) [] 1 false (Mark' marks.Comma) within there (subst IsStill (sym now) tt) (inr refl)
+    token_strides old new moved rest behind octets inside rests move setting (kinds.Mark marks.Comma) [] 1 false (Mark' marks.Comma) within there
+    (subst IsStill (sym now) tt) (inr refl)
     (comma_found (place (reading_of old)) rest octets (omega arith) first) (mark_says marks.Comma)
     (after_turns old.catalog.now old.limits (reading_of old) (lexeme_at rest (kinds.Mark marks.Comma) [] 1) (Mark' marks.Comma) now ∙ does)
     (comma_stays (setting_of old) (spot_of old 0) (reading_of new) (open_frames old) does)
@@ -252,7 +308,8 @@ module _ (setting : Setting) (spot : Spot) (q : Reading) where
   named_stays (frames.Named ss ms name ∷ fs) s e = absurd cc
   named_stays (frames.Fields ss ms ∷ fs) s e = went (StaysIn spot.start) _ q e (refl, refl, tt)
 
-pub released_inner : (setting : Setting) (spot : Spot) (fs : List Frame) (ss : Symbols) (h : Held) → is_top fs ≡ false → released setting spot fs ss h ≡ paid setting spot fs ss (held_payload h)
+pub released_inner : (setting : Setting) (spot : Spot) (fs : List Frame) (ss : Symbols) (h : Held) → is_top fs ≡ false → released setting spot fs ss h
+    ≡ paid setting spot fs ss (held_payload h)
 released_inner setting spot [] ss h e = absurd cc
 released_inner setting spot (f ∷ fs) ss h e = refl
 

@@ -123,7 +123,8 @@ acts_there p s a b o actions.EndWord = by ((o == 46) && bytes_eq s.kept (codes "
     t : Known
     t = known_at a b s
 
-    by : (c : Bool) → Outcomes (if c then Next (go_to s modes.KindName []) else Left (cut s kinds.Word s.kept s.used) (past p kinds.Word modes.Blank [] s.used s.used))
+    by : (c : Bool) → Outcomes (if c then Next (go_to s modes.KindName []) else Left (cut s kinds.Word s.kept s.used)
+        (past p kinds.Word modes.Blank [] s.used s.used))
         (if c then Next (go_to t modes.KindName []) else Left (cut t kinds.Word s.kept b) (past p kinds.Word modes.Blank [] b b))
     by true = record { start = start_of s.mode a b; used = b + 1; from = 0; to = 0; is = refl }
     by false = record { start = b; used = b; from = start_of s.mode a b; to = b; is = refl }
@@ -153,7 +154,8 @@ long_there top (Refused n e) a b c d = refl
 segment_there : (s : Known) (a b : ℕ) → has_segment (begun_in (known_at a b s)) ≡ has_segment (begun_in s)
 segment_there s a b = by (is_idle s.mode)
   where
-    by : (c : Bool) → has_segment (if c then None else Some (record { start = a; end = b - behind s.mode; form = form_of s.mode })) ≡ has_segment (if c then None else Some (record { start = s.start; end = s.used - behind s.mode; form = form_of s.mode }))
+    by : (c : Bool) → has_segment (if c then None else Some (record { start = a; end = b - behind s.mode; form = form_of s.mode }))
+        ≡ has_segment (if c then None else Some (record { start = s.start; end = s.used - behind s.mode; form = form_of s.mode }))
     by true = refl
     by false = refl
 
@@ -175,7 +177,8 @@ place_there (frames.Fields ss ms ∷ fs) (nows.Keyed s) e = refl
 waits_there : (top : Bool) (now : Now) (s : Known) (x : Outcome) (start used end a b c d : ℕ)
     → (waits_now top (now_at end now) (outcome_at a b c d x) || in_segment (now_at end now) (known_at start used s)) ≡ (waits_now top now x || in_segment now s)
 waits_there top (nows.Pending h y) s x t u e a b c d = ap (λ w. w || false) (symbol_there x a b c d)
-waits_there top (nows.Long w y) s x t u e a b c d = ap (λ k. k || has_segment (begun_in (known_at t u s))) (long_there top x a b c d) ∙ ap (λ k. long_waits top x || k) (segment_there s t u)
+waits_there top (nows.Long w y) s x t u e a b c d = ap (λ k. k || has_segment (begun_in (known_at t u s))) (long_there top x a b c d)
+    ∙ ap (λ k. long_waits top x || k) (segment_there s t u)
 waits_there top (nows.LongName w) s x t u e a b c d = ap (λ k. k || false) (long_there false x a b c d)
 waits_there top nows.Ready s x t u e a b c d = refl
 waits_there top nows.After s x t u e a b c d = refl
@@ -198,7 +201,8 @@ within_there i i' s s' e e' x y h = by (nat_le e (s + i)) (nat_le e' (s' + i'))
     by true false = shut' x
     by false c = tt
 
-same_reading : (start end start' end' : ℕ) (c : List Slot) (fs : List Frame) (ss : Symbols) (now : Now) → Readings (at start c fs ss (now_at end now)) (at start' c fs ss (now_at end' now))
+same_reading : (start end start' end' : ℕ) (c : List Slot) (fs : List Frame) (ss : Symbols) (now : Now)
+    → Readings (at start c fs ss (now_at end now)) (at start' c fs ss (now_at end' now))
 same_reading s e s' e' c fs ss (nows.Pending h x) = record { begin = s'; end = e'; is = refl }
 same_reading s e s' e' c fs ss (nows.Long w x) = record { begin = s'; end = e'; is = refl }
 same_reading s e s' e' c fs ss nows.Ready = record { begin = s'; end = e'; is = refl }
@@ -216,7 +220,8 @@ module _ (g : Catalog) (l l' : Limits) where
     ended_there : (fs : List Frame) (v : Value) → Turns (ended (under g l) (spot_at end start c) fs v) (ended (under g l') (spot_at end' start' c) fs v)
     ended_there [] v = by (is_table v)
       where
-        by : (b : Bool) → Turns (if b then turned l.item start end (next c v g) else within l.item start end (gives v (fresh c))) (if b then turned l'.item start' end' (next c v g) else within l'.item start' end' (gives v (fresh c)))
+        by : (b : Bool) → Turns (if b then turned l.item start end (next c v g) else within l.item start end (gives v (fresh c)))
+            (if b then turned l'.item start' end' (next c v g) else within l'.item start' end' (gives v (fresh c)))
         by true = turned_there (next c v g)
         by false = within_there l.item l'.item start start' end end' (gives v (fresh c)) (gives v (fresh c)) (refl, same_reading 0 0 0 0 c [] [] nows.Ready)
     ended_there (frames.List ss vs ∷ fs) v = same_reading start 0 start' 0 c (frames.List ss (vs ++ v ∷ []) ∷ fs) [] nows.After
@@ -224,12 +229,15 @@ module _ (g : Catalog) (l l' : Limits) where
     ended_there (frames.Named ss ms name ∷ fs) v = record { begin = start'; end = 0; is = refl }
     ended_there (frames.Fields ss ms ∷ fs) v = tt
 
-    paid_there : (fs : List Frame) (ss : Symbols) (q : Result Payload Reason) → Turns (paid (under g l) (spot_at end start c) fs ss q) (paid (under g l') (spot_at end' start' c) fs ss q)
+    paid_there : (fs : List Frame) (ss : Symbols) (q : Result Payload Reason)
+        → Turns (paid (under g l) (spot_at end start c) fs ss q) (paid (under g l') (spot_at end' start' c) fs ss q)
     paid_there fs ss (Ok q) = ended_there fs (annotated ss q)
     paid_there fs ss (Err e) = tt
 
-    released_there : (fs : List Frame) (ss : Symbols) (h : Held) → Turns (released (under g l) (spot_at end start c) fs ss h) (released (under g l') (spot_at end' start' c) fs ss h)
-    released_there [] [] (helds.Version true s) = within_there l.item l'.item start start' end end' (goes (fresh system_slots)) (goes (fresh system_slots)) (same_reading 0 0 0 0 system_slots [] [] nows.Ready)
+    released_there : (fs : List Frame) (ss : Symbols) (h : Held)
+        → Turns (released (under g l) (spot_at end start c) fs ss h) (released (under g l') (spot_at end' start' c) fs ss h)
+    released_there [] [] (helds.Version true s) = within_there l.item l'.item start start' end end' (goes (fresh system_slots)) (goes (fresh system_slots))
+        (same_reading 0 0 0 0 system_slots [] [] nows.Ready)
     released_there [] [] (helds.Version false s) = tt
     released_there [] [] (helds.Symbol s) = paid_there [] [] (held_payload (helds.Symbol s))
     released_there [] [] (helds.Null k) = paid_there [] [] (held_payload (helds.Null k))
@@ -263,7 +271,8 @@ module _ (g : Catalog) (l l' : Limits) where
     bare_there [] x y h = h
     bare_there (s ∷ ss) x y h = tt
 
-    deeper_there : (fs : List Frame) (r q : Reading) (x y : Turn) → Readings r q → Turns x (goes q) → ((t : Turn) → Turns t y) → Turns (deeper l.depth fs (goes r) x) (deeper l'.depth fs (goes q) y)
+    deeper_there : (fs : List Frame) (r q : Reading) (x y : Turn) → Readings r q → Turns x (goes q) → ((t : Turn) → Turns t y)
+        → Turns (deeper l.depth fs (goes r) x) (deeper l'.depth fs (goes q) y)
     deeper_there fs r q x y h k n = by (nat_lt (length fs) l.depth) (nat_lt (length fs) l'.depth)
       where
         by : (b d : Bool) → Turns (if b then goes r else x) (if d then goes q else y)
@@ -284,17 +293,20 @@ module _ (g : Catalog) (l l' : Limits) where
     late_never e q (refuses f) = tt
     late_never e q (late f r) = tt
 
-    resolved_there : (f h : Option (List ℕ) → Turn) (r : Result (Option (List ℕ)) Reason) → ((s : Option (List ℕ)) → Turns (f s) (h s)) → Turns (resolved r f) (resolved r h)
+    resolved_there : (f h : Option (List ℕ) → Turn) (r : Result (Option (List ℕ)) Reason) → ((s : Option (List ℕ)) → Turns (f s) (h s))
+        → Turns (resolved r f) (resolved r h)
     resolved_there f h (Ok s) k = k s
     resolved_there f h (Err e) k = tt
 
     waiting : (fs : List Frame) (ss : Symbols) (now : Now) → Readings (at start c fs ss (now_at end now)) (at start' c fs ss (now_at end' now))
     waiting fs ss now = same_reading start end start' end' c fs ss now
 
-    ready_there : (fs : List Frame) (ss : Symbols) (x : Content) → Turns (on_ready (under g l) (spot_at end start c) fs ss x) (on_ready (under g l') (spot_at end' start' c) fs ss x)
+    ready_there : (fs : List Frame) (ss : Symbols) (x : Content)
+        → Turns (on_ready (under g l) (spot_at end start c) fs ss x) (on_ready (under g l') (spot_at end' start' c) fs ss x)
     ready_there fs ss (Word w) = record { begin = start'; end = end'; is = refl }
     ready_there fs ss (Id id) =
-        resolved_there (λ s. goes (at start c fs ss (nows.Pending (helds.Symbol s) end))) (λ s. goes (at start' c fs ss (nows.Pending (helds.Symbol s) end'))) (resolve c id) (λ s. record { begin = start'; end = end'; is = refl })
+        resolved_there (λ s. goes (at start c fs ss (nows.Pending (helds.Symbol s) end))) (λ s. goes (at start' c fs ss (nows.Pending (helds.Symbol s) end')))
+        (resolve c id) (λ s. record { begin = start'; end = end'; is = refl })
     ready_there fs ss (Quoted w) = record { begin = start'; end = end'; is = refl }
     ready_there fs ss (TypedNull k) = record { begin = start'; end = end'; is = refl }
     ready_there fs ss (Long w) = record { begin = start'; end = end'; is = refl }
@@ -304,14 +316,19 @@ module _ (g : Catalog) (l l' : Limits) where
     ready_there fs ss (Clob w) = ended_there fs (annotated ss (payloads.Clob w))
     ready_there fs ss (Blob w) = ended_there fs (annotated ss (payloads.Blob w))
     ready_there fs ss (Mark' marks.ListOpen) =
-        deeper_there fs (at start c (frames.List ss [] ∷ fs) [] nows.Ready) (at start' c (frames.List ss [] ∷ fs) [] nows.Ready) (refuses reasons.Depth) (refuses reasons.Depth) (record { begin = start'; end = 0; is = refl }) tt (never reasons.Depth)
+        deeper_there fs (at start c (frames.List ss [] ∷ fs) [] nows.Ready) (at start' c (frames.List ss [] ∷ fs) [] nows.Ready) (refuses reasons.Depth)
+        (refuses reasons.Depth) (record { begin = start'; end = 0; is = refl }) tt (never reasons.Depth)
     ready_there fs ss (Mark' marks.SexpOpen) =
-        deeper_there fs (at start c (frames.Sexp ss [] ∷ fs) [] nows.Ready) (at start' c (frames.Sexp ss [] ∷ fs) [] nows.Ready) (refuses reasons.Depth) (refuses reasons.Depth) (record { begin = start'; end = 0; is = refl }) tt (never reasons.Depth)
+        deeper_there fs (at start c (frames.Sexp ss [] ∷ fs) [] nows.Ready) (at start' c (frames.Sexp ss [] ∷ fs) [] nows.Ready) (refuses reasons.Depth)
+        (refuses reasons.Depth) (record { begin = start'; end = 0; is = refl }) tt (never reasons.Depth)
     ready_there fs ss (Mark' marks.FieldsOpen) =
         deeper_there fs (at start c (frames.Fields ss [] ∷ fs) [] nows.Name) (at start' c (frames.Fields ss [] ∷ fs) [] nows.Name)
-        (late reasons.Depth (at start c (frames.Fields ss [] ∷ fs) [] nows.Name)) (late reasons.Depth (at start' c (frames.Fields ss [] ∷ fs) [] nows.Name)) (record { begin = start'; end = 0; is = refl }) tt (late_never reasons.Depth (at start' c (frames.Fields ss [] ∷ fs) [] nows.Name))
-    ready_there fs ss (Mark' marks.ListClose) = bare_there ss (list_closed (under g l) (spot_at end start c) fs) (list_closed (under g l') (spot_at end' start' c) fs) (list_there fs)
-    ready_there fs ss (Mark' marks.SexpClose) = bare_there ss (sexp_closed (under g l) (spot_at end start c) fs) (sexp_closed (under g l') (spot_at end' start' c) fs) (sexp_there fs)
+        (late reasons.Depth (at start c (frames.Fields ss [] ∷ fs) [] nows.Name)) (late reasons.Depth (at start' c (frames.Fields ss [] ∷ fs) [] nows.Name))
+        (record { begin = start'; end = 0; is = refl }) tt (late_never reasons.Depth (at start' c (frames.Fields ss [] ∷ fs) [] nows.Name))
+    ready_there fs ss (Mark' marks.ListClose) = bare_there ss (list_closed (under g l) (spot_at end start c) fs)
+        (list_closed (under g l') (spot_at end' start' c) fs) (list_there fs)
+    ready_there fs ss (Mark' marks.SexpClose) = bare_there ss (sexp_closed (under g l) (spot_at end start c) fs)
+        (sexp_closed (under g l') (spot_at end' start' c) fs) (sexp_there fs)
     ready_there fs ss (Mark' marks.FieldsClose) = tt
     ready_there fs ss (Mark' marks.Comma) = tt
     ready_there fs ss (Mark' marks.Colon) = tt
@@ -356,7 +373,8 @@ module _ (g : Catalog) (l l' : Limits) where
     pending_there fs ss h (Mark' marks.Colon) = tt
     pending_there fs ss h (Mark' marks.Colons) = noted_there fs ss (held_symbol h)
 
-    on_long_there : (fs : List Frame) (ss : Symbols) (w : List ℕ) (x : Content) → Turns (on_long (spot_at end start c) fs ss w x) (on_long (spot_at end' start' c) fs ss w x)
+    on_long_there : (fs : List Frame) (ss : Symbols) (w : List ℕ) (x : Content)
+        → Turns (on_long (spot_at end start c) fs ss w x) (on_long (spot_at end' start' c) fs ss w x)
     on_long_there fs ss w (Word w') = tt
     on_long_there fs ss w (Id id) = tt
     on_long_there fs ss w (Quoted w') = tt
@@ -401,10 +419,12 @@ module _ (g : Catalog) (l l' : Limits) where
     name_there : (fs : List Frame) (x : Content) → Turns (on_name (under g l) (spot_at end start c) fs x) (on_name (under g l') (spot_at end' start' c) fs x)
     name_there fs (Word w') = by (is_keyword w')
       where
-        by : (b : Bool) → Turns (if b then late reasons.KeywordAsName (keyed start c fs (Some w')) else goes (keyed start c fs (Some w'))) (if b then late reasons.KeywordAsName (keyed start' c fs (Some w')) else goes (keyed start' c fs (Some w')))
+        by : (b : Bool) → Turns (if b then late reasons.KeywordAsName (keyed start c fs (Some w')) else goes (keyed start c fs (Some w')))
+            (if b then late reasons.KeywordAsName (keyed start' c fs (Some w')) else goes (keyed start' c fs (Some w')))
         by true = tt
         by false = record { begin = start'; end = 0; is = refl }
-    name_there fs (Id id) = resolved_there (λ s. goes (keyed start c fs s)) (λ s. goes (keyed start' c fs s)) (resolve c id) (λ s. record { begin = start'; end = 0; is = refl })
+    name_there fs (Id id) = resolved_there (λ s. goes (keyed start c fs s)) (λ s. goes (keyed start' c fs s)) (resolve c id)
+        (λ s. record { begin = start'; end = 0; is = refl })
     name_there fs (Quoted w') = record { begin = start'; end = 0; is = refl }
     name_there fs (Short w') = record { begin = start'; end = 0; is = refl }
     name_there fs (Long w') = record { begin = start'; end = 0; is = refl }
@@ -475,7 +495,8 @@ module _ (g : Catalog) (l l' : Limits) where
   turn_there s t c fs ss (nows.LongName w) e i j i' j' x = long_name_there j s j' t c fs w x
   turn_there s t c fs ss (nows.Keyed n) e i j i' j' x = keyed_there j s j' t c fs n x
 
-  settle_there : (start begin : ℕ) (c : List Slot) (fs : List Frame) (ss : Symbols) (now : Now) (end : ℕ) → Turns (settle g l (at start c fs ss now)) (settle g l' (at begin c fs ss (now_at end now)))
+  settle_there : (start begin : ℕ) (c : List Slot) (fs : List Frame) (ss : Symbols) (now : Now) (end : ℕ)
+      → Turns (settle g l (at start c fs ss now)) (settle g l' (at begin c fs ss (now_at end now)))
   settle_there s t c fs ss (nows.Pending h y) e = released_there y s e t c fs ss h
   settle_there s t c fs ss (nows.Long w y) e = ended_there y s e t c fs (annotated ss (payloads.Str w))
   settle_there s t c fs ss (nows.LongName w) e = record { begin = t; end = 0; is = refl }
@@ -508,7 +529,8 @@ module _ (g : Catalog) (l l' : Limits) where
   states s a b r q h = record { start = a; used = b; begin = h.begin; end = h.end; is = ap (with_scan (known_at a b s)) h.is }
 
   noticed_there : (s : Known) (start used : ℕ) (r q : Reading) → Readings r q → Effects (noticed l r s) (noticed l' q (known_at start used s))
-  noticed_there s a b r q h = by (shut r.now && not (is_idle s.mode)) (nat_le (reaches r.frames r s) l.item) (shut q.now && not (is_idle s.mode)) (nat_le (reaches q.frames q (known_at a b s)) l'.item)
+  noticed_there s a b r q h = by (shut r.now && not (is_idle s.mode)) (nat_le (reaches r.frames r s) l.item) (shut q.now && not (is_idle s.mode))
+      (nat_le (reaches q.frames q (known_at a b s)) l'.item)
     where
       by : (i j i' j' : Bool) → Effects (if i then fails reasons.Unexpected else (if j then uses (with_scan s r) else fails reasons.ItemTooLong))
           (if i' then fails reasons.Unexpected else (if j' then uses (with_scan (known_at a b s) q) else fails reasons.ItemTooLong))
@@ -547,17 +569,23 @@ module _ (g : Catalog) (l l' : Limits) where
     said_there f h (Ok c) k = k c
     said_there f h (Err e) k = tt
 
-    scan_there : (r : Reading) (begin end : ℕ) (x : Outcome) (start used from to : ℕ) → Effects (on_scan g l again r x) (on_scan g l' again' (reading_at begin end r) (outcome_at start used from to x))
+    scan_there : (r : Reading) (begin end : ℕ) (x : Outcome) (start used from to : ℕ)
+        → Effects (on_scan g l again r x) (on_scan g l' again' (reading_at begin end r) (outcome_at start used from to x))
     scan_there r t e (Next s) a b i j = noticed_there s a b r (reading_at t e r) (record { begin = t; end = e; is = refl })
     scan_there r t e (Given x s) a b i j =
-        said_there (λ c. behind_given l s (turn g l r (token_of x c))) (λ c. behind_given l' (known_at a b s) (turn g l' (reading_at t e r) (token_of (lexeme_at i j x) c))) (said x.kind x.octets)
-        (λ c. given_there s a b (turn g l r (token_of x c)) (turn g l' (reading_at t e r) (token_of (lexeme_at i j x) c)) (turn_there r.start t r.context r.frames r.notes r.now e x.start x.end i j c))
+        said_there (λ c. behind_given l s (turn g l r (token_of x c)))
+        (λ c. behind_given l' (known_at a b s) (turn g l' (reading_at t e r) (token_of (lexeme_at i j x) c))) (said x.kind x.octets)
+        (λ c. given_there s a b (turn g l r (token_of x c)) (turn g l' (reading_at t e r) (token_of (lexeme_at i j x) c))
+        (turn_there r.start t r.context r.frames r.notes r.now e x.start x.end i j c))
     scan_there r t e (Left x s) a b i j =
-        said_there (λ c. behind_left again s (turn g l r (token_of x c))) (λ c. behind_left again' (known_at a b s) (turn g l' (reading_at t e r) (token_of (lexeme_at i j x) c))) (said x.kind x.octets)
-        (λ c. left_there s a b (turn g l r (token_of x c)) (turn g l' (reading_at t e r) (token_of (lexeme_at i j x) c)) (turn_there r.start t r.context r.frames r.notes r.now e x.start x.end i j c))
+        said_there (λ c. behind_left again s (turn g l r (token_of x c)))
+        (λ c. behind_left again' (known_at a b s) (turn g l' (reading_at t e r) (token_of (lexeme_at i j x) c))) (said x.kind x.octets)
+        (λ c. left_there s a b (turn g l r (token_of x c)) (turn g l' (reading_at t e r) (token_of (lexeme_at i j x) c))
+        (turn_there r.start t r.context r.frames r.notes r.now e x.start x.end i j c))
     scan_there r t e (Refused n y) a b i j = tt
 
-    settled_there : (s : Known) (start used : ℕ) (x : Outcome) (start' used' from to : ℕ) (y z : Turn) → Turns y z → Effects (on_settled g l again s x y) (on_settled g l' again' (known_at start used s) (outcome_at start' used' from to x) z)
+    settled_there : (s : Known) (start used : ℕ) (x : Outcome) (start' used' from to : ℕ) (y z : Turn) → Turns y z
+        → Effects (on_settled g l again s x y) (on_settled g l' again' (known_at start used s) (outcome_at start' used' from to x) z)
     settled_there s a b x a' b' i j (goes r) (goes q) h =
         subst (λ q. Effects (on_scan g l again r x) (on_scan g l' again' q (outcome_at a' b' i j x))) (sym h.is) (scan_there r h.begin h.end x a' b' i j)
     settled_there s a b x a' b' i j (goes r) (gives w q) h = absurd h
@@ -570,9 +598,11 @@ module _ (g : Catalog) (l l' : Limits) where
     settled_there s a b x a' b' i j (refuses e) z h = tt
     settled_there s a b x a' b' i j (late e r) z h = worse_here e (on_scan g l again r x) (on_settled g l' again' (known_at a b s) (outcome_at a' b' i j x) z)
 
-    octet_there : (m : State) (start used begin end : ℕ) (x : Outcome) (start' used' from to : ℕ) → Effects (on_octet g l again m x) (on_octet g l' again' (state_at start used begin end m) (outcome_at start' used' from to x))
+    octet_there : (m : State) (start used begin end : ℕ) (x : Outcome) (start' used' from to : ℕ)
+        → Effects (on_octet g l again m x) (on_octet g l' again' (state_at start used begin end m) (outcome_at start' used' from to x))
     octet_there m a b t e x a' b' i j =
-        subst (λ k. Effects (on_octet g l again m x) (if k then there else elsewhere)) (sym (waits_there (is_top m.reading.frames) m.reading.now m.scan x a b e a' b' i j)) (by (unsettled m.scan m.reading x))
+        subst (λ k. Effects (on_octet g l again m x) (if k then there else elsewhere))
+        (sym (waits_there (is_top m.reading.frames) m.reading.now m.scan x a b e a' b' i j)) (by (unsettled m.scan m.reading x))
       where
         there : Effect
         there = on_scan g l' again' (reading_at t e m.reading) (outcome_at a' b' i j x)
@@ -580,16 +610,19 @@ module _ (g : Catalog) (l l' : Limits) where
         elsewhere : Effect
         elsewhere = on_settled g l' again' (known_at a b m.scan) (outcome_at a' b' i j x) (settle g l' (reading_at t e m.reading))
 
-        by : (k : Bool) → Effects (if k then on_scan g l again m.reading x else on_settled g l again m.scan x (settle g l m.reading)) (if k then there else elsewhere)
+        by : (k : Bool) → Effects (if k then on_scan g l again m.reading x else on_settled g l again m.scan x (settle g l m.reading))
+            (if k then there else elsewhere)
         by true = scan_there m.reading t e x a' b' i j
-        by false = settled_there m.scan a b x a' b' i j (settle g l m.reading) (settle g l' (reading_at t e m.reading)) (settle_there m.reading.start t m.reading.context m.reading.frames m.reading.notes m.reading.now e)
+        by false = settled_there m.scan a b x a' b' i j (settle g l m.reading) (settle g l' (reading_at t e m.reading))
+            (settle_there m.reading.start t m.reading.context m.reading.frames m.reading.notes m.reading.now e)
 
   abbrev Takes : ℕ → ℕ → Type 0
   Takes k o = (m : State) (start used begin end : ℕ) → Effects (takes g l k m o) (takes g l' k (state_at start used begin end m) o)
 
   once_more_there : (k o : ℕ) → Takes k o → Takes (suc k) o
   once_more_there k o rest m a b t e =
-      subst (λ y. Effects (on_octet g l (λ n. takes g l k n o) m (feed (place m.reading) m.scan o)) (on_octet g l' (λ n. takes g l' k n o) (state_at a b t e m) y)) (sym is)
+      subst (λ y. Effects (on_octet g l (λ n. takes g l k n o) m (feed (place m.reading) m.scan o))
+      (on_octet g l' (λ n. takes g l' k n o) (state_at a b t e m) y)) (sym is)
       (octet_there (λ n. takes g l k n o) (λ n. takes g l' k n o) on m a b t e (feed (place m.reading) m.scan o) f.start f.used f.from f.to)
     where
       f : Outcomes (feed (place m.reading) m.scan o) (feed (place m.reading) (known_at a b m.scan) o)
@@ -619,10 +652,12 @@ module _ (g : Catalog) (l l' : Limits) where
   first r = first_of r.given
 
   abbrev Firsts : List ℕ → Type 0
-  Firsts os = (to to' : ℕ) (m : State) (start used begin end : ℕ) → IsRead (run g l to m os).now → IsRead (run g l' to' (state_at start used begin end m) os).now → first (run g l to m os) ≡ first (run g l' to' (state_at start used begin end m) os)
+  Firsts os = (to to' : ℕ) (m : State) (start used begin end : ℕ) → IsRead (run g l to m os).now
+      → IsRead (run g l' to' (state_at start used begin end m) os).now → first (run g l to m os) ≡ first (run g l' to' (state_at start used begin end m) os)
 
   firsts_on : (o : ℕ) (os : List ℕ) → Firsts os → (to to' : ℕ) (x y : Effect) → Effects x y
-      → IsRead (run_on to (λ n. eats g l n o) (λ n. run g l (to + 1) n os) x).now → IsRead (run_on to' (λ n. eats g l' n o) (λ n. run g l' (to' + 1) n os) y).now
+      → IsRead (run_on to (λ n. eats g l n o) (λ n. run g l (to + 1) n os) x).now
+      → IsRead (run_on to' (λ n. eats g l' n o) (λ n. run g l' (to' + 1) n os) y).now
       → first (run_on to (λ n. eats g l n o) (λ n. run g l (to + 1) n os) x) ≡ first (run_on to' (λ n. eats g l' n o) (λ n. run g l' (to' + 1) n os) y)
   firsts_on o os rest to to' (uses n) (uses q) w h k =
       subst (λ q. IsRead (run g l' (to' + 1) q os).now → first (run g l (to + 1) n os) ≡ first (run g l' (to' + 1) q os)) (sym w.is)
@@ -646,7 +681,8 @@ module _ (g : Catalog) (l l' : Limits) where
 
   -- Where both are read, the first of their values is the same.
   pub one_value : (os : List ℕ) (to to' : ℕ) (m : State) (start used begin end : ℕ) (v w : Value) (n n' : ℕ) (p q : State)
-      → run g l to m os ≡ record { given = (v, n) ∷ []; now = Ok p } → run g l' to' (state_at start used begin end m) os ≡ record { given = (w, n') ∷ []; now = Ok q } → v ≡ w
+      → run g l to m os ≡ record { given = (v, n) ∷ []; now = Ok p } → run g l' to' (state_at start used begin end m) os
+      ≡ record { given = (w, n') ∷ []; now = Ok q } → v ≡ w
   one_value os to to' m a b t e v w n n' p q h k =
       let read : IsRead (run g l to m os).now = subst (λ (r : Run). IsRead r.now) (sym h) tt in
       let read' : IsRead (run g l' to' (state_at a b t e m) os).now = subst (λ (r : Run). IsRead r.now) (sym k) tt in

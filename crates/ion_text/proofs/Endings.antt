@@ -28,39 +28,48 @@ module _ (g : Catalog) (l : Limits) (used : ℕ) where
   open_same x e (refuses f) = refl
   open_same x e (late f r) = refl
 
-  pub waiting_none : (x : Result (Option Lexeme) Reason) (t : Turn) (result : Result (Option Value) Reason) → Ends used x (Ok None) → DidEnd used (end_settled used t) result → DidEnd used (end_waiting g l used x t) result
+  pub waiting_none : (x : Result (Option Lexeme) Reason) (t : Turn) (result : Result (Option Value) Reason) → Ends used x (Ok None)
+      → DidEnd used (end_settled used t) result → DidEnd used (end_waiting g l used x t) result
   waiting_none (Ok None) t result h d = d
   waiting_none (Ok (Some x)) t result h d = absurd h
   waiting_none (Err e) t result h d = absurd h
 
-  opens : (x : Result (Option Lexeme) Reason) (t : Turn) (result : Result (Option Value) Reason) → (x ≡ Ok None → ⊥) → ((e : Reason) → DidEnd used (end_waiting g l used (Err e) t) result) → DidEnd used (end_waiting g l used x t) result
+  opens : (x : Result (Option Lexeme) Reason) (t : Turn) (result : Result (Option Value) Reason) → (x ≡ Ok None → ⊥)
+      → ((e : Reason) → DidEnd used (end_waiting g l used (Err e) t) result) → DidEnd used (end_waiting g l used x t) result
   opens (Ok None) t result h d = absurd (h refl)
-  opens (Ok (Some x)) t result h d = end_same used (end_waiting g l used (Ok (Some x)) t) (end_waiting g l used (Err Memory) t) result (open_same x Memory t) (d Memory)
+  opens (Ok (Some x)) t result h d = end_same used (end_waiting g l used (Ok (Some x)) t) (end_waiting g l used (Err Memory) t) result (open_same x Memory t)
+      (d Memory)
   opens (Err e) t result h d = d e
 
-  pub waiting_token : (x : Result (Option Lexeme) Reason) (t : Turn) (found : Found) (result : Result (Option Value) Reason) → Ends used x (Ok (Some found)) → ((e : Reason) → DidEnd used (end_waiting g l used (Err e) t) result) → DidEnd used (end_waiting g l used x t) result
+  pub waiting_token : (x : Result (Option Lexeme) Reason) (t : Turn) (found : Found) (result : Result (Option Value) Reason) → Ends used x (Ok (Some found))
+      → ((e : Reason) → DidEnd used (end_waiting g l used (Err e) t) result) → DidEnd used (end_waiting g l used x t) result
   waiting_token x t found result h d = opens x t result (λ e. some (subst (λ (y : Result (Option Lexeme) Reason). Ends used y (Ok (Some found))) e h)) d
     where
       some : Some found ≡ None → ⊥
       some e = cc
 
-  pub waiting_refused : (x : Result (Option Lexeme) Reason) (t : Turn) (r : Refusal) (result : Result (Option Value) Reason) → Ends used x (Err r) → r.reason ≢ Memory → ((e : Reason) → DidEnd used (end_waiting g l used (Err e) t) result) → DidEnd used (end_waiting g l used x t) result
+  pub waiting_refused : (x : Result (Option Lexeme) Reason) (t : Turn) (r : Refusal) (result : Result (Option Value) Reason) → Ends used x (Err r)
+      → r.reason ≢ Memory → ((e : Reason) → DidEnd used (end_waiting g l used (Err e) t) result) → DidEnd used (end_waiting g l used x t) result
   waiting_refused x t r result h other d = opens x t result (λ e. subst (λ (y : Result (Option Lexeme) Reason). Ends used y (Err r)) e h other) d
 
   module _ (r : Reading) where
-    pub ready_refused : (x : Result (Option Lexeme) Reason) (refusal : Refusal) → Ends used x (Err refusal) → DidEnd used (end_ready g l used r x) (Err refusal.reason)
+    pub ready_refused : (x : Result (Option Lexeme) Reason) (refusal : Refusal) → Ends used x (Err refusal)
+        → DidEnd used (end_ready g l used r x) (Err refusal.reason)
     ready_refused (Ok None) refusal h = λ other. absurd (h other)
-    ready_refused (Ok (Some x)) refusal h = λ other. ap (end_said g l used r x) (one_body x.kind x.octets (said x.kind x.octets) (Err refusal.reason) (says x.kind x.octets) (h other).says)
+    ready_refused (Ok (Some x)) refusal h = λ other. ap (end_said g l used r x)
+        (one_body x.kind x.octets (said x.kind x.octets) (Err refusal.reason) (says x.kind x.octets) (h other).says)
     ready_refused (Err e) refusal h = λ other. ap (λ (q : Refusal). Err (record { offset = used; reason = q.reason })) (sym (h other))
 
-    pub ready_token : (x : Result (Option Lexeme) Reason) (found : Found) (result : Result (Option Value) Reason) → Ends used x (Ok (Some found)) → DidEnd used (end_turned g l used (turn g l r (token_in found))) result → DidEnd used (end_ready g l used r x) result
+    pub ready_token : (x : Result (Option Lexeme) Reason) (found : Found) (result : Result (Option Value) Reason) → Ends used x (Ok (Some found))
+        → DidEnd used (end_turned g l used (turn g l r (token_in found))) result → DidEnd used (end_ready g l used r x) result
     ready_token (Ok None) found result h d = absurd cc
     ready_token (Ok (Some x)) found result h d =
         end_same used (end_ready g l used r (Ok (Some x))) (end_turned g l used (turn g l r (token_in found))) result
         (ap (end_said g l used r x) (said_so x found h) ∙ ap (λ t. end_turned g l used (turn g l r t)) (token_so x found h)) d
     ready_token (Err e) found result h d = absurd h
 
-  pub turned_goes : (t : Turn) (r : Reading) (h : Catalog) (k : Limits) (result : Result (Option Value) Reason) → t ≡ goes r → h ≡ g → k ≡ l → DidEnd used (end_settled used (settle h k r)) result → DidEnd used (end_turned g l used t) result
+  pub turned_goes : (t : Turn) (r : Reading) (h : Catalog) (k : Limits) (result : Result (Option Value) Reason) → t ≡ goes r → h ≡ g → k ≡ l
+      → DidEnd used (end_settled used (settle h k r)) result → DidEnd used (end_turned g l used t) result
   turned_goes t r h k result e i j d =
       end_same used (end_turned g l used t) (end_settled used (settle h k r)) result
       (ap (end_turned g l used) e ∙ (ap (λ x. end_settled used (settle x l r)) (sym i) ∙ ap (λ x. end_settled used (settle h x r)) (sym j))) d

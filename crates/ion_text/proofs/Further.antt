@@ -21,19 +21,23 @@ use Rattle.ion_text.specs.laws.reading.Stands.{behind, further}
 use Rattle.ion_text.specs.machine.Progress.{resumed, BeginsWith, StopsBefore, Advances, Ran, Stands, SameSettings, StaysSteady, failed, octets_used}
 
 module _ (g : Catalog) (l : Limits) where
-  begins_take : (awaited : Option ℕ) (piece : List ℕ) (used : ℕ) → BeginsWith awaited piece → (is_some awaited ≡ true → 0 < used) → BeginsWith awaited (take used piece)
+  begins_take : (awaited : Option ℕ) (piece : List ℕ) (used : ℕ) → BeginsWith awaited piece → (is_some awaited ≡ true → 0 < used)
+      → BeginsWith awaited (take used piece)
   begins_take None piece used h some = tt
   begins_take (Some o) piece zero h some = absurd (omega (arith, some refl))
   begins_take (Some o) piece (suc used) h some = (take used h.0, ap (take (suc used)) h.1)
 
-  module _ (to : ℕ) (u : List ℕ) (s : List (Value × ℕ)) (m now : State) (awaited : Option ℕ) (piece : List ℕ) (e : to ≡ length u) (ran : Ran g l u s m awaited) (begins : BeginsWith awaited piece) where
+  module _ (to : ℕ) (u : List ℕ) (s : List (Value × ℕ)) (m now : State) (awaited : Option ℕ) (piece : List ℕ) (e : to ≡ length u) (ran : Ran g l u s m awaited)
+      (begins : BeginsWith awaited piece) where
     -- behind what a step used
-    led_there : (used : ℕ) → (is_some awaited ≡ true → 0 < used) → (n : State) → resumed g l (is_some awaited) to m (take used piece) ≡ led n → run g l 0 begun (u ++ take used piece) ≡ record { given = s; now = Ok n }
+    led_there : (used : ℕ) → (is_some awaited ≡ true → 0 < used) → (n : State) → resumed g l (is_some awaited) to m (take used piece) ≡ led n
+        → run g l 0 begun (u ++ take used piece) ≡ record { given = s; now = Ok n }
     led_there used some n h =
         further g l to u (take used piece) s m awaited e ran (begins_take awaited piece used begins some)
         ∙ (ap (behind s) h ∙ ap (λ vs. record { given = vs; now = Ok n }) (append-nil s))
 
-    gave_there : (used : ℕ) (v : Value) → 0 < used → resumed g l (is_some awaited) to m (take used piece) ≡ record { given = (v, to + used) ∷ []; now = Ok now } → run g l 0 begun (u ++ take used piece) ≡ record { given = s ++ (v, length u + used) ∷ []; now = Ok now }
+    gave_there : (used : ℕ) (v : Value) → 0 < used → resumed g l (is_some awaited) to m (take used piece) ≡ record { given = (v, to + used) ∷ []; now = Ok now }
+        → run g l 0 begun (u ++ take used piece) ≡ record { given = s ++ (v, length u + used) ∷ []; now = Ok now }
     gave_there used v some h =
         let place : to + used ≡ length u + used = omega arith in
         further g l to u (take used piece) s m awaited e ran (begins_take awaited piece used begins (λ _. some))
@@ -46,7 +50,8 @@ module _ (g : Catalog) (l : Limits) where
     size used within = omega (arith, length-append u (take used piece), length-take-le used piece within)
 
     -- where the octet that is awaited then is handed in, the value is given before it
-    stopped : (used : ℕ) (v : Value) (o : ℕ) → used ≤ length piece → (h : StopsBefore g l (is_some awaited) to m piece used v o now) → IsFront (s ++ (v, length u + used) ∷ []) (trace g l (u ++ piece)).given
+    stopped : (used : ℕ) (v : Value) (o : ℕ) → used ≤ length piece → (h : StopsBefore g l (is_some awaited) to m piece used v o now)
+        → IsFront (s ++ (v, length u + used) ∷ []) (trace g l (u ++ piece)).given
     stopped used v o within h =
         let front = u ++ take used piece in
         let rest = h.next.0 in
@@ -60,7 +65,8 @@ module _ (g : Catalog) (l : Limits) where
         )
 
     -- a step that isn't refused answers what the trace says
-    answers_value : (used : ℕ) (value : Option Value) (next : Option ℕ) → Advances g l (is_some awaited) to m piece (Ok (record { used = used; value = value })) next now → Answers (trace g l) u s piece (Ok (record { used = used; value = value }))
+    answers_value : (used : ℕ) (value : Option Value) (next : Option ℕ) → Advances g l (is_some awaited) to m piece (Ok (record { used = used; value = value }))
+        next now → Answers (trace g l) u s piece (Ok (record { used = used; value = value }))
     answers_value used None (Some o) h = absurd h.1
     answers_value used None None h =
         let after = further g l to u piece s m awaited e ran begins ∙ ap (behind s) h.1.1 in
@@ -72,14 +78,17 @@ module _ (g : Catalog) (l : Limits) where
         (more.given.0, ap (λ w. (trace g l w).given) (sym (whole used)) ∙ (more.given.1 ∙ ap (λ vs. vs ++ more.given.0) front))
     answers_value used (Some v) (Some o) h = stopped used v o h.0 h.1
 
-    answers : (result : Result Step Refusal) (next : Option ℕ) → Advances g l (is_some awaited) to m piece result next now → Answers (trace g l) u s piece result
+    answers : (result : Result Step Refusal) (next : Option ℕ) → Advances g l (is_some awaited) to m piece result next now
+        → Answers (trace g l) u s piece result
     answers (Ok step) next h = answers_value step.used step.value next h
     answers (Err refusal) next h = λ other.
         let after = ap (trace_of g l) (further g l to u piece s m awaited e ran begins ∙ ap (behind s) (h other)) in
         (ap (λ t. t.given) after ∙ append-nil s, ap (λ t. t.refused) after)
 
     -- what is held then stands for the octets that were used, too
-    pub ran_further : (used : ℕ) (value : Option Value) (next : Option ℕ) → Advances g l (is_some awaited) to m piece (Ok (record { used = used; value = value })) next now → Ran g l (u ++ take used piece) (s ++ given_at value (length u + used)) now next
+    pub ran_further : (used : ℕ) (value : Option Value) (next : Option ℕ)
+        → Advances g l (is_some awaited) to m piece (Ok (record { used = used; value = value })) next now
+        → Ran g l (u ++ take used piece) (s ++ given_at value (length u + used)) now next
     ran_further used None (Some o) h = absurd h.1
     ran_further used None None h =
         let all : take used piece ≡ piece = let i = h.1.0 in grind (arith, common_steps) in
@@ -141,20 +150,28 @@ module _ (g : Catalog) (l : Limits) (r : Refusal) where
 -- a step is refused at an octet of its piece
 pub step_within : (old : TextReader) (now : State) (next : Option ℕ) (piece : List ℕ) (result : Result Step Refusal)
     → Advances old.catalog.now old.limits (is_some old.awaited) (octets_used old) (state_of old) piece result next now
-    → IfErr result (λ refusal. refusal.reason ≢ Memory → IsNone (failed old) → (octets_used old < refusal.offset) × (refusal.offset ≤ octets_used old + length piece))
+    → IfErr result (λ refusal. refusal.reason ≢ Memory → IsNone (failed old) → (octets_used old < refusal.offset)
+    × (refusal.offset ≤ octets_used old + length piece))
 step_within old now next piece (Ok step) advances = tt
 step_within old now next piece (Err refusal) advances =
-    λ other none. resumed_within old.catalog.now old.limits refusal (is_some old.awaited) (octets_used old) (state_of old) piece (ap (λ (x : Run). x.now) (advances other))
+    λ other none. resumed_within old.catalog.now old.limits refusal (is_some old.awaited) (octets_used old) (state_of old) piece
+    (ap (λ (x : Run). x.now) (advances other))
 
 -- a step of a reader that stands for u answers what the trace says
-pub step_answers : (old : TextReader) (now : State) (next : Option ℕ) (u : List ℕ) (s : List (Value × ℕ)) (piece : List ℕ) (result : Result Step Refusal) → Stands old u s → BeginsWith old.awaited piece
-    → Advances old.catalog.now old.limits (is_some old.awaited) (octets_used old) (state_of old) piece result next now → Answers (trace old.catalog.now old.limits) u s piece result
-step_answers old now next u s piece result h begins advances = answers old.catalog.now old.limits (octets_used old) u s (state_of old) now old.awaited piece h.counted h.ran begins result next advances
+pub step_answers : (old : TextReader) (now : State) (next : Option ℕ) (u : List ℕ) (s : List (Value × ℕ)) (piece : List ℕ) (result : Result Step Refusal)
+    → Stands old u s → BeginsWith old.awaited piece
+    → Advances old.catalog.now old.limits (is_some old.awaited) (octets_used old) (state_of old) piece result next now
+    → Answers (trace old.catalog.now old.limits) u s piece result
+step_answers old now next u s piece result h begins advances =
+    answers old.catalog.now old.limits (octets_used old) u s (state_of old) now old.awaited piece h.counted h.ran begins result next advances
 
 -- the reader stands for the octets that a step used, too
-pub step_stands : (old new : TextReader) (piece : List ℕ) (result : Result Step Refusal) → BeginsWith old.awaited piece → Advances old.catalog.now old.limits (is_some old.awaited) (octets_used old) (state_of old) piece result new.awaited (state_of new)
-    → IfOk result (λ step. octets_used new ≡ octets_used old + step.used) → IfOk result (λ _. IsFine new) → IfOk result (λ _. StaysSteady old new) → SameSettings old new
-    → IfOk result (λ step. (u : List ℕ) (s : List (Value × ℕ)) → Stands old u s → Stands new (u ++ take step.used piece) (s ++ given_at step.value (length u + step.used)))
+pub step_stands : (old new : TextReader) (piece : List ℕ) (result : Result Step Refusal) → BeginsWith old.awaited piece
+    → Advances old.catalog.now old.limits (is_some old.awaited) (octets_used old) (state_of old) piece result new.awaited (state_of new)
+    → IfOk result (λ step. octets_used new ≡ octets_used old + step.used) → IfOk result (λ _. IsFine new) → IfOk result (λ _. StaysSteady old new)
+    → SameSettings old new
+    → IfOk result (λ step. (u : List ℕ) (s : List (Value × ℕ)) → Stands old u s
+    → Stands new (u ++ take step.used piece) (s ++ given_at step.value (length u + step.used)))
 step_stands old new piece (Err refusal) begins advances counts fine steady same = tt
 step_stands old new piece (Ok step) begins advances counts fine steady same = λ u s h.
     let before = h.counted in
@@ -168,5 +185,6 @@ step_stands old new piece (Ok step) begins advances counts fine steady same = λ
           let octets = u ++ take step.used piece in
           subst (λ (g : Catalog). Ran g new.limits octets values (state_of new) new.awaited) (ap (λ (b : _). b.now) (sym same.catalog))
           (subst (λ (l : Limits). Ran old.catalog.now l octets values (state_of new) new.awaited) (sym same.limits)
-          (ran_further old.catalog.now old.limits (octets_used old) u s (state_of old) (state_of new) old.awaited piece h.counted h.ran begins step.used step.value new.awaited advances));
+          (ran_further old.catalog.now old.limits (octets_used old) u s (state_of old) (state_of new) old.awaited piece h.counted h.ran begins step.used
+          step.value new.awaited advances));
     }

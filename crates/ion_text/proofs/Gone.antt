@@ -8,11 +8,13 @@ use Rattle.ion_model.specs.Kept.{IsText, IsKept, KeptItems, no_items, an_item, K
 use Rattle.ion_text.proofs.Appended.{appended_two}
 
 -- behind an octet and the text of the next
-pub text_at : {X : Type 0} (by : ℕ) (text : X → List ℕ) (out marked new all : List ℕ) (xs : List X) (i : ℕ) (x : X) → i < length xs → x ≡ get_or xs i x → marked ≡ out ++ by ∷ [] → new ≡ marked ++ text x
+pub text_at : {X : Type 0} (by : ℕ) (text : X → List ℕ) (out marked new all : List ℕ) (xs : List X) (i : ℕ) (x : X) → i < length xs → x ≡ get_or xs i x
+    → marked ≡ out ++ by ∷ [] → new ≡ marked ++ text x
     → out ++ flat_map (λ y. by ∷ text y) (drop i xs) ≡ all → new ++ flat_map (λ y. by ∷ text y) (drop (i + 1) xs) ≡ all
 text_at by text out marked new all xs i x small is e f so_far =
     let rest = flat_map (λ y. by ∷ text y) (drop (i + 1) xs) in
-    ap (λ w. w ++ rest) (appended_two out marked new (by ∷ []) (text x) e f ∙ ap (λ y. out ++ by ∷ text y) is) ∙ append_assoc out (by ∷ text (get_or xs i x)) rest
+    ap (λ w. w ++ rest) (appended_two out marked new (by ∷ []) (text x) e f ∙ ap (λ y. out ++ by ∷ text y) is)
+    ∙ append_assoc out (by ∷ text (get_or xs i x)) rest
     ∙ ap (λ ys. out ++ flat_map (λ y. by ∷ text y) ys) (sym (drop_more xs i x small)) ∙ so_far
 
 pub items_end : (vs : List Value) (i : ℕ) → length vs ≤ i → (KeptItems (drop i vs) → KeptItems vs) → KeptItems vs

@@ -28,22 +28,26 @@ module _ (g : Catalog) (l : Limits) where
   once_same to again rest (leaves v m) h = absurd h
   once_same to again rest (fails e) h = refl
 
-  pub resumed_same : (again : Bool) (to : ℕ) (m : State) (o : ℕ) (os : List ℕ) → NotLeft (eats g l m o) → resumed g l again to m (o ∷ os) ≡ run g l to m (o ∷ os)
+  pub resumed_same : (again : Bool) (to : ℕ) (m : State) (o : ℕ) (os : List ℕ) → NotLeft (eats g l m o) → resumed g l again to m (o ∷ os)
+      ≡ run g l to m (o ∷ os)
   resumed_same false to m o os h = refl
   resumed_same true to m o os h = once_same to (λ n. eats g l n o) (λ n. run g l (to + 1) n os) (eats g l m o) h
 
   -- a value that came before the first octet would be the first that was given
-  first_given : (to : ℕ) (rest : State → Run) (again : State → Effect) (x : Effect) → ((v : Value) (r : Run) → run_on to again rest x ≡ with_value v to r → ⊥) → NotLeft x
+  first_given : (to : ℕ) (rest : State → Run) (again : State → Effect) (x : Effect) → ((v : Value) (r : Run) → run_on to again rest x ≡ with_value v to r → ⊥)
+      → NotLeft x
   first_given to rest again (uses m) h = tt
   first_given to rest again (tells v m) h = tt
   first_given to rest again (leaves v m) h = h v (once_more to rest (again m)) refl
   first_given to rest again (fails e) h = tt
 
-  pub not_left_nothing : (to : ℕ) (m : State) (o : ℕ) (os : List ℕ) (now : Result State Refusal) → run g l to m (o ∷ os) ≡ record { given = []; now = now } → NotLeft (eats g l m o)
+  pub not_left_nothing : (to : ℕ) (m : State) (o : ℕ) (os : List ℕ) (now : Result State Refusal) → run g l to m (o ∷ os) ≡ record { given = []; now = now }
+      → NotLeft (eats g l m o)
   not_left_nothing to m o os now e =
       first_given to (λ n. run g l (to + 1) n os) (λ n. eats g l n o) (eats g l m o) (λ v r i. no_cons (v, to) r.given (ap (λ (x : Run). x.given) (sym i ∙ e)))
 
-  pub not_left_later : (to k : ℕ) (v : Value) (m n : State) (o : ℕ) (os : List ℕ) → 0 < k → run g l to m (o ∷ os) ≡ record { given = (v, to + k) ∷ []; now = Ok n } → NotLeft (eats g l m o)
+  pub not_left_later : (to k : ℕ) (v : Value) (m n : State) (o : ℕ) (os : List ℕ) → 0 < k
+      → run g l to m (o ∷ os) ≡ record { given = (v, to + k) ∷ []; now = Ok n } → NotLeft (eats g l m o)
   not_left_later to k v m n o os some e =
       first_given to (λ n. run g l (to + 1) n os) (λ n. eats g l n o) (eats g l m o) (λ w r i. later (sym i ∙ e))
     where
@@ -61,7 +65,8 @@ pub record LeadsFromStart (g : Catalog) (l : Limits) (again : Bool) (to : ℕ) (
 
 module _ (g : Catalog) (l : Limits) (again : Bool) (to : ℕ) (start : State) (piece : List ℕ) where
   -- so they do where an octet follows that shows the end of no value before it
-  through : (i : ℕ) (m : State) → LeadsFromStart g l again to start piece i m → (o : ℕ) (os : List ℕ) → NotLeft g l (eats g l m o) → resumed g l again to start (take i piece ++ o ∷ os) ≡ run g l (to + i) m (o ∷ os)
+  through : (i : ℕ) (m : State) → LeadsFromStart g l again to start piece i m → (o : ℕ) (os : List ℕ) → NotLeft g l (eats g l m o)
+      → resumed g l again to start (take i piece ++ o ∷ os) ≡ run g l (to + i) m (o ∷ os)
   through zero m h o os nl =
       let same : to ≡ to + 0 = omega arith in
       ap (λ n. resumed g l again to n (o ∷ os)) (sym (h.fresh refl))
@@ -81,7 +86,8 @@ module _ (g : Catalog) (l : Limits) (again : Bool) (to : ℕ) (start : State) (p
 
   module _ (i : ℕ) (m : State) (before : LeadsFromStart g l again to start piece i m) where
     -- octets behind which a run is at a state lead there
-    leads_on : (k : ℕ) (n : State) → 0 < k → k ≤ length (drop i piece) → run g l (to + i) m (take k (drop i piece)) ≡ led n → LeadsFromStart g l again to start piece (i + k) n
+    leads_on : (k : ℕ) (n : State) → 0 < k → k ≤ length (drop i piece) → run g l (to + i) m (take k (drop i piece)) ≡ led n
+        → LeadsFromStart g l again to start piece (i + k) n
     leads_on k n some within e =
         let part = take k (drop i piece) in
         let size : length part ≡ k = length-take-le k (drop i piece) within in
@@ -93,7 +99,8 @@ module _ (g : Catalog) (l : Limits) (again : Bool) (to : ℕ) (start : State) (p
               ap (λ w. resumed g l again to start (w ++ rest)) (take-add i k piece)
               ∙ (ap (resumed g l again to start) (append_assoc (take i piece) part rest)
               ∙ (ap (λ w. resumed g l again to start (take i piece ++ (w ++ rest))) f.is
-              ∙ (through i m before f.octet (f.octets ++ rest) (not_left_nothing g l (to + i) m f.octet f.octets (Ok n) (ap (run g l (to + i) m) (sym f.is) ∙ e))
+              ∙ (through i m before f.octet (f.octets ++ rest) (not_left_nothing g l (to + i) m f.octet f.octets (Ok n)
+              (ap (run g l (to + i) m) (sym f.is) ∙ e))
               ∙ (ap (λ w. run g l (to + i) m (w ++ rest)) (sym f.is)
               ∙ (run-append g l (to + i) (to + i + k) part rest (omega arith) m
               ∙ (ap (λ r. then_run r (λ j. run g l (to + i + k) j rest)) e
@@ -102,12 +109,14 @@ module _ (g : Catalog) (l : Limits) (again : Bool) (to : ℕ) (start : State) (p
         }
 
     -- so do all octets of the piece, which give nothing more
-    ends_led : (k : ℕ) (n : State) → 0 < k → k ≤ length (drop i piece) → run g l (to + i) m (take k (drop i piece)) ≡ led n → resumed g l again to start (take (i + k) piece) ≡ led n
+    ends_led : (k : ℕ) (n : State) → 0 < k → k ≤ length (drop i piece) → run g l (to + i) m (take k (drop i piece)) ≡ led n
+        → resumed g l again to start (take (i + k) piece) ≡ led n
     ends_led k n some within e =
         ap (resumed g l again to start) (sym (append-nil (take (i + k) piece))) ∙ (leads_on k n some within e).onward [] (omega arith)
 
     -- a value that came with the last of them
-    ends_given : (k : ℕ) (v : Value) (n : State) → 0 < k → k ≤ length (drop i piece) → run g l (to + i) m (take k (drop i piece)) ≡ record { given = (v, to + i + k) ∷ []; now = Ok n }
+    ends_given : (k : ℕ) (v : Value) (n : State) → 0 < k → k ≤ length (drop i piece) → run g l (to + i) m (take k (drop i piece))
+        ≡ record { given = (v, to + i + k) ∷ []; now = Ok n }
         → resumed g l again to start (take (i + k) piece) ≡ record { given = (v, to + (i + k)) ∷ []; now = Ok n }
     ends_given k v n some within e =
         let part = take k (drop i piece) in
@@ -121,7 +130,8 @@ module _ (g : Catalog) (l : Limits) (again : Bool) (to : ℕ) (start : State) (p
         ∙ (e ∙ ap (λ j. record { given = (v, j) ∷ []; now = Ok n }) place))))
 
     -- a refusal
-    ends_refused : (refusal : Refusal) → 0 < length (drop i piece) → run g l (to + i) m (drop i piece) ≡ record { given = []; now = Err refusal } → resumed g l again to start piece ≡ record { given = []; now = Err refusal }
+    ends_refused : (refusal : Refusal) → 0 < length (drop i piece) → run g l (to + i) m (drop i piece) ≡ record { given = []; now = Err refusal }
+        → resumed g l again to start piece ≡ record { given = []; now = Err refusal }
     ends_refused refusal some e =
         let f = first (drop i piece) some in
         ap (resumed g l again to start) (sym (take-append-drop i piece))
@@ -148,7 +158,8 @@ pub leads_first : (g : Catalog) (l : Limits) (again : Bool) (to : ℕ) (start : 
 leads_first g l again to start piece = record { onward = λ rest h. absurd (omega arith); fresh = λ h. refl }
 
 -- at the end of the piece
-pub leads_to_end : (g : Catalog) (l : Limits) (again : Bool) (to : ℕ) (start m : State) (piece : List ℕ) (i : ℕ) → length piece ≤ i → (again ≡ true → 0 < length piece) → i ≤ length piece → LeadsFromStart g l again to start piece i m → resumed g l again to start piece ≡ led m
+pub leads_to_end : (g : Catalog) (l : Limits) (again : Bool) (to : ℕ) (start m : State) (piece : List ℕ) (i : ℕ) → length piece ≤ i
+    → (again ≡ true → 0 < length piece) → i ≤ length piece → LeadsFromStart g l again to start piece i m → resumed g l again to start piece ≡ led m
 leads_to_end g l again to start m piece i whole some within before = by again refl
   where
     all : take i piece ≡ piece
@@ -173,27 +184,37 @@ module _ (g : Catalog) (l : Limits) (again : Bool) (to : ℕ) (start m : State) 
   fits : (k : ℕ) → k ≤ length (take (length piece - i) (drop i piece)) → k ≤ length (drop i piece)
   fits k h = subst (λ (w : List ℕ). k ≤ length w) (whole_rest piece i) h
 
-  pub leads_by : (k : ℕ) (n : State) → 0 < k → k ≤ length (take (length piece - i) (drop i piece)) → run cat lim used m (take k (take (length piece - i) (drop i piece))) ≡ led n → LeadsFromStart g l again to start piece (i + k) n
+  pub leads_by : (k : ℕ) (n : State) → 0 < k → k ≤ length (take (length piece - i) (drop i piece))
+      → run cat lim used m (take k (take (length piece - i) (drop i piece))) ≡ led n → LeadsFromStart g l again to start piece (i + k) n
   leads_by k n some within e = leads_on g l again to start piece i m before k n some (fits k within) (part k (led n) e)
 
   -- the octets up to there are of the piece
   pub up_to : (k : ℕ) → i ≤ length piece → k ≤ length (take (length piece - i) (drop i piece)) → i + k ≤ length piece
   up_to k inside h = let j = fits k h in omega (arith, length-drop {A = ℕ})
 
-  pub leads_to_given : (k : ℕ) (given : Option Value) (n : State) → i ≤ length piece → 0 < k → k ≤ length (take (length piece - i) (drop i piece)) → GaveLast (run cat lim used m (take k (take (length piece - i) (drop i piece)))) (used + k) given n
+  pub leads_to_given : (k : ℕ) (given : Option Value) (n : State) → i ≤ length piece → 0 < k → k ≤ length (take (length piece - i) (drop i piece))
+      → GaveLast (run cat lim used m (take k (take (length piece - i) (drop i piece)))) (used + k) given n
       → Advances g l again to start piece (Ok (record { used = i + k; value = given })) None n
   leads_to_given k None n inside some within e = absurd e
   leads_to_given k (Some v) n inside some within e =
-      let place : used + k ≡ to + i + k = omega arith in
-      (up_to k inside within, (omega arith, ends_given g l again to start piece i m before k v n some (fits k within) (part k (record { given = (v, to + i + k) ∷ []; now = Ok n }) (e ∙ ap (λ j. record { given = (v, j) ∷ []; now = Ok n }) place))))
+      let place : used + k ≡ to + i + k = omega arith in (
+        up_to k inside within,
+        (
+          omega arith,
+          ends_given g l again to start piece i m before k v n some (fits k within)
+              (part k (record { given = (v, to + i + k) ∷ []; now = Ok n }) (e ∙ ap (λ j. record { given = (v, j) ∷ []; now = Ok n }) place)),
+        ),
+      )
 
-  pub leads_to_refused : (refusal : Refusal) → i < length piece → run cat lim used m (take (length piece - i) (drop i piece)) ≡ record { given = []; now = Err refusal } → resumed g l again to start piece ≡ record { given = []; now = Err refusal }
+  pub leads_to_refused : (refusal : Refusal) → i < length piece → run cat lim used m (take (length piece - i) (drop i piece))
+      ≡ record { given = []; now = Err refusal } → resumed g l again to start piece ≡ record { given = []; now = Err refusal }
   leads_to_refused refusal inside e =
       ends_refused g l again to start piece i m before refusal (omega (arith, length-drop {A = ℕ}))
       (here (drop i piece) (record { given = []; now = Err refusal }) (ap (λ w. run cat lim used m w) (sym (whole_rest piece i)) ∙ e))
 
   -- a value whose end the octet shows that comes next
-  pub leads_to_left : (k : ℕ) (given : Option Value) (n : State) → i ≤ length piece → (again ≡ true → 0 < i + k) → LedLeaving cat lim used m (take (length piece - i) (drop i piece)) k given n
+  pub leads_to_left : (k : ℕ) (given : Option Value) (n : State) → i ≤ length piece → (again ≡ true → 0 < i + k)
+      → LedLeaving cat lim used m (take (length piece - i) (drop i piece)) k given n
       → Advances g l again to start piece (Ok (record { used = i + k; value = given })) (Some (get_or piece (i + k) 0)) n
   leads_to_left k None n inside onward h = absurd h.left
   leads_to_left k (Some v) n inside onward h =
@@ -201,7 +222,8 @@ module _ (g : Catalog) (l : Limits) (again : Bool) (to : ℕ) (start m : State) 
       let f = fits k (omega arith) in
       let inner : k < length (drop i piece) = subst (λ (w : List ℕ). k < length w) (whole_rest piece i) w in
       let behind : i + k < length piece = omega (arith, length-drop {A = ℕ}) in
-      let octet : get_or (take (length piece - i) (drop i piece)) k 0 ≡ get_or piece (i + k) 0 = ap (λ w. get_or w k 0) (whole_rest piece i) ∙ get_or-drop i piece k 0 in (
+      let octet : get_or (take (length piece - i) (drop i piece)) k 0 ≡ get_or piece (i + k) 0 = ap (λ w. get_or w k 0) (whole_rest piece i)
+      ∙ get_or-drop i piece k 0 in (
         omega arith,
         record {
           before = h.before;
@@ -215,19 +237,22 @@ module _ (g : Catalog) (l : Limits) (again : Bool) (to : ℕ) (start m : State) 
         },
       )
     where
-      by : (k : ℕ) → k ≤ length (drop i piece) → (again ≡ true → 0 < i + k) → run g l (to + i) m (take k (drop i piece)) ≡ led h.before → resumed g l again to start (take (i + k) piece) ≡ led h.before
+      by : (k : ℕ) → k ≤ length (drop i piece) → (again ≡ true → 0 < i + k) → run g l (to + i) m (take k (drop i piece)) ≡ led h.before
+          → resumed g l again to start (take (i + k) piece) ≡ led h.before
       by zero f onward e = none again refl
         where
           same : i + 0 ≡ i
           same = omega arith
 
           none : (b : Bool) → again ≡ b → resumed g l again to start (take (i + 0) piece) ≡ led h.before
-          none true a = let some = onward a in ap (λ j. resumed g l again to start (take j piece)) same ∙ (ends_some g l again to start piece i m before (omega arith) ∙ e)
+          none true a = let some = onward a in ap (λ j. resumed g l again to start (take j piece)) same
+              ∙ (ends_some g l again to start piece i m before (omega arith) ∙ e)
           none false a = ap (λ j. resumed g l again to start (take j piece)) same ∙ (ends_here g l again to start piece i m before a ∙ e)
       by (suc k) f onward e = ends_led g l again to start piece i m before (suc k) h.before (omega arith) f e
 
   -- a second value whose end the first octet shows
-  pub leads_to_second : (k : ℕ) (given : Option Value) (n : State) → again ≡ true → i + k ≡ 0 → LedLeaving cat lim used m (take (length piece - i) (drop i piece)) k given n
+  pub leads_to_second : (k : ℕ) (given : Option Value) (n : State) → again ≡ true → i + k ≡ 0
+      → LedLeaving cat lim used m (take (length piece - i) (drop i piece)) k given n
       → resumed g l again to start piece ≡ record { given = []; now = Err (record { offset = to + 1; reason = reasons.Unexpected }) }
   leads_to_second k None n twice none h = absurd h.left
   leads_to_second k (Some v) n twice none h =
@@ -237,7 +262,8 @@ module _ (g : Catalog) (l : Limits) (again : Bool) (to : ℕ) (start m : State) 
       let there : m ≡ h.before = same_led m h.before ran in
       let w = h.within in
       let rest = whole_rest piece i in
-      let octet : get_or (take (length piece - i) (drop i piece)) k 0 ≡ get_or piece 0 0 = ap (λ w. get_or w k 0) rest ∙ (get_or-drop i piece k 0 ∙ ap (λ j. get_or piece j 0) none) in
+      let octet : get_or (take (length piece - i) (drop i piece)) k 0 ≡ get_or piece 0 0 =
+      ap (λ w. get_or w k 0) rest ∙ (get_or-drop i piece k 0 ∙ ap (λ j. get_or piece j 0) none) in
       let size = ap (λ (w : List ℕ). length w) rest in
       let eaten : eats g l start (get_or piece 0 0) ≡ leaves v n =
       ap (λ s. eats g l s (get_or piece 0 0)) (sym (before.fresh no_i) ∙ there)

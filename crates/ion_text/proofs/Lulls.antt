@@ -45,7 +45,8 @@ end_if : ℕ → Option Begun → ℕ
 end_if d None = d
 end_if d (Some b) = b.end
 
-long_within : (start used bound : ℕ) (end : ℕ) (w : List ℕ) (ss : Symbols) (b : Option Begun) (n : ℕ) → end ≤ start + bound → end_if 0 b ≤ used → used ≤ start + bound → longest_top start used (nows.Long w end) ss b n ≤ bound
+long_within : (start used bound : ℕ) (end : ℕ) (w : List ℕ) (ss : Symbols) (b : Option Begun) (n : ℕ) → end ≤ start + bound → end_if 0 b ≤ used
+    → used ≤ start + bound → longest_top start used (nows.Long w end) ss b n ≤ bound
 unfolding end_if
 long_within start used bound end w ss None n h e u = omega arith
 long_within start used bound end w ss (Some b) n h e u = let inside : b.end ≤ used = e in by inside (is_long_form b.form && not (n == 0)) where
@@ -53,13 +54,15 @@ long_within start used bound end w ss (Some b) n h e u = let inside : b.end ≤ 
   by inside true = omega arith
   by inside false = omega arith
 
-begun_end : (s : Known) (idle : Bool) → end_if 0 (if idle then None else Some (record { start = s.start; end = s.used - behind s.mode; form = form_of s.mode })) ≤ s.used
+begun_end : (s : Known) (idle : Bool) → end_if 0 (if idle then None else Some (record { start = s.start; end = s.used - behind s.mode; form = form_of s.mode }))
+    ≤ s.used
 unfolding end_if
 begun_end s true = omega arith
 begun_end s false = let inside : s.used - behind s.mode ≤ s.used = omega arith in inside
 
 -- the open item has at most as many octets as the limit
-top_within : (start bound : ℕ) (n : Now) (s : Known) (ss : Symbols) (k : ℕ) → lulls n s.mode ≡ true → ended_so_far n ≤ start + bound → s.used ≤ start + bound → longest_top start s.used n ss (begun_in s) k ≤ bound
+top_within : (start bound : ℕ) (n : Now) (s : Known) (ss : Symbols) (k : ℕ) → lulls n s.mode ≡ true → ended_so_far n ≤ start + bound → s.used ≤ start + bound
+    → longest_top start s.used n ss (begun_in s) k ≤ bound
 top_within start bound nows.Ready s ss k l e u = absurd cc
 top_within start bound nows.Name s ss k l e u = absurd cc
 top_within start bound (nows.Pending h end) s ss k l e u = omega arith
@@ -68,13 +71,16 @@ top_within start bound nows.After s ss k l e u = omega arith
 top_within start bound (nows.LongName w) s ss k l e u = omega arith
 top_within start bound (nows.Keyed x) s ss k l e u = omega arith
 
-reach_within : (l : Limits) (r : Reading) (s : Known) (fs : List Frame) → lulls r.now s.mode ≡ true → ended_so_far r.now ≤ r.start + l.item → s.used ≤ r.start + l.item → reaches fs r s ≤ l.item
+reach_within : (l : Limits) (r : Reading) (s : Known) (fs : List Frame) → lulls r.now s.mode ≡ true → ended_so_far r.now ≤ r.start + l.item
+    → s.used ≤ r.start + l.item → reaches fs r s ≤ l.item
 reach_within l r s [] w e u = top_within r.start l.item r.now s r.notes (is_long_begun (begun_in s)) w e u
 reach_within l r s (f ∷ fs) w e u = omega arith
 
-lull_noticed : (l : Limits) (r : Reading) (s : Known) → lulls r.now s.mode ≡ true → ended_so_far r.now ≤ r.start + l.item → s.used ≤ r.start + l.item → noticed l r s ≡ uses (with_scan s r)
+lull_noticed : (l : Limits) (r : Reading) (s : Known) → lulls r.now s.mode ≡ true → ended_so_far r.now ≤ r.start + l.item → s.used ≤ r.start + l.item
+    → noticed l r s ≡ uses (with_scan s r)
 lull_noticed l r s w e u =
-    ap (λ b. if b then fails reasons.Unexpected else (if nat_le (reaches r.frames r s) l.item then uses (with_scan s r) else fails reasons.ItemTooLong)) (open_mode r.now s.mode w)
+    ap (λ b. if b then fails reasons.Unexpected else (if nat_le (reaches r.frames r s) l.item then uses (with_scan s r) else fails reasons.ItemTooLong))
+    (open_mode r.now s.mode w)
     ∙ ap (λ b. if b then uses (with_scan s r) else fails reasons.ItemTooLong) (le_true (reaches r.frames r s) l.item (reach_within l r s r.frames w e u))
   where
     le_true : (x y : ℕ) → x ≤ y → nat_le x y ≡ true
@@ -125,11 +131,13 @@ module _ (g : Catalog) (l : Limits) (r : Reading) where
       subst (λ x. OnNext x (λ t. (noticed l r t ≡ uses (with_scan t r)) × Quiet g l r p t os)) (sym one)
       (lull_noticed l r t w e (omega arith), quiet_lull p os t each.1 (record { waits = w; ended = e; room = omega arith }))
 
-  waiting_lull : (p : Place) (os : List ℕ) (s : Known) → Each (goes_on s.mode) os → lulls r.now s.mode ≡ true → ((t : Known) → lulls r.now t.mode ≡ true → waits r (Next t) ≡ true) → Waiting g l r p s os
+  waiting_lull : (p : Place) (os : List ℕ) (s : Known) → Each (goes_on s.mode) os → lulls r.now s.mode ≡ true
+      → ((t : Known) → lulls r.now t.mode ≡ true → waits r (Next t) ≡ true) → Waiting g l r p s os
   waiting_lull p [] s each lull more = tt
   waiting_lull p (o ∷ os) s each lull more =
       let t = gone_on s (o ∷ []) in
-      subst (λ x. (waits r x ≡ true) × OnNext x (λ k. AtEach (λ x. waits r x) p os k)) (sym (one_on p s o each.0)) (more t lull, waiting_lull p os t each.1 lull more)
+      subst (λ x. (waits r x ≡ true) × OnNext x (λ k. AtEach (λ x. waits r x) p os k)) (sym (one_on p s o each.0))
+      (more t lull, waiting_lull p os t each.1 lull more)
 
   -- a mark is awaited, or more of what waits
   waits_or_not : (start : ℕ) (c : List Slot) (fs : List Frame) (ss : Symbols) (top : Bool) (n : Now) (m : Mode) → lulls n m ≡ true
@@ -149,7 +157,8 @@ module _ (g : Catalog) (l : Limits) (r : Reading) where
     by (inr more) = inr (waiting_lull (place r) os s each lull more)
 
   -- the same over a text's characters, where each octet leads on in the text
-  quiet_text : (p : Place) (os : List ℕ) (s t : Known) → is_long_text s.mode ≡ true → scanning.run p os s ≡ Next t → IsLull l r s (length os) → Quiet g l r p s os
+  quiet_text : (p : Place) (os : List ℕ) (s t : Known) → is_long_text s.mode ≡ true → scanning.run p os s ≡ Next t → IsLull l r s (length os)
+      → Quiet g l r p s os
   quiet_text p [] s t long ran lull = tt
   quiet_text p (o ∷ os) s t long ran lull =
       through (feed p s o) (λ k. scanning.run p os k) t (Quiet g l r p s (o ∷ os)) ran
@@ -172,18 +181,21 @@ module _ (g : Catalog) (l : Limits) (r : Reading) where
       let w : lulls r.now k.mode ≡ true = text_lulls r.now s.mode k.mode lull long on in
       subst (λ x. (waits r x ≡ true) × OnNext x (λ k. AtEach (λ x. waits r x) p os k)) (sym went) (more k w, waiting_text p os k t on rest w more))
 
-  stays_text : (os : List ℕ) (s t : Known) → is_long_text s.mode ≡ true → scanning.run (place r) os s ≡ Next t → lulls r.now s.mode ≡ true → Stays g l r (place r) s os
+  stays_text : (os : List ℕ) (s t : Known) → is_long_text s.mode ≡ true → scanning.run (place r) os s ≡ Next t → lulls r.now s.mode ≡ true
+      → Stays g l r (place r) s os
   stays_text os s t long ran lull = by (waits_or_not r.start r.context r.frames r.notes (is_top r.frames) r.now s.mode lull) where
     by : (settle g l r ≡ goes r) ⊎ ((t : Known) → lulls r.now t.mode ≡ true → waits r (Next t) ≡ true) → Stays g l r (place r) s os
     by (inl e) = inl e
     by (inr more) = inr (waiting_text (place r) os s t long ran lull more)
 
   -- the run over them leads where the scanner is led
-  pub led_by_lull : (os : List ℕ) (s t : Known) → IsLull l r s (length os) → GoesOver s.mode os → ((p : Place) → scanning.run p os s ≡ Next t) → run g l s.used (with_scan s r) os ≡ led (with_scan t r)
+  pub led_by_lull : (os : List ℕ) (s t : Known) → IsLull l r s (length os) → GoesOver s.mode os → ((p : Place) → scanning.run p os s ≡ Next t)
+      → run g l s.used (with_scan s r) os ≡ led (with_scan t r)
   led_by_lull os s t lull over ran = by (each_or_text r.now s.mode os lull.waits over) where
     by : Each (goes_on s.mode) os ⊎ (is_long_text s.mode ≡ true) → run g l s.used (with_scan s r) os ≡ led (with_scan t r)
     by (inl each) = drive g l os s.used r s t (ran (place r)) (quiet_lull (place r) os s each lull) (stays_lull os s each lull.waits)
-    by (inr long) = drive g l os s.used r s t (ran (place r)) (quiet_text (place r) os s t long (ran (place r)) lull) (stays_text os s t long (ran (place r)) lull.waits)
+    by (inr long) = drive g l os s.used r s t (ran (place r)) (quiet_text (place r) os s t long (ran (place r)) lull)
+        (stays_text os s t long (ran (place r)) lull.waits)
 
 -- which uses them all
 pub used_by_lull : (os : List ℕ) (s t : Known) (p : Place) → scanning.run p os s ≡ Next t → t.used ≡ s.used + length os

@@ -24,7 +24,8 @@ told_same : (e f : Effect) (with_it : Value → State → Effect) (given : Optio
 told_same e f with_it None m h t = t
 told_same e f with_it (Some v) m h t = h ∙ t
 
-did_same : (e f : (State → Effect) → Effect) (result : Result Met Reason) (r : TextReader) → ((again : State → Effect) → e again ≡ f again) → DidMeet f result r → DidMeet e result r
+did_same : (e f : (State → Effect) → Effect) (result : Result Met Reason) (r : TextReader) → ((again : State → Effect) → e again ≡ f again) → DidMeet f result r
+    → DidMeet e result r
 did_same e f (Ok met.Uses) r h d = λ again. h again ∙ d again
 did_same e f (Ok met.Tells) r h d = λ again. told_same (e again) (f again) tells r.given (state_of r) (h again) (d again)
 did_same e f (Ok met.Leaves) r h d = λ again. told_same (e again) (f again) leaves r.given (state_of r) (h again) (d again)
@@ -41,30 +42,40 @@ token_so x t h =
     ∙ ap (λ n. record { start = t.start; end = n; said = content t.body }) (sym h.end)
 
 module _ (g : Catalog) (l : Limits) (r : Reading) where
-  on_given : (again : State → Effect) (x : Lexeme) (t : Found) (s now : Known) → now ≡ s → IsToken x t → on_scan g l again r (Given x s) ≡ behind_given l now (turn g l r (token_in t))
+  on_given : (again : State → Effect) (x : Lexeme) (t : Found) (s now : Known) → now ≡ s → IsToken x t → on_scan g l again r (Given x s)
+      ≡ behind_given l now (turn g l r (token_in t))
   on_given again x t s now e h =
       ap (λ y. on_said y (λ c. behind_given l s (turn g l r (token_of x c)))) (said_so x t h)
       ∙ (ap (λ k. behind_given l s (turn g l r k)) (token_so x t h)
       ∙ ap (λ k. behind_given l k (turn g l r (token_in t))) (sym e))
 
-  on_left : (again : State → Effect) (x : Lexeme) (t : Found) (s now : Known) → now ≡ s → IsToken x t → on_scan g l again r (Left x s) ≡ behind_left again now (turn g l r (token_in t))
+  on_left : (again : State → Effect) (x : Lexeme) (t : Found) (s now : Known) → now ≡ s → IsToken x t → on_scan g l again r (Left x s)
+      ≡ behind_left again now (turn g l r (token_in t))
   on_left again x t s now e h =
       ap (λ y. on_said y (λ c. behind_left again s (turn g l r (token_of x c)))) (said_so x t h)
       ∙ (ap (λ k. behind_left again s (turn g l r k)) (token_so x t h)
       ∙ ap (λ k. behind_left again k (turn g l r (token_in t))) (sym e))
 
-  refused_said : (again : State → Effect) (x : Lexeme) (e : Reason) (f : Content → Effect) → said x.kind x.octets ≡ Err e → on_said (said x.kind x.octets) f ≡ fails e
+  refused_said : (again : State → Effect) (x : Lexeme) (e : Reason) (f : Content → Effect) → said x.kind x.octets ≡ Err e → on_said (said x.kind x.octets) f
+      ≡ fails e
   refused_said again x e f h = ap (λ y. on_said y f) h
 
   -- the scanner refused
-  pub refused_meets : (before : ℕ) (x : Outcome) (refusal : Refusal) (now : Known) (new : TextReader) → Answers before x (Err refusal) now → MeetsWith g l r x (Err refusal) new
+  pub refused_meets : (before : ℕ) (x : Outcome) (refusal : Refusal) (now : Known) (new : TextReader) → Answers before x (Err refusal) now
+      → MeetsWith g l r x (Err refusal) new
   refused_meets before (Next s) refusal now new a = λ other. absurd (a other)
   refused_meets before (Given x s) refusal now new a = λ other.
-      let b = a other in
-      (b.offset, λ again. refused_said again x refusal.reason (λ c. behind_given l s (turn g l r (token_of x c))) (one_body x.kind x.octets (said x.kind x.octets) (Err refusal.reason) (says x.kind x.octets) b.says))
+      let b = a other in (
+        b.offset,
+        λ again. refused_said again x refusal.reason (λ c. behind_given l s (turn g l r (token_of x c)))
+            (one_body x.kind x.octets (said x.kind x.octets) (Err refusal.reason) (says x.kind x.octets) b.says),
+      )
   refused_meets before (Left x s) refusal now new a = λ other.
-      let b = a other in
-      (b.offset, λ again. refused_said again x refusal.reason (λ c. behind_left again s (turn g l r (token_of x c))) (one_body x.kind x.octets (said x.kind x.octets) (Err refusal.reason) (says x.kind x.octets) b.says))
+      let b = a other in (
+        b.offset,
+        λ again. refused_said again x refusal.reason (λ c. behind_left again s (turn g l r (token_of x c)))
+            (one_body x.kind x.octets (said x.kind x.octets) (Err refusal.reason) (says x.kind x.octets) b.says),
+      )
   refused_meets before (Refused n e) refusal now new a = λ other.
       let b = a other in
       (ap (λ (q : Refusal). q.offset) b, λ again. ap (λ (q : Refusal). fails q.reason) (sym b))
@@ -79,7 +90,8 @@ module _ (g : Catalog) (l : Limits) (r : Reading) where
   no_token before (Left x s) scan now a e = absurd (subst (λ t. GivesToken x t) e a.1)
   no_token before (Refused n y) scan now a e = absurd a
 
-  pub next_meets : (before : ℕ) (x : Outcome) (scan : Stepped) (now : Known) (new : TextReader) → Answers before x (Ok scan) now → scan.token ≡ None → scanned new.scanner ≡ now → noticed l r now ≡ uses (state_of new) → DidWhatCame g l r x met.Uses new
+  pub next_meets : (before : ℕ) (x : Outcome) (scan : Stepped) (now : Known) (new : TextReader) → Answers before x (Ok scan) now → scan.token ≡ None
+      → scanned new.scanner ≡ now → noticed l r now ≡ uses (state_of new) → DidWhatCame g l r x met.Uses new
   next_meets before x scan now new a e same did =
       let h = (no_token before x scan now a e).is in
       record {
@@ -88,7 +100,8 @@ module _ (g : Catalog) (l : Limits) (r : Reading) where
         left = ap is_left h;
       }
 
-  pub next_refused : (before : ℕ) (x : Outcome) (scan : Stepped) (now : Known) (refusal : Refusal) (reason : Reason) (new : TextReader) → Answers before x (Ok scan) now → scan.token ≡ None → noticed l r now ≡ fails reason
+  pub next_refused : (before : ℕ) (x : Outcome) (scan : Stepped) (now : Known) (refusal : Refusal) (reason : Reason) (new : TextReader)
+      → Answers before x (Ok scan) now → scan.token ≡ None → noticed l r now ≡ fails reason
       → refusal ≡ record { offset = now.used + 0; reason = reason } → MeetsWith g l r x (Err refusal) new
   next_refused before x scan now refusal reason new a e did same =
       let h = (no_token before x scan now a e).is in
@@ -107,52 +120,71 @@ module _ (g : Catalog) (l : Limits) (r : Reading) where
     is : x ≡ Left lexeme now
     token : IsToken lexeme t
 
-  given_token : (before : ℕ) (x : Outcome) (scan : Stepped) (t : Found) (now : Known) → Answers before x (Ok scan) now → scan.token ≡ Some t → scan.left ≡ false → GivenToken x t now
+  given_token : (before : ℕ) (x : Outcome) (scan : Stepped) (t : Found) (now : Known) → Answers before x (Ok scan) now → scan.token ≡ Some t → scan.left ≡ false
+      → GivenToken x t now
   given_token before (Next s) scan t now a e f = let n = a.1 in absurd cc
   given_token before (Given x s) scan t now a e f = record { lexeme = x; is = ap (λ k. Given x k) (sym a.0.known); token = subst (λ o. GivesToken x o) e a.1 }
   given_token before (Left x s) scan t now a e f = let n = a.2 in absurd cc
   given_token before (Refused n y) scan t now a e f = absurd a
 
-  left_token : (before : ℕ) (x : Outcome) (scan : Stepped) (t : Found) (now : Known) → Answers before x (Ok scan) now → scan.token ≡ Some t → scan.left ≡ true → LeftToken x t now
+  left_token : (before : ℕ) (x : Outcome) (scan : Stepped) (t : Found) (now : Known) → Answers before x (Ok scan) now → scan.token ≡ Some t → scan.left ≡ true
+      → LeftToken x t now
   left_token before (Next s) scan t now a e f = let n = a.1 in absurd cc
   left_token before (Given x s) scan t now a e f = let n = a.2 in absurd cc
   left_token before (Left x s) scan t now a e f = record { lexeme = x; is = ap (λ k. Left x k) (sym a.0.known); token = subst (λ o. GivesToken x o) e a.1 }
   left_token before (Refused n y) scan t now a e f = absurd a
 
-  pub given_meets : (before : ℕ) (x : Outcome) (scan : Stepped) (t : Found) (now : Known) (m : Met) (new : TextReader) → Answers before x (Ok scan) now → scan.token ≡ Some t → scan.left ≡ false
+  pub given_meets : (before : ℕ) (x : Outcome) (scan : Stepped) (t : Found) (now : Known) (m : Met) (new : TextReader) → Answers before x (Ok scan) now
+      → scan.token ≡ Some t → scan.left ≡ false
       → scanned new.scanner ≡ now → comes_again m ≡ false → DidMeet (λ _. behind_given l now (turn g l r (token_in t))) (Ok m) new → DidWhatCame g l r x m new
   given_meets before x scan t now m new a e f same ends did =
       let h = given_token before x scan t now a e f in
       record {
-        did = did_same (λ again. on_scan g l again r x) (λ _. behind_given l now (turn g l r (token_in t))) (Ok m) new (λ again. ap (λ y. on_scan g l again r y) h.is ∙ on_given again h.lexeme t now now refl h.token) did;
+        did = did_same (λ again. on_scan g l again r x) (λ _. behind_given l now (turn g l r (token_in t))) (Ok m) new
+            (λ again. ap (λ y. on_scan g l again r y) h.is ∙ on_given again h.lexeme t now now refl h.token) did;
         behind = subst (λ y. IsBehind y (scanned new.scanner)) (sym h.is) same;
         left = ap is_left h.is ∙ sym ends;
       }
 
-  pub given_refused : (before : ℕ) (x : Outcome) (scan : Stepped) (t : Found) (now : Known) (refusal : Refusal) (reason : Reason) (used : ℕ) (new : TextReader) → Answers before x (Ok scan) now → scan.token ≡ Some t → scan.left ≡ false
-      → DidMeet (λ _. behind_given l now (turn g l r (token_in t))) (Err reason) new → used ≡ now.used → refusal ≡ record { offset = used + 0; reason = reason } → MeetsWith g l r x (Err refusal) new
+  pub given_refused : (before : ℕ) (x : Outcome) (scan : Stepped) (t : Found) (now : Known) (refusal : Refusal) (reason : Reason) (used : ℕ) (new : TextReader)
+      → Answers before x (Ok scan) now → scan.token ≡ Some t → scan.left ≡ false
+      → DidMeet (λ _. behind_given l now (turn g l r (token_in t))) (Err reason) new → used ≡ now.used → refusal ≡ record { offset = used + 0; reason = reason }
+      → MeetsWith g l r x (Err refusal) new
   given_refused before x scan t now refusal reason used new a e f did at same =
       let h = given_token before x scan t now a e f in
       let offset = ap (λ (q : Refusal). q.offset) same in
       let here : refusal.offset ≡ now.used = omega arith in
       let cause = ap (λ (q : Refusal). q.reason) same in
-      λ other. (here ∙ sym (ap decided h.is), λ again. ap (λ y. on_scan g l again r y) h.is ∙ (on_given again h.lexeme t now now refl h.token ∙ (did (λ m. other (cause ∙ m)) again ∙ ap fails (sym cause))))
+      λ other. (
+        here ∙ sym (ap decided h.is),
+        λ again. ap (λ y. on_scan g l again r y) h.is
+            ∙ (on_given again h.lexeme t now now refl h.token ∙ (did (λ m. other (cause ∙ m)) again ∙ ap fails (sym cause))),
+      )
 
-  pub left_meets : (before : ℕ) (x : Outcome) (scan : Stepped) (t : Found) (now : Known) (m : Met) (new : TextReader) → Answers before x (Ok scan) now → scan.token ≡ Some t → scan.left ≡ true
-      → scanned new.scanner ≡ now → comes_again m ≡ true → DidMeet (λ again. behind_left again now (turn g l r (token_in t))) (Ok m) new → DidWhatCame g l r x m new
+  pub left_meets : (before : ℕ) (x : Outcome) (scan : Stepped) (t : Found) (now : Known) (m : Met) (new : TextReader) → Answers before x (Ok scan) now
+      → scan.token ≡ Some t → scan.left ≡ true
+      → scanned new.scanner ≡ now → comes_again m ≡ true → DidMeet (λ again. behind_left again now (turn g l r (token_in t))) (Ok m) new
+      → DidWhatCame g l r x m new
   left_meets before x scan t now m new a e f same ends did =
       let h = left_token before x scan t now a e f in
       record {
-        did = did_same (λ again. on_scan g l again r x) (λ again. behind_left again now (turn g l r (token_in t))) (Ok m) new (λ again. ap (λ y. on_scan g l again r y) h.is ∙ on_left again h.lexeme t now now refl h.token) did;
+        did = did_same (λ again. on_scan g l again r x) (λ again. behind_left again now (turn g l r (token_in t))) (Ok m) new
+            (λ again. ap (λ y. on_scan g l again r y) h.is ∙ on_left again h.lexeme t now now refl h.token) did;
         behind = subst (λ y. IsBehind y (scanned new.scanner)) (sym h.is) same;
         left = ap is_left h.is ∙ sym ends;
       }
 
-  pub left_refused : (before : ℕ) (x : Outcome) (scan : Stepped) (t : Found) (now : Known) (refusal : Refusal) (reason : Reason) (used : ℕ) (new : TextReader) → Answers before x (Ok scan) now → scan.token ≡ Some t → scan.left ≡ true
-      → DidMeet (λ again. behind_left again now (turn g l r (token_in t))) (Err reason) new → used ≡ now.used → refusal ≡ record { offset = used + 1; reason = reason } → MeetsWith g l r x (Err refusal) new
+  pub left_refused : (before : ℕ) (x : Outcome) (scan : Stepped) (t : Found) (now : Known) (refusal : Refusal) (reason : Reason) (used : ℕ) (new : TextReader)
+      → Answers before x (Ok scan) now → scan.token ≡ Some t → scan.left ≡ true
+      → DidMeet (λ again. behind_left again now (turn g l r (token_in t))) (Err reason) new → used ≡ now.used
+      → refusal ≡ record { offset = used + 1; reason = reason } → MeetsWith g l r x (Err refusal) new
   left_refused before x scan t now refusal reason used new a e f did at same =
       let h = left_token before x scan t now a e f in
       let offset = ap (λ (q : Refusal). q.offset) same in
       let here : refusal.offset ≡ now.used + 1 = omega arith in
       let cause = ap (λ (q : Refusal). q.reason) same in
-      λ other. (here ∙ sym (ap decided h.is), λ again. ap (λ y. on_scan g l again r y) h.is ∙ (on_left again h.lexeme t now now refl h.token ∙ (did (λ m. other (cause ∙ m)) again ∙ ap fails (sym cause))))
+      λ other. (
+        here ∙ sym (ap decided h.is),
+        λ again. ap (λ y. on_scan g l again r y) h.is
+            ∙ (on_left again h.lexeme t now now refl h.token ∙ (did (λ m. other (cause ∙ m)) again ∙ ap fails (sym cause))),
+      )

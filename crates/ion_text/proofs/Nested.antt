@@ -40,7 +40,8 @@ abbrev pub is_open_left : Mark → Bool
 is_open_left marks.FieldsOpen = true
 is_open_left _ = false
 
-pub open_found : (m : Mark) (p : Place) (r : Rest) (octets : List ℕ) → OpensAt octets m → 1 < length octets → is_name p ≡ false → IsFound p r octets (kinds.Mark m) [] 1 (is_open_left m)
+pub open_found : (m : Mark) (p : Place) (r : Rest) (octets : List ℕ) → OpensAt octets m → 1 < length octets → is_name p ≡ false
+    → IsFound p r octets (kinds.Mark m) [] 1 (is_open_left m)
 open_found marks.ListOpen p r octets opens more name = list_open_found p r octets name (omega arith) opens
 open_found marks.SexpOpen p r octets opens more name = sexp_open_found p r octets name (omega arith) opens
 open_found marks.FieldsOpen p r octets opens more name = fields_open_found p r octets name more opens.0 opens.1
@@ -68,19 +69,24 @@ module _ (setting : Setting) (spot : Spot) (fs : List Frame) (ss : Symbols) wher
   open_stays marks.Colon octets q opens does = absurd opens
   open_stays marks.Colons octets q opens does = absurd opens
 
-pub open_strides : (old new : TextReader) (moved : Scanner) (rest behind : Rest) (octets : List ℕ) (m : Mark) → Inside old octets → scanned old.scanner ≡ resting rest → Moved old.scanner moved behind → SameSetting (with_scanner old moved) new
-    → 1 < length octets → OpensAt octets m → is_name (place (reading_of old)) ≡ false → behind ≡ past_token (place (reading_of old)) rest (kinds.Mark m) 1 → old.stage ≡ nows.Ready
+pub open_strides : (old new : TextReader) (moved : Scanner) (rest behind : Rest) (octets : List ℕ) (m : Mark) → Inside old octets
+    → scanned old.scanner ≡ resting rest → Moved old.scanner moved behind → SameSetting (with_scanner old moved) new
+    → 1 < length octets → OpensAt octets m → is_name (place (reading_of old)) ≡ false → behind ≡ past_token (place (reading_of old)) rest (kinds.Mark m) 1
+    → old.stage ≡ nows.Ready
     → on_ready (setting_of old) (spot_of old (rest.used + 1)) (open_frames old) old.notes (Mark' m) ≡ goes (reading_of new) → Strides old new octets 1
 open_strides old new moved rest behind octets m inside rests move setting within opens name there now does =
-    token_strides old new moved rest behind octets inside rests move setting (kinds.Mark m) [] 1 (is_open_left m) (Mark' m) within there (subst IsStill (sym now) tt) (inl (subst IsCalm (sym now) tt))
+    token_strides old new moved rest behind octets inside rests move setting (kinds.Mark m) [] 1 (is_open_left m) (Mark' m) within there
+    (subst IsStill (sym now) tt) (inl (subst IsCalm (sym now) tt))
     (open_found m (place (reading_of old)) rest octets opens within name) (mark_says m)
     (ready_turns old.catalog.now old.limits (reading_of old) (lexeme_at rest (kinds.Mark m) [] 1) (Mark' m) now inside.inner ∙ does)
     (open_stays (setting_of old) (spot_of old (rest.used + 1)) (open_frames old) old.notes m octets (reading_of new) opens does)
 
 -- An open where no item is open: the struct's item begins with it.
-module _ (old new : TextReader) (moved : Scanner) (rest behind : Rest) (octets : List ℕ) (item : 1 ≤ old.limits.item) (h : OpensStruct old octets rest) (move : Moved old.scanner moved behind) (setting : new.scanner ≡ moved) (same : SameReader old new)
+module _ (old new : TextReader) (moved : Scanner) (rest behind : Rest) (octets : List ℕ) (item : 1 ≤ old.limits.item) (h : OpensStruct old octets rest)
+    (move : Moved old.scanner moved behind) (setting : new.scanner ≡ moved) (same : SameReader old new)
     (there : behind ≡ past_token places.Top rest (kinds.Mark marks.FieldsOpen) 1)
-    (does : on_ready (setting_of old) (spot_at (rest.used + 1) rest.used old.context) (open_frames old) old.notes (Mark' marks.FieldsOpen) ≡ goes (reading_of new)) where
+    (does : on_ready (setting_of old) (spot_at (rest.used + 1) rest.used old.context) (open_frames old) old.notes (Mark' marks.FieldsOpen)
+    ≡ goes (reading_of new)) where
   abbrev g : Catalog
   g = old.catalog.now
 
@@ -114,10 +120,12 @@ module _ (old new : TextReader) (moved : Scanner) (rest behind : Rest) (octets :
       ∙ (ap (λ s. on_ready (under g l) (spot_at (rest.used + 1) s r.context) r.frames r.notes (Mark' marks.FieldsOpen)) begun ∙ does)
 
   stays : StaysIn rest.used (reading_of new)
-  stays = open_stays (under g l) (spot_at (rest.used + 1) rest.used old.context) (open_frames old) old.notes marks.FieldsOpen octets (reading_of new) h.opens does
+  stays = open_stays (under g l) (spot_at (rest.used + 1) rest.used old.context) (open_frames old) old.notes marks.FieldsOpen octets (reading_of new) h.opens
+      does
 
   ends : feed (place r) found.known (slice_index octets 1) ≡ Left (lexeme_at rest (kinds.Mark marks.FieldsOpen) [] 1) (resting behind)
-  ends = found.ends ∙ ap (λ (k : Rest). Left (lexeme_at rest (kinds.Mark marks.FieldsOpen) [] 1) (resting k)) (ap (λ p. past_token p rest (kinds.Mark marks.FieldsOpen) 1) top ∙ sym there)
+  ends = found.ends ∙ ap (λ (k : Rest). Left (lexeme_at rest (kinds.Mark marks.FieldsOpen) [] 1) (resting k))
+      (ap (λ p. past_token p rest (kinds.Mark marks.FieldsOpen) 1) top ∙ sym there)
 
   pub struct_strides : Strides old new octets 1
   struct_strides = record {
@@ -125,7 +133,8 @@ module _ (old new : TextReader) (moved : Scanner) (rest behind : Rest) (octets :
     passes =
         subst (λ s. Passes g l (with_scan s r) octets 1 (state_of new)) (sym h.rests)
         (subst (λ s. Passes g l (with_scan (resting rest) r) octets 1 (with_scan s (reading_of new))) (sym here)
-        (passes_left g l r still (resting rest) found.known (resting behind) octets 1 (lexeme_at rest (kinds.Mark marks.FieldsOpen) [] 1) (Mark' marks.FieldsOpen) (reading_of new) h.more quiet found.ran (mark_says marks.FieldsOpen) turns refl
+        (passes_left g l r still (resting rest) found.known (resting behind) octets 1 (lexeme_at rest (kinds.Mark marks.FieldsOpen) [] 1)
+        (Mark' marks.FieldsOpen) (reading_of new) h.more quiet found.ran (mark_says marks.FieldsOpen) turns refl
         (ap (λ (k : Rest). k.used) there) ends));
     used = ap (λ (s : Known). s.used) here ∙ (ap (λ (k : Rest). k.used) there ∙ ap (λ (s : Known). s.used + 1) (sym h.rests));
     inner = stays.0;
@@ -138,15 +147,18 @@ module _ (old new : TextReader) (moved : Scanner) (rest behind : Rest) (octets :
 
 -- A close.
 
-pub close_found : (m : Mark) (fs : List Frame) (now : Now) (r : Rest) (octets : List ℕ) → closes m fs now ≡ true → 0 < length octets → slice_index octets 0 ≡ close_octet m → IsFound (place_in fs now) r octets (kinds.Mark m) [] 1 false
+pub close_found : (m : Mark) (fs : List Frame) (now : Now) (r : Rest) (octets : List ℕ) → closes m fs now ≡ true → 0 < length octets
+    → slice_index octets 0 ≡ close_octet m → IsFound (place_in fs now) r octets (kinds.Mark m) [] 1 false
 close_found marks.ListClose [] now r octets h some first = absurd cc
-close_found marks.ListClose (frames.List ss vs ∷ fs) now r octets h some first = list_close_found (place_in (frames.List ss vs ∷ fs) now) r octets refl some first
+close_found marks.ListClose (frames.List ss vs ∷ fs) now r octets h some first =
+    list_close_found (place_in (frames.List ss vs ∷ fs) now) r octets refl some first
 close_found marks.ListClose (frames.Sexp ss vs ∷ fs) now r octets h some first = absurd cc
 close_found marks.ListClose (frames.Fields ss ms ∷ fs) now r octets h some first = absurd cc
 close_found marks.ListClose (frames.Named ss ms name ∷ fs) now r octets h some first = absurd cc
 close_found marks.SexpClose [] now r octets h some first = absurd cc
 close_found marks.SexpClose (frames.List ss vs ∷ fs) now r octets h some first = absurd cc
-close_found marks.SexpClose (frames.Sexp ss vs ∷ fs) now r octets h some first = sexp_close_found (place_in (frames.Sexp ss vs ∷ fs) now) r octets refl some first
+close_found marks.SexpClose (frames.Sexp ss vs ∷ fs) now r octets h some first =
+    sexp_close_found (place_in (frames.Sexp ss vs ∷ fs) now) r octets refl some first
 close_found marks.SexpClose (frames.Fields ss ms ∷ fs) now r octets h some first = absurd cc
 close_found marks.SexpClose (frames.Named ss ms name ∷ fs) now r octets h some first = absurd cc
 close_found marks.FieldsClose fs now r octets h some first = fields_close_found (place_in fs now) r octets some first
@@ -160,7 +172,8 @@ close_found marks.Colons fs now r octets h some first = absurd cc
 module _ (g : Catalog) (l : Limits) (begin end start : ℕ) (c : List Slot) where
   -- in such a state the mark closes, and nothing waits
   abbrev pub MarkCloses : Mark → List Frame → Now → Type 0
-  MarkCloses m fs now = (turn_now (under g l) (at start c fs [] now) (token_at begin end (Mark' m)) now ≡ closed m (under g l) (spot_at end start c) fs) × IsStill now
+  MarkCloses m fs now = (turn_now (under g l) (at start c fs [] now) (token_at begin end (Mark' m)) now ≡ closed m (under g l) (spot_at end start c) fs)
+      × IsStill now
 
   pub closing : (m : Mark) (fs : List Frame) (now : Now) → closes m fs now ≡ true → MarkCloses m fs now
   closing marks.ListClose [] now h = absurd cc
@@ -204,68 +217,80 @@ module _ (g : Catalog) (l : Limits) (begin end start : ℕ) (c : List Slot) wher
   closing marks.Colons fs now h = absurd cc
 
 -- what stands around it goes on
-close_stays : (setting : Setting) (spot : Spot) (q : Reading) (m : Mark) (fs : List Frame) → 1 < length fs → closed m setting spot fs ≡ goes q → StaysIn spot.start q
+close_stays : (setting : Setting) (spot : Spot) (q : Reading) (m : Mark) (fs : List Frame) → 1 < length fs → closed m setting spot fs ≡ goes q
+    → StaysIn spot.start q
 close_stays setting spot q marks.ListClose [] more does = absurd cc
 close_stays setting spot q marks.ListClose (frames.List ss vs ∷ []) more does = absurd (omega arith)
-close_stays setting spot q marks.ListClose (frames.List ss vs ∷ f ∷ fs) more does = ended_stays setting spot q (f ∷ fs) (annotated ss (payloads.List vs)) refl does
+close_stays setting spot q marks.ListClose (frames.List ss vs ∷ f ∷ fs) more does =
+    ended_stays setting spot q (f ∷ fs) (annotated ss (payloads.List vs)) refl does
 close_stays setting spot q marks.ListClose (frames.Sexp ss vs ∷ fs) more does = absurd cc
 close_stays setting spot q marks.ListClose (frames.Fields ss ms ∷ fs) more does = absurd cc
 close_stays setting spot q marks.ListClose (frames.Named ss ms key ∷ fs) more does = absurd cc
 close_stays setting spot q marks.SexpClose [] more does = absurd cc
 close_stays setting spot q marks.SexpClose (frames.List ss vs ∷ fs) more does = absurd cc
 close_stays setting spot q marks.SexpClose (frames.Sexp ss vs ∷ []) more does = absurd (omega arith)
-close_stays setting spot q marks.SexpClose (frames.Sexp ss vs ∷ f ∷ fs) more does = ended_stays setting spot q (f ∷ fs) (annotated ss (payloads.Sexp vs)) refl does
+close_stays setting spot q marks.SexpClose (frames.Sexp ss vs ∷ f ∷ fs) more does =
+    ended_stays setting spot q (f ∷ fs) (annotated ss (payloads.Sexp vs)) refl does
 close_stays setting spot q marks.SexpClose (frames.Fields ss ms ∷ fs) more does = absurd cc
 close_stays setting spot q marks.SexpClose (frames.Named ss ms key ∷ fs) more does = absurd cc
 close_stays setting spot q marks.FieldsClose [] more does = absurd cc
 close_stays setting spot q marks.FieldsClose (frames.List ss vs ∷ fs) more does = absurd cc
 close_stays setting spot q marks.FieldsClose (frames.Sexp ss vs ∷ fs) more does = absurd cc
 close_stays setting spot q marks.FieldsClose (frames.Fields ss ms ∷ []) more does = absurd (omega arith)
-close_stays setting spot q marks.FieldsClose (frames.Fields ss ms ∷ f ∷ fs) more does = ended_stays setting spot q (f ∷ fs) (annotated ss (payloads.Fields ms)) refl does
+close_stays setting spot q marks.FieldsClose (frames.Fields ss ms ∷ f ∷ fs) more does =
+    ended_stays setting spot q (f ∷ fs) (annotated ss (payloads.Fields ms)) refl does
 close_stays setting spot q marks.FieldsClose (frames.Named ss ms key ∷ fs) more does = absurd cc
 close_stays setting spot q marks.ListOpen [] more does = absurd cc
 close_stays setting spot q marks.ListOpen (frames.List ss vs ∷ fs) more does = absurd cc
 close_stays setting spot q marks.ListOpen (frames.Sexp ss vs ∷ fs) more does = absurd cc
 close_stays setting spot q marks.ListOpen (frames.Fields ss ms ∷ []) more does = absurd (omega arith)
-close_stays setting spot q marks.ListOpen (frames.Fields ss ms ∷ f ∷ fs) more does = ended_stays setting spot q (f ∷ fs) (annotated ss (payloads.Fields ms)) refl does
+close_stays setting spot q marks.ListOpen (frames.Fields ss ms ∷ f ∷ fs) more does =
+    ended_stays setting spot q (f ∷ fs) (annotated ss (payloads.Fields ms)) refl does
 close_stays setting spot q marks.ListOpen (frames.Named ss ms key ∷ fs) more does = absurd cc
 close_stays setting spot q marks.SexpOpen [] more does = absurd cc
 close_stays setting spot q marks.SexpOpen (frames.List ss vs ∷ fs) more does = absurd cc
 close_stays setting spot q marks.SexpOpen (frames.Sexp ss vs ∷ fs) more does = absurd cc
 close_stays setting spot q marks.SexpOpen (frames.Fields ss ms ∷ []) more does = absurd (omega arith)
-close_stays setting spot q marks.SexpOpen (frames.Fields ss ms ∷ f ∷ fs) more does = ended_stays setting spot q (f ∷ fs) (annotated ss (payloads.Fields ms)) refl does
+close_stays setting spot q marks.SexpOpen (frames.Fields ss ms ∷ f ∷ fs) more does =
+    ended_stays setting spot q (f ∷ fs) (annotated ss (payloads.Fields ms)) refl does
 close_stays setting spot q marks.SexpOpen (frames.Named ss ms key ∷ fs) more does = absurd cc
 close_stays setting spot q marks.FieldsOpen [] more does = absurd cc
 close_stays setting spot q marks.FieldsOpen (frames.List ss vs ∷ fs) more does = absurd cc
 close_stays setting spot q marks.FieldsOpen (frames.Sexp ss vs ∷ fs) more does = absurd cc
 close_stays setting spot q marks.FieldsOpen (frames.Fields ss ms ∷ []) more does = absurd (omega arith)
-close_stays setting spot q marks.FieldsOpen (frames.Fields ss ms ∷ f ∷ fs) more does = ended_stays setting spot q (f ∷ fs) (annotated ss (payloads.Fields ms)) refl does
+close_stays setting spot q marks.FieldsOpen (frames.Fields ss ms ∷ f ∷ fs) more does =
+    ended_stays setting spot q (f ∷ fs) (annotated ss (payloads.Fields ms)) refl does
 close_stays setting spot q marks.FieldsOpen (frames.Named ss ms key ∷ fs) more does = absurd cc
 close_stays setting spot q marks.Comma [] more does = absurd cc
 close_stays setting spot q marks.Comma (frames.List ss vs ∷ fs) more does = absurd cc
 close_stays setting spot q marks.Comma (frames.Sexp ss vs ∷ fs) more does = absurd cc
 close_stays setting spot q marks.Comma (frames.Fields ss ms ∷ []) more does = absurd (omega arith)
-close_stays setting spot q marks.Comma (frames.Fields ss ms ∷ f ∷ fs) more does = ended_stays setting spot q (f ∷ fs) (annotated ss (payloads.Fields ms)) refl does
+close_stays setting spot q marks.Comma (frames.Fields ss ms ∷ f ∷ fs) more does =
+    ended_stays setting spot q (f ∷ fs) (annotated ss (payloads.Fields ms)) refl does
 close_stays setting spot q marks.Comma (frames.Named ss ms key ∷ fs) more does = absurd cc
 close_stays setting spot q marks.Colon [] more does = absurd cc
 close_stays setting spot q marks.Colon (frames.List ss vs ∷ fs) more does = absurd cc
 close_stays setting spot q marks.Colon (frames.Sexp ss vs ∷ fs) more does = absurd cc
 close_stays setting spot q marks.Colon (frames.Fields ss ms ∷ []) more does = absurd (omega arith)
-close_stays setting spot q marks.Colon (frames.Fields ss ms ∷ f ∷ fs) more does = ended_stays setting spot q (f ∷ fs) (annotated ss (payloads.Fields ms)) refl does
+close_stays setting spot q marks.Colon (frames.Fields ss ms ∷ f ∷ fs) more does =
+    ended_stays setting spot q (f ∷ fs) (annotated ss (payloads.Fields ms)) refl does
 close_stays setting spot q marks.Colon (frames.Named ss ms key ∷ fs) more does = absurd cc
 close_stays setting spot q marks.Colons [] more does = absurd cc
 close_stays setting spot q marks.Colons (frames.List ss vs ∷ fs) more does = absurd cc
 close_stays setting spot q marks.Colons (frames.Sexp ss vs ∷ fs) more does = absurd cc
 close_stays setting spot q marks.Colons (frames.Fields ss ms ∷ []) more does = absurd (omega arith)
-close_stays setting spot q marks.Colons (frames.Fields ss ms ∷ f ∷ fs) more does = ended_stays setting spot q (f ∷ fs) (annotated ss (payloads.Fields ms)) refl does
+close_stays setting spot q marks.Colons (frames.Fields ss ms ∷ f ∷ fs) more does =
+    ended_stays setting spot q (f ∷ fs) (annotated ss (payloads.Fields ms)) refl does
 close_stays setting spot q marks.Colons (frames.Named ss ms key ∷ fs) more does = absurd cc
 
-pub close_strides : (old new : TextReader) (moved : Scanner) (rest behind : Rest) (octets : List ℕ) (m : Mark) → Inside old octets → scanned old.scanner ≡ resting rest → Moved old.scanner moved behind → SameSetting (with_scanner old moved) new
+pub close_strides : (old new : TextReader) (moved : Scanner) (rest behind : Rest) (octets : List ℕ) (m : Mark) → Inside old octets
+    → scanned old.scanner ≡ resting rest → Moved old.scanner moved behind → SameSetting (with_scanner old moved) new
     → 1 < length octets → ClosesAt (reading_of old) (slice_index octets 0) m → behind ≡ past_token (place (reading_of old)) rest (kinds.Mark m) 1
     → closed m (setting_of old) (spot_of old (rest.used + 1)) (open_frames old) ≡ goes (reading_of new) → Strides old new octets 1
 close_strides old new moved rest behind octets m inside rests move setting within h there does =
     let k = closing old.catalog.now old.limits rest.used (rest.used + 1) old.start old.context m (open_frames old) old.stage h.fits in
     token_strides old new moved rest behind octets inside rests move setting (kinds.Mark m) [] 1 false (Mark' m) within there k.1 (inr refl)
     (close_found m (open_frames old) old.stage rest octets h.fits (omega arith) h.octet) (mark_says m)
-    (ap (λ ss. turn_now (setting_of old) (at old.start old.context (open_frames old) ss old.stage) (token_at rest.used (rest.used + 1) (Mark' m)) old.stage) h.bare ∙ (k.0 ∙ does))
+    (ap (λ ss. turn_now (setting_of old) (at old.start old.context (open_frames old) ss old.stage) (token_at rest.used (rest.used + 1) (Mark' m)) old.stage)
+    h.bare ∙ (k.0 ∙ does))
     (close_stays (setting_of old) (spot_of old (rest.used + 1)) (reading_of new) m (open_frames old) h.nested does)

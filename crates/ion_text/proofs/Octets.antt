@@ -63,7 +63,8 @@ left_worse : (reason : Reason) (e : Effect) (given : Option Value) (m : State) �
 left_worse reason e (Some v) m h = ap (or_worse reason) h
 left_worse reason e None m h = absurd h
 
-pub take_worse : (reason : Reason) (e : Effect) (again : Result Taken Reason) (r : TextReader) → DidTake e again r → (worse reason again ≢ reasons.Memory) → or_worse reason e ≡ fails (worse reason again)
+pub take_worse : (reason : Reason) (e : Effect) (again : Result Taken Reason) (r : TextReader) → DidTake e again r → (worse reason again ≢ reasons.Memory)
+    → or_worse reason e ≡ fails (worse reason again)
 take_worse reason e (Ok taken.Uses) r d other = ap (or_worse reason) d
 take_worse reason e (Ok taken.Tells) r d other = told_worse reason e r.given (state_of r) d
 take_worse reason e (Ok taken.Leaves) r d other = left_worse reason e r.given (state_of r) d
@@ -91,7 +92,8 @@ used_by p s o (Left y t) now f b l = absurd cc
 used_by p s o (Refused n e) now f b l = absurd b
 
 -- how many octets are used behind one
-pub one_used : (p : Place) (s : Known) (o : ℕ) (m : Met) (now : Known) → IsBehind (run p (o ∷ []) s) now → is_left (run p (o ∷ []) s) ≡ comes_again m → comes_again m ≡ false → now.used ≡ s.used + 1
+pub one_used : (p : Place) (s : Known) (o : ℕ) (m : Met) (now : Known) → IsBehind (run p (o ∷ []) s) now → is_left (run p (o ∷ []) s) ≡ comes_again m
+    → comes_again m ≡ false → now.used ≡ s.used + 1
 one_used p s o m now b l f =
     let same = one_octet p s o in
     used_by p s o (feed p s o) now refl (subst (λ x. IsBehind x now) same b) (sym (ap is_left same) ∙ (l ∙ f))
@@ -102,7 +104,8 @@ left_by p s o (Given y t) now f b l = absurd cc
 left_by p s o (Left y t) now f b l = ap (λ (k : Known). k.used) b ∙ left_here p o s t y f
 left_by p s o (Refused n e) now f b l = absurd b
 
-pub one_left : (p : Place) (s : Known) (o : ℕ) (m : Met) (now : Known) → IsBehind (run p (o ∷ []) s) now → is_left (run p (o ∷ []) s) ≡ comes_again m → comes_again m ≡ true → now.used ≡ s.used
+pub one_left : (p : Place) (s : Known) (o : ℕ) (m : Met) (now : Known) → IsBehind (run p (o ∷ []) s) now → is_left (run p (o ∷ []) s) ≡ comes_again m
+    → comes_again m ≡ true → now.used ≡ s.used
 one_left p s o m now b l f =
     let same = one_octet p s o in
     left_by p s o (feed p s o) now refl (subst (λ x. IsBehind x now) same b) (sym (ap is_left same) ∙ (l ∙ f))
@@ -114,11 +117,13 @@ module _ (g : Catalog) (l : Limits) (o : ℕ) where
   takes_more (suc n) m h = let e : n ≡ suc n - 1 = omega arith in ap (λ j. on_octet g l (λ k. takes g l j k o) m (feed (place m.reading) m.scan o)) e
 
   -- what waits goes on
-  pub octet_goes_on : (again : State → Effect) (m : State) (x : Outcome) → unsettled m.scan m.reading x ≡ true → on_octet g l again m x ≡ on_scan g l again m.reading x
+  pub octet_goes_on : (again : State → Effect) (m : State) (x : Outcome) → unsettled m.scan m.reading x ≡ true
+      → on_octet g l again m x ≡ on_scan g l again m.reading x
   octet_goes_on again m x w = ap (λ b. if b then on_scan g l again m.reading x else on_settled g l again m.scan x (settle g l m.reading)) w
 
   -- what waited is settled
-  pub octet_settles : (again : State → Effect) (m : State) (x : Outcome) (t : Turn) → unsettled m.scan m.reading x ≡ false → settle g l m.reading ≡ t → on_octet g l again m x ≡ on_settled g l again m.scan x t
+  pub octet_settles : (again : State → Effect) (m : State) (x : Outcome) (t : Turn) → unsettled m.scan m.reading x ≡ false → settle g l m.reading ≡ t
+      → on_octet g l again m x ≡ on_settled g l again m.scan x t
   octet_settles again m x t w e =
       ap (λ b. if b then on_scan g l again m.reading x else on_settled g l again m.scan x (settle g l m.reading)) w
       ∙ ap (on_settled g l again m.scan x) e
@@ -136,33 +141,41 @@ same_takes g h l k n o m e f = ap (λ x. takes x l n m o) (sym e) ∙ ap (λ x. 
 
 module _ (g : Catalog) (l : Limits) (n o : ℕ) where
   -- what the scanner does of one octet is done by the reader
-  here_did : (r : Reading) (p : Place) (s : Known) (result : Result Taken Reason) (new : TextReader) → DidTake (on_scan g l (λ m. takes g l n m o) r (run p (o ∷ []) s)) result new
+  here_did : (r : Reading) (p : Place) (s : Known) (result : Result Taken Reason) (new : TextReader)
+      → DidTake (on_scan g l (λ m. takes g l n m o) r (run p (o ∷ []) s)) result new
       → DidTake (on_scan g l (λ m. takes g l n m o) r (feed p s o)) result new
   here_did r p s result new d =
       take_same (on_scan g l (λ m. takes g l n m o) r (feed p s o)) (on_scan g l (λ m. takes g l n m o) r (run p (o ∷ []) s)) result new
       (ap (on_scan g l (λ m. takes g l n m o) r) (sym (one_octet p s o))) d
 
   -- the octet is used, or used with a token, or left behind one
-  pub once_did : (r : Reading) (p : Place) (s : Known) (y z : Met) (t : Taken) (mid : TextReader) → y ≡ z → DidWhatCame g l r (run p (o ∷ []) s) y mid → ((e : (State → Effect) → Effect) → DidMeet e (Ok z) mid → DidTake (e (λ m. takes g l n m o)) (Ok t) mid)
+  pub once_did : (r : Reading) (p : Place) (s : Known) (y z : Met) (t : Taken) (mid : TextReader) → y ≡ z → DidWhatCame g l r (run p (o ∷ []) s) y mid
+      → ((e : (State → Effect) → Effect) → DidMeet e (Ok z) mid → DidTake (e (λ m. takes g l n m o)) (Ok t) mid)
       → DidTake (on_scan g l (λ m. takes g l n m o) r (feed p s o)) (Ok t) mid
   once_did r p s y z t mid is h takes_it =
       let there = subst (λ (y : Met). DidWhatCame g l r (run p (o ∷ []) s) y mid) is h in
       here_did r p s (Ok t) mid (takes_it (λ again. on_scan g l again r (run p (o ∷ []) s)) there.did)
 
   -- the octet is refused
-  pub err_did : (r : Reading) (p : Place) (s : Known) (refusal : Refusal) (mid : TextReader) → MeetsWith g l r (run p (o ∷ []) s) (Err refusal) mid → DidTake (on_scan g l (λ m. takes g l n m o) r (feed p s o)) (Err refusal.reason) mid
+  pub err_did : (r : Reading) (p : Place) (s : Known) (refusal : Refusal) (mid : TextReader) → MeetsWith g l r (run p (o ∷ []) s) (Err refusal) mid
+      → DidTake (on_scan g l (λ m. takes g l n m o) r (feed p s o)) (Err refusal.reason) mid
   err_did r p s refusal mid h = here_did r p s (Err refusal.reason) mid (λ other. (h other).1 (λ m. takes g l n m o))
 
   -- the octet comes again
-  pub again_did : (r : Reading) (p : Place) (s : Known) (y : Met) (mid : TextReader) (result : Result Taken Reason) (new : TextReader) → y ≡ met.Again → DidWhatCame g l r (run p (o ∷ []) s) y mid
-      → mid.catalog.now ≡ g → mid.limits ≡ l → DidTake (takes mid.catalog.now mid.limits n (state_of mid) o) result new → DidTake (on_scan g l (λ m. takes g l n m o) r (feed p s o)) result new
+  pub again_did : (r : Reading) (p : Place) (s : Known) (y : Met) (mid : TextReader) (result : Result Taken Reason) (new : TextReader) → y ≡ met.Again
+      → DidWhatCame g l r (run p (o ∷ []) s) y mid
+      → mid.catalog.now ≡ g → mid.limits ≡ l → DidTake (takes mid.catalog.now mid.limits n (state_of mid) o) result new
+      → DidTake (on_scan g l (λ m. takes g l n m o) r (feed p s o)) result new
   again_did r p s y mid result new is h e f d =
       let there = subst (λ (y : Met). DidWhatCame g l r (run p (o ∷ []) s) y mid) is h in
       take_same (on_scan g l (λ m. takes g l n m o) r (feed p s o)) (takes mid.catalog.now mid.limits n (state_of mid) o) result new
-      (ap (on_scan g l (λ m. takes g l n m o) r) (sym (one_octet p s o)) ∙ (there.did (λ m. takes g l n m o) ∙ same_takes g mid.catalog.now l mid.limits n o (state_of mid) e f)) d
+      (ap (on_scan g l (λ m. takes g l n m o) r) (sym (one_octet p s o))
+      ∙ (there.did (λ m. takes g l n m o) ∙ same_takes g mid.catalog.now l mid.limits n o (state_of mid) e f)) d
 
-  pub late_did : (r : Reading) (p : Place) (s : Known) (y : Met) (reason cause : Reason) (mid : TextReader) (result : Result Taken Reason) (new : TextReader) → y ≡ met.Late reason → DidWhatCame g l r (run p (o ∷ []) s) y mid
-      → mid.catalog.now ≡ g → mid.limits ≡ l → DidTake (takes mid.catalog.now mid.limits n (state_of mid) o) result new → cause ≡ worse reason result → cause ≢ reasons.Memory → on_scan g l (λ m. takes g l n m o) r (feed p s o) ≡ fails cause
+  pub late_did : (r : Reading) (p : Place) (s : Known) (y : Met) (reason cause : Reason) (mid : TextReader) (result : Result Taken Reason) (new : TextReader)
+      → y ≡ met.Late reason → DidWhatCame g l r (run p (o ∷ []) s) y mid
+      → mid.catalog.now ≡ g → mid.limits ≡ l → DidTake (takes mid.catalog.now mid.limits n (state_of mid) o) result new → cause ≡ worse reason result
+      → cause ≢ reasons.Memory → on_scan g l (λ m. takes g l n m o) r (feed p s o) ≡ fails cause
   late_did r p s y reason cause mid result new is h e f d same other =
       let there = subst (λ (y : Met). DidWhatCame g l r (run p (o ∷ []) s) y mid) is h in
       ap (on_scan g l (λ m. takes g l n m o) r) (sym (one_octet p s o))
@@ -173,7 +186,8 @@ module _ (g : Catalog) (l : Limits) (n o : ℕ) where
 
   module _ (m : State) (p : Place) (here : p ≡ place m.reading) (some : 0 < n) where
     -- what waits goes on
-    pub goes_on_did : (result : Result Taken Reason) (new : TextReader) → unsettled m.scan m.reading (feed p m.scan o) ≡ true → DidTake (on_scan g l (λ k. takes g l (n - 1) k o) m.reading (feed p m.scan o)) result new → DidTake (takes g l n m o) result new
+    pub goes_on_did : (result : Result Taken Reason) (new : TextReader) → unsettled m.scan m.reading (feed p m.scan o) ≡ true
+        → DidTake (on_scan g l (λ k. takes g l (n - 1) k o) m.reading (feed p m.scan o)) result new → DidTake (takes g l n m o) result new
     goes_on_did result new w d =
         take_same (takes g l n m o) (on_scan g l (λ k. takes g l (n - 1) k o) m.reading (feed p m.scan o)) result new
         (takes_more g l o n m some
@@ -181,26 +195,31 @@ module _ (g : Catalog) (l : Limits) (n o : ℕ) where
         ∙ octet_goes_on g l o (λ k. takes g l (n - 1) k o) m (feed p m.scan o) w)) d
 
     -- it is settled
-    pub settles : (t : Turn) → unsettled m.scan m.reading (feed p m.scan o) ≡ false → settle g l m.reading ≡ t → takes g l n m o ≡ on_settled g l (λ k. takes g l (n - 1) k o) m.scan (feed p m.scan o) t
+    pub settles : (t : Turn) → unsettled m.scan m.reading (feed p m.scan o) ≡ false → settle g l m.reading ≡ t
+        → takes g l n m o ≡ on_settled g l (λ k. takes g l (n - 1) k o) m.scan (feed p m.scan o) t
     settles t w e =
         takes_more g l o n m some
         ∙ (ap (λ q. on_octet g l (λ k. takes g l (n - 1) k o) m (feed q m.scan o)) (sym here)
         ∙ octet_settles g l o (λ k. takes g l (n - 1) k o) m (feed p m.scan o) t w e)
 
-    pub settles_goes : (r : Reading) (h : Catalog) (k : Limits) (s : Known) (result : Result Taken Reason) (new : TextReader) → unsettled m.scan m.reading (feed p m.scan o) ≡ false → settle g l m.reading ≡ goes r → h ≡ g → k ≡ l → s ≡ m.scan
+    pub settles_goes : (r : Reading) (h : Catalog) (k : Limits) (s : Known) (result : Result Taken Reason) (new : TextReader)
+        → unsettled m.scan m.reading (feed p m.scan o) ≡ false → settle g l m.reading ≡ goes r → h ≡ g → k ≡ l → s ≡ m.scan
         → DidTake (on_scan h k (λ j. takes h k (n - 1) j o) r (feed p s o)) result new → DidTake (takes g l n m o) result new
     settles_goes r h k s result new w e f i j d =
         take_same (takes g l n m o) (on_scan h k (λ j. takes h k (n - 1) j o) r (feed p s o)) result new
         (settles (goes r) w e ∙ same_scan g h l k (n - 1) o p m.scan s r f i j) d
 
-    pub settles_late : (reason cause : Reason) (r : Reading) (h : Catalog) (k : Limits) (s : Known) (result : Result Taken Reason) (new : TextReader) → unsettled m.scan m.reading (feed p m.scan o) ≡ false → settle g l m.reading ≡ late reason r → h ≡ g → k ≡ l → s ≡ m.scan
-        → DidTake (on_scan h k (λ j. takes h k (n - 1) j o) r (feed p s o)) result new → cause ≡ worse reason result → cause ≢ reasons.Memory → takes g l n m o ≡ fails cause
+    pub settles_late : (reason cause : Reason) (r : Reading) (h : Catalog) (k : Limits) (s : Known) (result : Result Taken Reason) (new : TextReader)
+        → unsettled m.scan m.reading (feed p m.scan o) ≡ false → settle g l m.reading ≡ late reason r → h ≡ g → k ≡ l → s ≡ m.scan
+        → DidTake (on_scan h k (λ j. takes h k (n - 1) j o) r (feed p s o)) result new → cause ≡ worse reason result → cause ≢ reasons.Memory
+        → takes g l n m o ≡ fails cause
     settles_late reason cause r h k s result new w e f i j d same other =
         settles (late reason r) w e
         ∙ (ap (or_worse reason) (same_scan g h l k (n - 1) o p m.scan s r f i j)
         ∙ (take_worse reason (on_scan h k (λ j. takes h k (n - 1) j o) r (feed p s o)) result new d (λ m. other (same ∙ m))
         ∙ ap fails (sym same)))
 
-    pub settles_gives : (given : Option Value) (now : State) (r : Reading) → unsettled m.scan m.reading (feed p m.scan o) ≡ false → Gave (settle g l m.reading) given r → now ≡ with_scan m.scan r → Told (takes g l n m o) leaves given now
+    pub settles_gives : (given : Option Value) (now : State) (r : Reading) → unsettled m.scan m.reading (feed p m.scan o) ≡ false
+        → Gave (settle g l m.reading) given r → now ≡ with_scan m.scan r → Told (takes g l n m o) leaves given now
     settles_gives None now r w e same = absurd e
     settles_gives (Some v) now r w e same = settles (gives v r) w e ∙ ap (leaves v) (sym same)

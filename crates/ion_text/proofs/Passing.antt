@@ -83,7 +83,8 @@ module _ (g : Catalog) (l : Limits) where
       behind w = grind (arith, common_steps)
 
   -- octets that are used and give nothing
-  pub passes_led : (m n : State) (octets : List ℕ) (count : ℕ) → count ≤ length octets → n.scan.used ≡ m.scan.used + count → run g l m.scan.used m (take count octets) ≡ led n → Passes g l m octets count n
+  pub passes_led : (m n : State) (octets : List ℕ) (count : ℕ) → count ≤ length octets → n.scan.used ≡ m.scan.used + count
+      → run g l m.scan.used m (take count octets) ≡ led n → Passes g l m octets count n
   passes_led m n octets count within counted e = λ w same.
       let front = agree_less count (count + 1) w octets (omega arith) same in
       let size = length-take-le count octets within in
@@ -92,12 +93,14 @@ module _ (g : Catalog) (l : Limits) where
       ∙ ap (λ r. then_run r (λ k. run g l n.scan.used k (drop count w))) e)
 
   -- one octet that is used and gives nothing
-  pub passes_one : (m n : State) (octets : List ℕ) → 0 < length octets → n.scan.used ≡ m.scan.used + 1 → eats g l m (get_or octets 0 0) ≡ uses n → Passes g l m octets 1 n
+  pub passes_one : (m n : State) (octets : List ℕ) → 0 < length octets → n.scan.used ≡ m.scan.used + 1 → eats g l m (get_or octets 0 0) ≡ uses n
+      → Passes g l m octets 1 n
   passes_one m n [] some counted h = absurd (omega arith)
   passes_one m n (o ∷ os) some counted h = passes_led m n (o ∷ os) 1 (omega arith) counted (ap (run_on m.scan.used (λ j. eats g l j o) (λ j. led j)) h)
 
   -- the octet there does the same from another state
-  pub passes_same : (m n p : State) (octets : List ℕ) (k : ℕ) → k < length octets → n.scan.used ≡ p.scan.used → eats g l n (get_or octets k 0) ≡ eats g l p (get_or octets k 0) → Passes g l m octets k n → Passes g l m octets k p
+  pub passes_same : (m n p : State) (octets : List ℕ) (k : ℕ) → k < length octets → n.scan.used ≡ p.scan.used → eats g l n (get_or octets k 0)
+      ≡ eats g l p (get_or octets k 0) → Passes g l m octets k n → Passes g l m octets k p
   passes_same m n p octets k within counted same h = λ w e.
       let o = get_or octets k 0 in
       let next = next_octet k w octets within e in
@@ -127,11 +130,15 @@ reaches_open (f ∷ fs) r s h = refl
 
 module _ (l : Limits) where
   -- where no token has begun that surely is one
-  pub idle_noticed : (r : Reading) (s : Known) → is_idle s.mode ≡ true → is_top r.frames ≡ false → s.used ≤ l.item + r.start → noticed l r s ≡ uses (with_scan s r)
+  pub idle_noticed : (r : Reading) (s : Known) → is_idle s.mode ≡ true → is_top r.frames ≡ false → s.used ≤ l.item + r.start
+      → noticed l r s ≡ uses (with_scan s r)
   idle_noticed r s idle inner room =
-      ap (λ b. if shut r.now && not b then fails reasons.Unexpected else (if nat_le (reaches r.frames r s) l.item then uses (with_scan s r) else fails reasons.ItemTooLong)) idle
-      ∙ (ap (λ b. if b then fails reasons.Unexpected else (if nat_le (reaches r.frames r s) l.item then uses (with_scan s r) else fails reasons.ItemTooLong)) (never (shut r.now))
-      ∙ ap (λ b. if b then uses (with_scan s r) else fails reasons.ItemTooLong) (fits (reaches r.frames r s) l.item (let e = reaches_open r.frames r s inner in omega arith)))
+      ap (λ b. if shut r.now && not b then fails reasons.Unexpected else
+      (if nat_le (reaches r.frames r s) l.item then uses (with_scan s r) else fails reasons.ItemTooLong)) idle
+      ∙ (ap (λ b. if b then fails reasons.Unexpected else (if nat_le (reaches r.frames r s) l.item then uses (with_scan s r) else fails reasons.ItemTooLong))
+      (never (shut r.now))
+      ∙ ap (λ b. if b then uses (with_scan s r) else fails reasons.ItemTooLong)
+      (fits (reaches r.frames r s) l.item (let e = reaches_open r.frames r s inner in omega arith)))
     where
       never : (b : Bool) → (b && not true) ≡ false
       never true = refl
@@ -164,11 +171,13 @@ idle_first p os s t sane idle e = by (is_idle s.mode) refl
     by false h = absurd (let n : true ≡ false = sym idle ∙ stays_begun p os s t sane h e in cc)
 
 -- where no item is open, one octet is within each limit
-pub top_quiet : (g : Catalog) (l : Limits) (r : Reading) → 1 ≤ l.item → IsCalm r.now → r.frames ≡ [] → r.notes ≡ [] → (s : Known) → s.mode ≡ modes.Blank → (octets : List ℕ) → 1 ≤ length octets → Quiet g l r (place r) s (take 1 octets)
+pub top_quiet : (g : Catalog) (l : Limits) (r : Reading) → 1 ≤ l.item → IsCalm r.now → r.frames ≡ [] → r.notes ≡ [] → (s : Known) → s.mode ≡ modes.Blank
+    → (octets : List ℕ) → 1 ≤ length octets → Quiet g l r (place r) s (take 1 octets)
 top_quiet g l r item calm top bare s rests octets some =
     let size = length-take-le 1 octets some in
     let floor_is : floor s ≡ s.used = ap (λ m. scanning.start_of m s.start s.used) rests in
-    let counts : base r.frames r.notes r.start (floor s) ≡ floor s = ap (λ fs. base fs r.notes r.start (floor s)) top ∙ ap (λ ss. base [] ss r.start (floor s)) bare in
+    let counts : base r.frames r.notes r.start (floor s) ≡ floor s = ap (λ fs. base fs r.notes r.start (floor s)) top
+    ∙ ap (λ ss. base [] ss r.start (floor s)) bare in
     quiet_within g l r (floor s) calm (place r) (take 1 octets) s (omega arith) (omega arith) (omega arith)
 
 -- what is noticed where no token has begun that surely is one, as long as no more octets than these were used
@@ -180,7 +189,8 @@ pub inner_notices : (l : Limits) (r : Reading) → is_top r.frames ≡ false →
 inner_notices l r inner s idle room = idle_noticed l r s idle inner room
 
 module _ (g : Catalog) (l : Limits) (r : Reading) where
-  blank_waits : (h : Held) (end : ℕ) → r.now ≡ nows.Pending h end → (p : Place) (os : List ℕ) (s t : Known) → is_sane s.mode ≡ true → is_idle t.mode ≡ true → scanning.run p os s ≡ Next t → Waiting g l r p s os
+  blank_waits : (h : Held) (end : ℕ) → r.now ≡ nows.Pending h end → (p : Place) (os : List ℕ) (s t : Known) → is_sane s.mode ≡ true → is_idle t.mode ≡ true
+      → scanning.run p os s ≡ Next t → Waiting g l r p s os
   blank_waits h end now p [] s t sane idle e = tt
   blank_waits h end now p (o ∷ os) s t sane idle e =
       let f = followed (feed p s o) (λ k. scanning.run p os k) t e in
@@ -190,7 +200,8 @@ module _ (g : Catalog) (l : Limits) (r : Reading) where
       )
 
   module _ (most : ℕ) (notices : NoticesNothing l r most) where
-    pub blank_quiet : (p : Place) (os : List ℕ) (s t : Known) → is_sane s.mode ≡ true → is_idle t.mode ≡ true → scanning.run p os s ≡ Next t → s.used + length os ≤ most → Quiet g l r p s os
+    pub blank_quiet : (p : Place) (os : List ℕ) (s t : Known) → is_sane s.mode ≡ true → is_idle t.mode ≡ true → scanning.run p os s ≡ Next t
+        → s.used + length os ≤ most → Quiet g l r p s os
     blank_quiet p [] s t sane idle e room = tt
     blank_quiet p (o ∷ os) s t sane idle e room =
         let f = followed (feed p s o) (λ k. scanning.run p os k) t e in
@@ -199,7 +210,8 @@ module _ (g : Catalog) (l : Limits) (r : Reading) where
         subst (λ x. OnNext x (λ t. (noticed l r t ≡ uses (with_scan t r)) × Quiet g l r p t os)) (sym f.1)
         (notices f.0 (idle_first p os f.0 t x.0 idle f.2) (omega (arith, used)), blank_quiet p os f.0 t x.0 idle f.2 (omega (arith, used)))
 
-    module _ (s t : Known) (octets : List ℕ) (n : ℕ) (within : n ≤ length octets) (sane : is_sane s.mode ≡ true) (idle : is_idle t.mode ≡ true) (e : scanning.run (place r) (take n octets) s ≡ Next t) (room : s.used + n ≤ most) where
+    module _ (s t : Known) (octets : List ℕ) (n : ℕ) (within : n ≤ length octets) (sane : is_sane s.mode ≡ true) (idle : is_idle t.mode ≡ true)
+        (e : scanning.run (place r) (take n octets) s ≡ Next t) (room : s.used + n ≤ most) where
       blank_led : Stays g l r (place r) s (take n octets) → Passes g l (with_scan s r) octets n (with_scan t r)
       blank_led stays =
           let size = length-take-le n octets within in
@@ -217,7 +229,8 @@ module _ (g : Catalog) (l : Limits) (r : Reading) where
 
 module _ (g : Catalog) (l : Limits) (r : Reading) (inner : is_top r.frames ≡ false) where
   -- where values or names may come
-  pub calm_quiet : IsCalm r.now → (s : Known) → s.mode ≡ modes.Blank → (octets : List ℕ) (n : ℕ) → n ≤ length octets → s.used + n ≤ l.item + r.start → Quiet g l r (place r) s (take n octets)
+  pub calm_quiet : IsCalm r.now → (s : Known) → s.mode ≡ modes.Blank → (octets : List ℕ) (n : ℕ) → n ≤ length octets → s.used + n ≤ l.item + r.start
+      → Quiet g l r (place r) s (take n octets)
   calm_quiet calm s rests octets n within room =
       let size = length-take-le n octets within in
       let floor_is : floor s ≡ s.used = ap (λ m. scanning.start_of m s.start s.used) rests in
@@ -257,7 +270,8 @@ module _ (g : Catalog) (l : Limits) (r : Reading) where
         ∙ (ap (λ a. on_said a (λ c. behind_left again b (turn g l r (token_of x c)))) says
         ∙ (ap (behind_left again b) turns ∙ twice_fuel g l (with_scan b q) octet (blank_twice b octet blank)))) before
 
-    pub passes_given : is_idle b.mode ≡ true → b.used ≡ s.used + n + 1 → (most : ℕ) → NoticesNothing l q most → b.used ≤ most → feed (place r) k octet ≡ Given x b → Passes g l (with_scan s r) octets (n + 1) (with_scan b q)
+    pub passes_given : is_idle b.mode ≡ true → b.used ≡ s.used + n + 1 → (most : ℕ) → NoticesNothing l q most → b.used ≤ most
+        → feed (place r) k octet ≡ Given x b → Passes g l (with_scan s r) octets (n + 1) (with_scan b q)
     passes_given idle used most notices room f =
         passes_on g l (with_scan s r) (with_scan k r) (with_scan b q) octets n 1 before
         (passes_octet (drop n octets) (let i = length_drop n octets in omega arith) octet (get_drop n octets shown)
@@ -265,8 +279,10 @@ module _ (g : Catalog) (l : Limits) (r : Reading) where
         ∙ (ap (λ a. on_said a (λ c. behind_given l b (turn g l r (token_of x c)))) says
         ∙ (ap (behind_given l b) turns ∙ notices b idle room))))
       where
-        passes_octet : (os : List ℕ) → 0 < length os → (o : ℕ) → get_or os 0 0 ≡ o → eats g l (with_scan k r) o ≡ uses (with_scan b q) → Passes g l (with_scan k r) os 1 (with_scan b q)
-        passes_octet os some o e h = passes_one g l (with_scan k r) (with_scan b q) os some (let i = counted in omega (arith, used)) (ap (eats g l (with_scan k r)) e ∙ h)
+        passes_octet : (os : List ℕ) → 0 < length os → (o : ℕ) → get_or os 0 0 ≡ o → eats g l (with_scan k r) o ≡ uses (with_scan b q)
+            → Passes g l (with_scan k r) os 1 (with_scan b q)
+        passes_octet os some o e h = passes_one g l (with_scan k r) (with_scan b q) os some (let i = counted in omega (arith, used))
+            (ap (eats g l (with_scan k r)) e ∙ h)
 
         length_drop : (n : ℕ) (os : List ℕ) → length (drop n os) ≡ length os - n
         length_drop n os = length-drop n os
@@ -278,11 +294,14 @@ module _ (g : Catalog) (l : Limits) (r : Reading) where
 
 module _ (g : Catalog) (l : Limits) (r : Reading) where
   -- `::` behind what may be a symbol: its last octet, where the scanner knows this before it
-  pub passes_colons : (h : Held) (end : ℕ) → r.now ≡ nows.Pending h end → (k b : Known) (octets : List ℕ) (x : Lexeme) (c : Content) (q : Reading) → 0 < length octets → feed (place r) k (get_or octets 0 0) ≡ Given x b → is_colons x.kind ≡ true → said x.kind x.octets ≡ Ok c → turn g l r (token_of x c) ≡ goes q
+  pub passes_colons : (h : Held) (end : ℕ) → r.now ≡ nows.Pending h end → (k b : Known) (octets : List ℕ) (x : Lexeme) (c : Content) (q : Reading)
+      → 0 < length octets → feed (place r) k (get_or octets 0 0) ≡ Given x b → is_colons x.kind ≡ true → said x.kind x.octets ≡ Ok c → turn g l r (token_of x c)
+      ≡ goes q
       → is_idle b.mode ≡ true → b.used ≡ k.used + 1 → (most : ℕ) → NoticesNothing l q most → b.used ≤ most → Passes g l (with_scan k r) octets 1 (with_scan b q)
   passes_colons h end now k b octets x c q some f colons says turns idle used most notices room =
       passes_one g l (with_scan k r) (with_scan b q) octets some used
-      (go_on g l (λ m. takes g l 2 m (get_or octets 0 0)) r k (feed (place r) k (get_or octets 0 0)) (unsettled k r (feed (place r) k (get_or octets 0 0))) (inl waits_on)
+      (go_on g l (λ m. takes g l 2 m (get_or octets 0 0)) r k (feed (place r) k (get_or octets 0 0)) (unsettled k r (feed (place r) k (get_or octets 0 0)))
+      (inl waits_on)
       ∙ (ap (on_scan g l (λ m. takes g l 2 m (get_or octets 0 0)) r) f
       ∙ (ap (λ a. on_said a (λ c. behind_given l b (turn g l r (token_of x c)))) says
       ∙ (ap (behind_given l b) turns ∙ notices b idle room))))
@@ -291,22 +310,28 @@ module _ (g : Catalog) (l : Limits) (r : Reading) where
       waits_on = ap (λ y. unsettled k r y) f ∙ (ap (λ n. waits_now (is_top r.frames) n (Given x b) || in_segment n k) now ∙ ap (λ b. b || false) colons)
 
   -- an octet that shows that what may be a symbol is none before `::`
-  pub passes_settled : (s : Known) (h : Held) (end : ℕ) (octets : List ℕ) (q : Reading) → 0 < length octets → r.now ≡ nows.Pending h end → symbol_waits (feed (place r) s (get_or octets 0 0)) ≡ false → settle g l r ≡ goes q → settle g l q ≡ goes q → place q ≡ place r
+  pub passes_settled : (s : Known) (h : Held) (end : ℕ) (octets : List ℕ) (q : Reading) → 0 < length octets → r.now ≡ nows.Pending h end
+      → symbol_waits (feed (place r) s (get_or octets 0 0)) ≡ false → settle g l r ≡ goes q → settle g l q ≡ goes q → place q ≡ place r
       → Passes g l (with_scan s r) octets 0 (with_scan s q)
   passes_settled s h end octets q some now ends settles still same =
       passes_same g l (with_scan s r) (with_scan s r) (with_scan s q) octets 0 some refl (here ∙ sym there) (passes_none g l (with_scan s r) octets)
     where
       here : eats g l (with_scan s r) (get_or octets 0 0) ≡ on_scan g l (λ m. takes g l 2 m (get_or octets 0 0)) q (feed (place r) s (get_or octets 0 0))
       here =
-          ap (λ b. if b then on_scan g l (λ m. takes g l 2 m (get_or octets 0 0)) r (feed (place r) s (get_or octets 0 0)) else on_settled g l (λ m. takes g l 2 m (get_or octets 0 0)) s (feed (place r) s (get_or octets 0 0)) (settle g l r)) (free r.now now ∙ ends)
+          ap (λ b. if b then on_scan g l (λ m. takes g l 2 m (get_or octets 0 0)) r (feed (place r) s (get_or octets 0 0)) else on_settled g l
+          (λ m. takes g l 2 m (get_or octets 0 0)) s (feed (place r) s (get_or octets 0 0)) (settle g l r)) (free r.now now ∙ ends)
           ∙ ap (on_settled g l (λ m. takes g l 2 m (get_or octets 0 0)) s (feed (place r) s (get_or octets 0 0))) settles
         where
-          free : (n : Now) → n ≡ nows.Pending h end → (waits_now (is_top r.frames) n (feed (place r) s (get_or octets 0 0)) || in_segment n s) ≡ symbol_waits (feed (place r) s (get_or octets 0 0))
-          free n e = ap (λ k. waits_now (is_top r.frames) k (feed (place r) s (get_or octets 0 0)) || in_segment k s) e ∙ none (symbol_waits (feed (place r) s (get_or octets 0 0)))
+          free : (n : Now) → n ≡ nows.Pending h end → (waits_now (is_top r.frames) n (feed (place r) s (get_or octets 0 0)) || in_segment n s)
+              ≡ symbol_waits (feed (place r) s (get_or octets 0 0))
+          free n e = ap (λ k. waits_now (is_top r.frames) k (feed (place r) s (get_or octets 0 0)) || in_segment k s) e
+              ∙ none (symbol_waits (feed (place r) s (get_or octets 0 0)))
             where
               none : (b : Bool) → (b || false) ≡ b
               none true = refl
               none false = refl
 
       there : eats g l (with_scan s q) (get_or octets 0 0) ≡ on_scan g l (λ m. takes g l 2 m (get_or octets 0 0)) q (feed (place r) s (get_or octets 0 0))
-      there = go_on g l (λ m. takes g l 2 m (get_or octets 0 0)) q s (feed (place q) s (get_or octets 0 0)) (unsettled s q (feed (place q) s (get_or octets 0 0))) (inr still) ∙ ap (λ p. on_scan g l (λ m. takes g l 2 m (get_or octets 0 0)) q (feed p s (get_or octets 0 0))) same
+      there = go_on g l (λ m. takes g l 2 m (get_or octets 0 0)) q s (feed (place q) s (get_or octets 0 0))
+          (unsettled s q (feed (place q) s (get_or octets 0 0))) (inr still)
+          ∙ ap (λ p. on_scan g l (λ m. takes g l 2 m (get_or octets 0 0)) q (feed p s (get_or octets 0 0))) same

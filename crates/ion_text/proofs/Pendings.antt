@@ -77,7 +77,8 @@ module _ (g : Catalog) (l : Limits) where
     few false None = omega arith
 
     -- a value came before the first octet
-    first_left : (awaited : Option ℕ) (v : Value) (o used : ℕ) → StopsBefore g l (is_some awaited) to m piece used v o now → 0 < pending_by (quiet m) awaited + 2 * used
+    first_left : (awaited : Option ℕ) (v : Value) (o used : ℕ) → StopsBefore g l (is_some awaited) to m piece used v o now
+        → 0 < pending_by (quiet m) awaited + 2 * used
     first_left awaited v o (suc used) h = omega arith
     first_left (Some x) v o zero h = absurd (omega (arith, h.onward refl))
     first_left None v o zero h = by (quiet m) refl
@@ -86,28 +87,36 @@ module _ (g : Catalog) (l : Limits) where
         by false e = omega arith
         by true e = absurd (quiet_stays m o v now e (subst (λ (n : State). eats g l n o ≡ leaves v now) (led_same m h.before h.ran) h.left))
 
-    progress : (used : ℕ) (value : Option Value) (next : Option ℕ) → Advances g l (is_some awaited) to m piece (Ok (record { used = used; value = value })) next now → IsSome value → pending_by (quiet now) next < pending_by (quiet m) awaited + 2 * used
+    progress : (used : ℕ) (value : Option Value) (next : Option ℕ) → Advances g l (is_some awaited) to m piece (Ok (record { used = used; value = value })) next
+        now → IsSome value → pending_by (quiet now) next < pending_by (quiet m) awaited + 2 * used
     progress used None next h some = absurd cc
     progress used (Some v) None h some = let n = few (quiet now) None in omega (arith, n, h.1.0)
     progress used (Some v) (Some o) h some = first_left awaited v o used h.1
 
-    few_pending : (used : ℕ) (value : Option Value) (next : Option ℕ) → BeginsWith awaited piece → Advances g l (is_some awaited) to m piece (Ok (record { used = used; value = value })) next now → pending_by (quiet now) next ≤ pending_by (quiet m) awaited + 2 * used
+    few_pending : (used : ℕ) (value : Option Value) (next : Option ℕ) → BeginsWith awaited piece
+        → Advances g l (is_some awaited) to m piece (Ok (record { used = used; value = value })) next now
+        → pending_by (quiet now) next ≤ pending_by (quiet m) awaited + 2 * used
     few_pending used None (Some o) begins h = absurd h.1
     few_pending used None None begins h = unmoved awaited piece used begins h.1.0 h.1.1
       where
-        unmoved : (a : Option ℕ) (os : List ℕ) (used : ℕ) → BeginsWith a os → used ≡ length os → resumed g l (is_some a) to m os ≡ led now → pending_by (quiet now) None ≤ pending_by (quiet m) a + 2 * used
+        unmoved : (a : Option ℕ) (os : List ℕ) (used : ℕ) → BeginsWith a os → used ≡ length os → resumed g l (is_some a) to m os ≡ led now
+            → pending_by (quiet now) None ≤ pending_by (quiet m) a + 2 * used
         unmoved a (o ∷ os) used b e ran = let n = few (quiet now) None in omega (arith, n, e)
         unmoved (Some o) [] used b e ran = absurd (nothing o b.0 b.1)
         unmoved None [] used b e ran = let n = ap (λ (n : State). pending_by (quiet n) None) (led_same m now ran) in omega (arith, n)
     few_pending used (Some v) next begins h = let n = progress used (Some v) next h cc in omega (arith, n)
 
 -- A step with a value uses up one that may still come, or an octet.
-pub step_progress : (old new : TextReader) (piece : List ℕ) (result : Result Step Refusal) → Advances old.catalog.now old.limits (is_some old.awaited) (octets_used old) (state_of old) piece result new.awaited (state_of new)
+pub step_progress : (old new : TextReader) (piece : List ℕ) (result : Result Step Refusal)
+    → Advances old.catalog.now old.limits (is_some old.awaited) (octets_used old) (state_of old) piece result new.awaited (state_of new)
     → IfOk result (λ step. IsSome step.value → pending new < pending old + 2 * step.used)
 step_progress old new piece (Err refusal) h = tt
-step_progress old new piece (Ok step) h = progress old.catalog.now old.limits (octets_used old) (state_of old) (state_of new) old.awaited new.awaited piece step.used step.value new.awaited h
+step_progress old new piece (Ok step) h = progress old.catalog.now old.limits (octets_used old) (state_of old) (state_of new) old.awaited new.awaited piece
+    step.used step.value new.awaited h
 
-pub step_pending : (old new : TextReader) (piece : List ℕ) (result : Result Step Refusal) → BeginsWith old.awaited piece → Advances old.catalog.now old.limits (is_some old.awaited) (octets_used old) (state_of old) piece result new.awaited (state_of new)
+pub step_pending : (old new : TextReader) (piece : List ℕ) (result : Result Step Refusal) → BeginsWith old.awaited piece
+    → Advances old.catalog.now old.limits (is_some old.awaited) (octets_used old) (state_of old) piece result new.awaited (state_of new)
     → IfOk result (λ step. pending new ≤ pending old + 2 * step.used)
 step_pending old new piece (Err refusal) begins h = tt
-step_pending old new piece (Ok step) begins h = few_pending old.catalog.now old.limits (octets_used old) (state_of old) (state_of new) old.awaited new.awaited piece step.used step.value new.awaited begins h
+step_pending old new piece (Ok step) begins h = few_pending old.catalog.now old.limits (octets_used old) (state_of old) (state_of new) old.awaited new.awaited
+    piece step.used step.value new.awaited begins h

@@ -28,7 +28,12 @@ module _ (g : Catalog) (l : Limits) (to : ℕ) (m : State) (piece : List ℕ) (n
     where
       by : (t : Taken) → Took g l to m (take n piece) (Ok (took.0, t)) new → Took g l to m piece (Ok (took.0, t)) new
       by taken.Uses h = let i = size in (h.0, omega (arith, h.1), ap (run g l to m) (sym (front_of took.0 (omega (arith, h.1)))) ∙ h.2)
-      by taken.Tells h = let i = size in (h.0, omega (arith, h.1), subst (λ (w : List ℕ). GaveLast (run g l to m w) (to + took.0) new.given (state_of new)) (front_of took.0 (omega (arith, h.1))) h.2)
+      by taken.Tells h = let i = size in (
+        h.0,
+        omega (arith, h.1),
+        subst (λ (w : List ℕ). GaveLast (run g l to m w) (to + took.0) new.given (state_of new))
+            (front_of took.0 (omega (arith, h.1))) h.2,
+      )
       by taken.Leaves h =
           let i = size in
           let j = h.within in

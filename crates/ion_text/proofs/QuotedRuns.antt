@@ -26,7 +26,8 @@ keep_octet q s done total start i low within raw whole =
 -- one that doesn't ends the run
 pub escape_octet : (q : Quotes) (s done total : List ℕ) (start i : ℕ) → i < length s
     → done ++ (take (i - start) (drop start s) ++ escaped_text q (drop i s)) ≡ total
-    → (done ++ (take (i - start) (drop start s) ++ escape q (get_or s i 0))) ++ (take (i + 1 - (i + 1)) (drop (i + 1) s) ++ escaped_text q (drop (i + 1) s)) ≡ total
+    → (done ++ (take (i - start) (drop start s) ++ escape q (get_or s i 0))) ++ (take (i + 1 - (i + 1)) (drop (i + 1) s) ++ escaped_text q (drop (i + 1) s))
+    ≡ total
 escape_octet q s done total start i within whole =
     let zero : i + 1 - (i + 1) ≡ 0 = omega arith in
     let read = rw (escaped_drop q s i within) at whole in

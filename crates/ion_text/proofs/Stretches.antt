@@ -58,7 +58,8 @@ acts_start p s t o (actions.Go m k) e = sym (ap (λ x. start_in x 0) e)
 acts_start p s t o (actions.Give _ _) e = cc
 acts_start p s t o (actions.Before _ _ _) e = cc
 acts_start p s t o actions.EndWord e = sym (one ((o == 46) && bytes_eq s.kept (codes "null")) e) where
-  one : (b : Bool) → cond b (Next (go_to s modes.KindName [])) (Left (cut s kinds.Word s.kept s.used) (past p kinds.Word modes.Blank [] s.used s.used)) ≡ Next t → floor s ≡ t.start
+  one : (b : Bool) → cond b (Next (go_to s modes.KindName [])) (Left (cut s kinds.Word s.kept s.used) (past p kinds.Word modes.Blank [] s.used s.used)) ≡ Next t
+      → floor s ≡ t.start
   one true h = ap (λ x. start_in x 0) h
   one false h = cc
 acts_start p s t o (actions.Split _) e = cc
@@ -94,7 +95,8 @@ floor_later p s t o e h =
     let start = feed_start p s t o e in
     let used = feed_used p s t o e in
     let later = start_later t.mode (floor s) s.used h in
-    let same : start_of t.mode (floor s) (s.used + 1) ≡ floor t = ap (λ k. start_of t.mode k (s.used + 1)) (sym start) ∙ ap (start_of t.mode t.start) (sym used) in
+    let same : start_of t.mode (floor s) (s.used + 1) ≡ floor t = ap (λ k. start_of t.mode k (s.used + 1)) (sym start)
+    ∙ ap (start_of t.mode t.start) (sym used) in
     (omega (arith, start), subst (λ (k : ℕ). floor s ≤ k) same later.0, omega (arith, used, same, later.1))
 
 calm_open : (n : Now) → IsCalm n → shut n ≡ false
@@ -106,7 +108,9 @@ calm_open nows.After h = absurd h
 calm_open (nows.LongName w) h = absurd h
 calm_open (nows.Keyed s) h = absurd h
 
-top_span : (idle : Bool) (s : Known) (from lo : ℕ) → lo ≤ s.start → (b : Option Begun) → b ≡ (if idle then None else Some (record { start = s.start; end = s.used - behind s.mode; form = form_of s.mode })) → (n : ℕ) → longest_top from s.used nows.Ready [] b n ≤ s.used - lo
+top_span : (idle : Bool) (s : Known) (from lo : ℕ) → lo ≤ s.start → (b : Option Begun)
+    → b ≡ (if idle then None else Some (record { start = s.start; end = s.used - behind s.mode; form = form_of s.mode })) → (n : ℕ)
+    → longest_top from s.used nows.Ready [] b n ≤ s.used - lo
 top_span true s from lo h None e n = omega arith
 top_span true s from lo h (Some b) e n = absurd cc
 top_span false s from lo h None e n = absurd cc
@@ -124,11 +128,13 @@ top_span false s from lo h (Some b) e n =
     end_if d (Some b) = b.end
 
 -- how many octets the open item has is known by how many are used
-reach_bound : (r : Reading) (s : Known) (lo : ℕ) → IsCalm r.now → lo ≤ s.start → (fs : List Frame) (ss : Symbols) → r.notes ≡ ss → reaches fs r s ≤ s.used - base fs ss r.start lo
+reach_bound : (r : Reading) (s : Known) (lo : ℕ) → IsCalm r.now → lo ≤ s.start → (fs : List Frame) (ss : Symbols) → r.notes ≡ ss
+    → reaches fs r s ≤ s.used - base fs ss r.start lo
 reach_bound r s lo calm h [] [] e = by r.now calm
   where
     by : (n : Now) → IsCalm n → longest_top r.start s.used n r.notes (begun_in s) (is_long_begun (begun_in s)) ≤ s.used - lo
-    by nows.Ready c = subst (λ (ss : Symbols). longest_top r.start s.used nows.Ready ss (begun_in s) (is_long_begun (begun_in s)) ≤ s.used - lo) (sym e) (top_span (is_idle s.mode) s r.start lo h (begun_in s) refl (is_long_begun (begun_in s)))
+    by nows.Ready c = subst (λ (ss : Symbols). longest_top r.start s.used nows.Ready ss (begun_in s) (is_long_begun (begun_in s)) ≤ s.used - lo) (sym e)
+        (top_span (is_idle s.mode) s r.start lo h (begun_in s) refl (is_long_begun (begun_in s)))
     by nows.Name c = omega arith
     by (nows.Pending k end) c = absurd c
     by (nows.Long w end) c = absurd c
@@ -137,7 +143,9 @@ reach_bound r s lo calm h [] [] e = by r.now calm
     by (nows.Keyed k) c = absurd c
 reach_bound r s lo calm h [] (x ∷ xs) e = by r.now calm
   where
-    noted : (idle : Bool) (b : Option Begun) → b ≡ (if idle then None else Some (record { start = s.start; end = s.used - behind s.mode; form = form_of s.mode })) → (n : ℕ) → longest_top r.start s.used nows.Ready (x ∷ xs) b n ≤ s.used - r.start
+    noted : (idle : Bool) (b : Option Begun) → b ≡ (if idle then None else Some
+        (record { start = s.start; end = s.used - behind s.mode; form = form_of s.mode })) → (n : ℕ)
+        → longest_top r.start s.used nows.Ready (x ∷ xs) b n ≤ s.used - r.start
     noted true None i n = omega arith
     noted true (Some b) i n = absurd cc
     noted false None i n = absurd cc
@@ -148,7 +156,8 @@ reach_bound r s lo calm h [] (x ∷ xs) e = by r.now calm
         end_if d (Some b) = b.end
 
     by : (n : Now) → IsCalm n → longest_top r.start s.used n r.notes (begun_in s) (is_long_begun (begun_in s)) ≤ s.used - r.start
-    by nows.Ready c = subst (λ (ss : Symbols). longest_top r.start s.used nows.Ready ss (begun_in s) (is_long_begun (begun_in s)) ≤ s.used - r.start) (sym e) (noted (is_idle s.mode) (begun_in s) refl (is_long_begun (begun_in s)))
+    by nows.Ready c = subst (λ (ss : Symbols). longest_top r.start s.used nows.Ready ss (begun_in s) (is_long_begun (begun_in s)) ≤ s.used - r.start) (sym e)
+        (noted (is_idle s.mode) (begun_in s) refl (is_long_begun (begun_in s)))
     by nows.Name c = omega arith
     by (nows.Pending k end) c = absurd c
     by (nows.Long w end) c = absurd c
@@ -160,18 +169,21 @@ reach_bound r s lo calm h (f ∷ fs) ss e = omega arith
 module _ (g : Catalog) (l : Limits) (r : Reading) (lo : ℕ) (calm : IsCalm r.now) where
   fits_noticed : (s : Known) → reaches r.frames r s ≤ l.item → noticed l r s ≡ uses (with_scan s r)
   fits_noticed s h =
-      ap (λ b. if b && not (is_idle s.mode) then fails reasons.Unexpected else (if nat_le (reaches r.frames r s) l.item then uses (with_scan s r) else fails reasons.ItemTooLong)) (calm_open r.now calm)
+      ap (λ b. if b && not (is_idle s.mode) then fails reasons.Unexpected else
+      (if nat_le (reaches r.frames r s) l.item then uses (with_scan s r) else fails reasons.ItemTooLong)) (calm_open r.now calm)
       ∙ ap (λ b. if b then uses (with_scan s r) else fails reasons.ItemTooLong) (le_true (reaches r.frames r s) l.item h)
     where
       le_true : (x y : ℕ) → x ≤ y → nat_le x y ≡ true
       le_true x y h = grind (arith, nat_tests)
 
   -- octets with which the item stays within the limit give no reason to refuse
-  pub quiet_within : (p : Place) (os : List ℕ) (s : Known) → lo ≤ floor s → floor s ≤ s.used → s.used + length os ≤ l.item + base r.frames r.notes r.start lo → Quiet g l r p s os
+  pub quiet_within : (p : Place) (os : List ℕ) (s : Known) → lo ≤ floor s → floor s ≤ s.used → s.used + length os ≤ l.item + base r.frames r.notes r.start lo
+      → Quiet g l r p s os
   quiet_within p [] s low high room = tt
   quiet_within p (o ∷ os) s low high room = by (feed p s o) refl (λ t. quiet_within p os t)
     where
-      by : (x : Outcome) → feed p s o ≡ x → ((t : Known) → lo ≤ floor t → floor t ≤ t.used → t.used + length os ≤ l.item + base r.frames r.notes r.start lo → Quiet g l r p t os) → OnNext x (λ t. (noticed l r t ≡ uses (with_scan t r)) × Quiet g l r p t os)
+      by : (x : Outcome) → feed p s o ≡ x → ((t : Known) → lo ≤ floor t → floor t ≤ t.used → t.used + length os ≤ l.item + base r.frames r.notes r.start lo
+          → Quiet g l r p t os) → OnNext x (λ t. (noticed l r t ≡ uses (with_scan t r)) × Quiet g l r p t os)
       by (Given y t) e more = tt
       by (Left y t) e more = tt
       by (Refused n y) e more = tt
@@ -181,7 +193,8 @@ module _ (g : Catalog) (l : Limits) (r : Reading) (lo : ℕ) (calm : IsCalm r.no
           let bound = reach_bound r t lo calm (omega arith) r.frames r.notes refl in
           (fits_noticed t (omega arith), more t (omega arith) later.2 (omega (arith, used)))
 
-calm_settled : (setting : Setting) (start : ℕ) (c : List Slot) (fs : List Frame) (ss : Symbols) (n : Now) → IsCalm n → settled setting start c fs ss n ≡ goes (at start c fs ss n)
+calm_settled : (setting : Setting) (start : ℕ) (c : List Slot) (fs : List Frame) (ss : Symbols) (n : Now) → IsCalm n → settled setting start c fs ss n
+    ≡ goes (at start c fs ss n)
 calm_settled setting start c fs ss nows.Ready h = refl
 calm_settled setting start c fs ss nows.Name h = refl
 calm_settled setting start c fs ss (nows.Pending k end) h = absurd h
@@ -190,7 +203,8 @@ calm_settled setting start c fs ss nows.After h = absurd h
 calm_settled setting start c fs ss (nows.LongName w) h = absurd h
 calm_settled setting start c fs ss (nows.Keyed s) h = absurd h
 
-module _ (g : Catalog) (l : Limits) (r : Reading) (calm : IsCalm r.now) (s : Known) (piece : List ℕ) (high : floor s ≤ s.used) (room : s.used + length piece ≤ l.item + base r.frames r.notes r.start (floor s)) where
+module _ (g : Catalog) (l : Limits) (r : Reading) (calm : IsCalm r.now) (s : Known) (piece : List ℕ) (high : floor s ≤ s.used)
+    (room : s.used + length piece ≤ l.item + base r.frames r.notes r.start (floor s)) where
   settles : settle g l r ≡ goes r
   settles = calm_settled (under g l) r.start r.context r.frames r.notes r.now calm
 
@@ -198,7 +212,8 @@ module _ (g : Catalog) (l : Limits) (r : Reading) (calm : IsCalm r.now) (s : Kno
   quiet os few = quiet_within g l r (floor s) calm (place r) os s (omega arith) high (omega arith)
 
   -- at each octet nothing waits
-  calm_octet : (again : State → Effect) (k : Known) (x : Outcome) (b : Bool) → (if b then on_scan g l again r x else on_settled g l again k x (settle g l r)) ≡ on_scan g l again r x
+  calm_octet : (again : State → Effect) (k : Known) (x : Outcome) (b : Bool) → (if b then on_scan g l again r x else on_settled g l again k x (settle g l r))
+      ≡ on_scan g l again r x
   calm_octet again k x true = refl
   calm_octet again k x false = ap (on_settled g l again k x) settles
 
@@ -209,11 +224,14 @@ module _ (g : Catalog) (l : Limits) (r : Reading) (calm : IsCalm r.now) (s : Kno
   pub all_led : (t : Known) → scanning.run (place r) piece s ≡ Next t → run g l s.used (with_scan s r) piece ≡ led (with_scan t r)
   all_led t e = drive g l piece s.used r s t e (quiet piece (omega arith)) (inl settles)
 
-  last_noticed : (os : List ℕ) (k t : Known) → 0 < length os → scanning.run (place r) os k ≡ Next t → Quiet g l r (place r) k os → noticed l r t ≡ uses (with_scan t r)
+  last_noticed : (os : List ℕ) (k t : Known) → 0 < length os → scanning.run (place r) os k ≡ Next t → Quiet g l r (place r) k os
+      → noticed l r t ≡ uses (with_scan t r)
   last_noticed [] k t some e q = absurd (omega arith)
   last_noticed (o ∷ os) k t some e q = by (feed (place r) k o) refl e q (λ m. last_noticed os m t)
     where
-      ends : (m : Known) (ws : List ℕ) → scanning.run (place r) ws m ≡ Next t → Quiet g l r (place r) m ws → noticed l r m ≡ uses (with_scan m r) → ((m : Known) → 0 < length ws → scanning.run (place r) ws m ≡ Next t → Quiet g l r (place r) m ws → noticed l r t ≡ uses (with_scan t r)) → noticed l r t ≡ uses (with_scan t r)
+      ends : (m : Known) (ws : List ℕ) → scanning.run (place r) ws m ≡ Next t → Quiet g l r (place r) m ws → noticed l r m ≡ uses (with_scan m r)
+          → ((m : Known) → 0 < length ws → scanning.run (place r) ws m ≡ Next t → Quiet g l r (place r) m ws → noticed l r t ≡ uses (with_scan t r))
+          → noticed l r t ≡ uses (with_scan t r)
       ends m [] e q n more = subst (λ (y : Known). noticed l r y ≡ uses (with_scan y r)) (next_same m t e) n
         where
           known_in : Outcome → Known → Known
@@ -224,8 +242,10 @@ module _ (g : Catalog) (l : Limits) (r : Reading) (calm : IsCalm r.now) (s : Kno
           next_same a b e = ap (λ x. known_in x a) e
       ends m (w ∷ ws) e q n more = more m (omega arith) e q
 
-      by : (x : Outcome) → feed (place r) k o ≡ x → follow x (λ m. scanning.run (place r) os m) ≡ Next t → OnNext x (λ m. (noticed l r m ≡ uses (with_scan m r)) × Quiet g l r (place r) m os)
-          → ((m : Known) → 0 < length os → scanning.run (place r) os m ≡ Next t → Quiet g l r (place r) m os → noticed l r t ≡ uses (with_scan t r)) → noticed l r t ≡ uses (with_scan t r)
+      by : (x : Outcome) → feed (place r) k o ≡ x → follow x (λ m. scanning.run (place r) os m) ≡ Next t
+          → OnNext x (λ m. (noticed l r m ≡ uses (with_scan m r)) × Quiet g l r (place r) m os)
+          → ((m : Known) → 0 < length os → scanning.run (place r) os m ≡ Next t → Quiet g l r (place r) m os → noticed l r t ≡ uses (with_scan t r))
+          → noticed l r t ≡ uses (with_scan t r)
       by (Next m) f e q more = ends m os e q.1 q.0 more
       by (Given y m) f e q more = absurd cc
       by (Left y m) f e q more = absurd cc
@@ -245,7 +265,8 @@ module _ (g : Catalog) (l : Limits) (r : Reading) (calm : IsCalm r.now) (s : Kno
     pub inside : count < length piece
     pub read : get_or piece count 0 ≡ octet
     pub before : run g l s.used (with_scan s r) (take count piece) ≡ led (with_scan known r)
-    pub with_it : run g l s.used (with_scan s r) (take (count + 1) piece) ≡ run_on (s.used + count) (λ n. eats g l n octet) led (on_scan g l (λ m. takes g l 2 m octet) r x)
+    pub with_it : run g l s.used (with_scan s r) (take (count + 1) piece) ≡ run_on (s.used + count) (λ n. eats g l n octet) led
+        (on_scan g l (λ m. takes g l 2 m octet) r x)
     pub does : eats g l (with_scan known r) octet ≡ on_scan g l (λ m. takes g l 2 m octet) r x
     pub refuses : (e : Reason) → on_scan g l (λ m. takes g l 2 m octet) r x ≡ fails e → run g l s.used (with_scan s r) piece ≡ failed_at (s.used + count + 1) e
     pub fed : feed (place r) known octet ≡ x
@@ -272,7 +293,8 @@ module _ (g : Catalog) (l : Limits) (r : Reading) (calm : IsCalm r.now) (s : Kno
         before = ap (run g l s.used (with_scan s r)) front ∙ led_before;
         with_it = ap (run g l s.used (with_scan s r)) more ∙ behind [];
         does = does;
-        refuses = λ y h. ap (run g l s.used (with_scan s r)) p.cut ∙ (behind p.rest ∙ ap (run_on (s.used + n) (λ m. eats g l m p.octet) (λ m. run g l (s.used + n + 1) m p.rest)) h);
+        refuses = λ y h. ap (run g l s.used (with_scan s r)) p.cut
+            ∙ (behind p.rest ∙ ap (run_on (s.used + n) (λ m. eats g l m p.octet) (λ m. run g l (s.used + n + 1) m p.rest)) h);
         fed = p.fed;
         counted = p.counted;
       }
@@ -294,25 +316,36 @@ module _ (g : Catalog) (l : Limits) (r : Reading) (calm : IsCalm r.now) (s : Kno
   no_failing f a e = absurd cc
 
   module _ (some : 0 < length piece) where
-    next_count : (t : Known) (new : TextReader) (count : ℕ) → scanning.run (place r) piece s ≡ Next t → scanned new.scanner ≡ t → (scanned new.scanner).used ≡ s.used + count → count ≡ length piece
+    next_count : (t : Known) (new : TextReader) (count : ℕ) → scanning.run (place r) piece s ≡ Next t → scanned new.scanner ≡ t → (scanned new.scanner).used
+        ≡ s.used + count → count ≡ length piece
     next_count t new count e b u = let n = next_used (place r) piece s t (sym e) in let m = ap (λ (k : Known). k.used) b in omega arith
 
-    pub uses_by : (x : Outcome) (new : TextReader) (count : ℕ) → scanning.run (place r) piece s ≡ x → DidWhatCame g l r x met.Uses new → (scanned new.scanner).used ≡ s.used + count
+    pub uses_by : (x : Outcome) (new : TextReader) (count : ℕ) → scanning.run (place r) piece s ≡ x → DidWhatCame g l r x met.Uses new
+        → (scanned new.scanner).used ≡ s.used + count
         → (0 < count) × (count ≤ length piece) × (run g l s.used (with_scan s r) (take count piece) ≡ led (state_of new))
     uses_by (Next t) new count e h u =
         let n = next_count t new count e h.behind u in
-        let same = uses_same (with_scan t r) (state_of new) (sym (all_noticed t some e) ∙ h.did (λ m. fails reasons.Memory)) in
-        (omega arith, omega arith, ap (λ k. run g l s.used (with_scan s r) (take k piece)) n ∙ (ap (run g l s.used (with_scan s r)) (take_all (length piece) piece (omega arith)) ∙ (all_led t e ∙ ap led same)))
+        let same = uses_same (with_scan t r) (state_of new) (sym (all_noticed t some e) ∙ h.did (λ m. fails reasons.Memory)) in (
+          omega arith,
+          omega arith,
+          ap (λ k. run g l s.used (with_scan s r) (take k piece)) n
+              ∙ (ap (run g l s.used (with_scan s r)) (take_all (length piece) piece (omega arith)) ∙ (all_led t e ∙ ap led same)),
+        )
     uses_by (Given y t) new count e h u =
         let a = at_last (Given y t) tt e in
         let m = ap (λ (k : Known). k.used) h.behind in
         let n : count ≡ a.count + 1 = omega (arith, given_here (place r) a.octet a.known t y a.fed, a.counted) in
-        let i = a.inside in
-        (omega arith, omega arith, ap (λ k. run g l s.used (with_scan s r) (take k piece)) n ∙ (a.with_it ∙ ap (run_on (s.used + a.count) (λ n. eats g l n a.octet) led) (h.did (λ m. takes g l 2 m a.octet))))
+        let i = a.inside in (
+          omega arith,
+          omega arith,
+          ap (λ k. run g l s.used (with_scan s r) (take k piece)) n
+              ∙ (a.with_it ∙ ap (run_on (s.used + a.count) (λ n. eats g l n a.octet) led) (h.did (λ m. takes g l 2 m a.octet))),
+        )
     uses_by (Left y t) new count e h u = let n = h.left in absurd cc
     uses_by (Refused n y) new count e h u = absurd h.behind
 
-    pub tells_by : (x : Outcome) (new : TextReader) (count : ℕ) → scanning.run (place r) piece s ≡ x → DidWhatCame g l r x met.Tells new → (scanned new.scanner).used ≡ s.used + count
+    pub tells_by : (x : Outcome) (new : TextReader) (count : ℕ) → scanning.run (place r) piece s ≡ x → DidWhatCame g l r x met.Tells new
+        → (scanned new.scanner).used ≡ s.used + count
         → (0 < count) × (count ≤ length piece) × GaveLast (run g l s.used (with_scan s r) (take count piece)) (s.used + count) new.given (state_of new)
     tells_by (Next t) new count e h u = absurd (by new.given (h.did (λ m. fails reasons.Memory)))
       where
@@ -326,12 +359,15 @@ module _ (g : Catalog) (l : Limits) (r : Reading) (calm : IsCalm r.now) (s : Kno
         let i = a.inside in
         (omega arith, omega arith, by a count n new.given (h.did (λ m. takes g l 2 m a.octet)))
       where
-        by : (a : AtLast (Given y t)) (count : ℕ) → count ≡ a.count + 1 → (given : Option Value) → Told (on_scan g l (λ m. takes g l 2 m a.octet) r (Given y t)) tells given (state_of new) → GaveLast (run g l s.used (with_scan s r) (take count piece)) (s.used + count) given (state_of new)
+        by : (a : AtLast (Given y t)) (count : ℕ) → count ≡ a.count + 1 → (given : Option Value)
+            → Told (on_scan g l (λ m. takes g l 2 m a.octet) r (Given y t)) tells given (state_of new)
+            → GaveLast (run g l s.used (with_scan s r) (take count piece)) (s.used + count) given (state_of new)
         by a count n None d = d
         by a count n (Some v) d =
             let place : s.used + a.count + 1 ≡ s.used + count = omega arith in
             ap (λ k. run g l s.used (with_scan s r) (take k piece)) n
-            ∙ (a.with_it ∙ (ap (run_on (s.used + a.count) (λ n. eats g l n a.octet) led) d ∙ ap (λ k. record { given = (v, k) ∷ []; now = Ok (state_of new) }) place))
+            ∙ (a.with_it ∙ (ap (run_on (s.used + a.count) (λ n. eats g l n a.octet) led) d
+            ∙ ap (λ k. record { given = (v, k) ∷ []; now = Ok (state_of new) }) place))
     tells_by (Left y t) new count e h u = let n = h.left in absurd cc
     tells_by (Refused n y) new count e h u = absurd h.behind
 
@@ -340,7 +376,8 @@ module _ (g : Catalog) (l : Limits) (r : Reading) (calm : IsCalm r.now) (s : Kno
       pub at : AtLast x
       pub same : count ≡ at.count
 
-    pub left_at : (x : Outcome) (mid : TextReader) (y : Met) (count : ℕ) → scanning.run (place r) piece s ≡ x → DidWhatCame g l r x y mid → comes_again y ≡ true → (scanned mid.scanner).used ≡ s.used + count → AtLeft x mid count
+    pub left_at : (x : Outcome) (mid : TextReader) (y : Met) (count : ℕ) → scanning.run (place r) piece s ≡ x → DidWhatCame g l r x y mid → comes_again y ≡ true
+        → (scanned mid.scanner).used ≡ s.used + count → AtLeft x mid count
     left_at (Next t) mid y count e h b u = let n = h.left in absurd cc
     left_at (Given z t) mid y count e h b u = let n = h.left in absurd cc
     left_at (Left z t) mid y count e h b u =
@@ -350,14 +387,18 @@ module _ (g : Catalog) (l : Limits) (r : Reading) (calm : IsCalm r.now) (s : Kno
     left_at (Refused n f) mid y count e h b u = absurd h.behind
 
     -- what the octet does that comes again is what these octets do
-    module _ (x : Outcome) (a : AtLast x) (result : Result Taken Reason) (new : TextReader) (e : Effect) (same : on_scan g l (λ m. takes g l 2 m a.octet) r x ≡ e) where
+    module _ (x : Outcome) (a : AtLast x) (result : Result Taken Reason) (new : TextReader) (e : Effect)
+        (same : on_scan g l (λ m. takes g l 2 m a.octet) r x ≡ e) where
       pub left_uses : result ≡ Ok taken.Uses → DidTake e result new → run g l s.used (with_scan s r) (take (a.count + 1) piece) ≡ led (state_of new)
-      left_uses i d = let h = subst (λ (q : Result Taken Reason). DidTake e q new) i d in a.with_it ∙ ap (run_on (s.used + a.count) (λ n. eats g l n a.octet) led) (same ∙ h)
+      left_uses i d = let h = subst (λ (q : Result Taken Reason). DidTake e q new) i d in
+          a.with_it ∙ ap (run_on (s.used + a.count) (λ n. eats g l n a.octet) led) (same ∙ h)
 
-      pub left_tells : result ≡ Ok taken.Tells → DidTake e result new → GaveLast (run g l s.used (with_scan s r) (take (a.count + 1) piece)) (s.used + a.count + 1) new.given (state_of new)
+      pub left_tells : result ≡ Ok taken.Tells → DidTake e result new
+          → GaveLast (run g l s.used (with_scan s r) (take (a.count + 1) piece)) (s.used + a.count + 1) new.given (state_of new)
       left_tells i d = by new.given (subst (λ (q : Result Taken Reason). DidTake e q new) i d)
         where
-          by : (given : Option Value) → Told e tells given (state_of new) → GaveLast (run g l s.used (with_scan s r) (take (a.count + 1) piece)) (s.used + a.count + 1) given (state_of new)
+          by : (given : Option Value) → Told e tells given (state_of new)
+              → GaveLast (run g l s.used (with_scan s r) (take (a.count + 1) piece)) (s.used + a.count + 1) given (state_of new)
           by None h = h
           by (Some v) h = a.with_it ∙ ap (run_on (s.used + a.count) (λ n. eats g l n a.octet) led) (same ∙ h)
 
@@ -369,19 +410,23 @@ module _ (g : Catalog) (l : Limits) (r : Reading) (calm : IsCalm r.now) (s : Kno
         left = by new.given (subst (λ (q : Result Taken Reason). DidTake e q new) i d);
       }
         where
-          by : (given : Option Value) → Told e leaves given (state_of new) → Told (eats g l (with_scan a.known r) (get_or piece a.count 0)) leaves given (state_of new)
+          by : (given : Option Value) → Told e leaves given (state_of new)
+              → Told (eats g l (with_scan a.known r) (get_or piece a.count 0)) leaves given (state_of new)
           by None h = h
           by (Some v) h = ap (eats g l (with_scan a.known r)) a.read ∙ (a.does ∙ (same ∙ h))
 
     -- so do they where they are refused
-    pub at_refused : (x : Outcome) (a : AtLast x) (e : Reason) (refusal : Refusal) → refusal ≡ record { offset = s.used + a.count + 1; reason = e } → on_scan g l (λ m. takes g l 2 m a.octet) r x ≡ fails e → run g l s.used (with_scan s r) piece ≡ record { given = []; now = Err refusal }
+    pub at_refused : (x : Outcome) (a : AtLast x) (e : Reason) (refusal : Refusal) → refusal ≡ record { offset = s.used + a.count + 1; reason = e }
+        → on_scan g l (λ m. takes g l 2 m a.octet) r x ≡ fails e → run g l s.used (with_scan s r) piece ≡ record { given = []; now = Err refusal }
     at_refused x a e refusal i h = a.refuses e h ∙ ap (λ q. record { given = []; now = Err q }) (sym i)
 
     refusal_same : (refusal : Refusal) (n : ℕ) → refusal.offset ≡ n → refusal ≡ record { offset = n; reason = refusal.reason }
     refusal_same refusal n e = ap (λ k. record { offset = k; reason = refusal.reason }) e
 
-    pub refused_by : (x : Outcome) (refusal : Refusal) (new : TextReader) → scanning.run (place r) piece s ≡ x → MeetsWith g l r x (Err refusal) new → refusal.reason ≢ reasons.Memory → run g l s.used (with_scan s r) piece ≡ record { given = []; now = Err refusal }
-    refused_by (Next t) refusal new e h other = absurd (no_failing refusal.reason (with_scan t r) (sym (all_noticed t some e) ∙ (h other).1 (λ m. fails reasons.Memory)))
+    pub refused_by : (x : Outcome) (refusal : Refusal) (new : TextReader) → scanning.run (place r) piece s ≡ x → MeetsWith g l r x (Err refusal) new
+        → refusal.reason ≢ reasons.Memory → run g l s.used (with_scan s r) piece ≡ record { given = []; now = Err refusal }
+    refused_by (Next t) refusal new e h other = absurd (no_failing refusal.reason (with_scan t r)
+        (sym (all_noticed t some e) ∙ (h other).1 (λ m. fails reasons.Memory)))
     refused_by (Given y t) refusal new e h other =
         let a = at_last (Given y t) tt e in
         let offset = (h other).0 in
@@ -398,11 +443,13 @@ module _ (g : Catalog) (l : Limits) (r : Reading) (calm : IsCalm r.now) (s : Kno
         let n : refusal.offset ≡ s.used + a.count + 1 = omega (arith, offset, refused_here (place r) a.known a.octet k y a.fed, a.counted) in
         at_refused (Refused k y) a refusal.reason refusal (refusal_same refusal (s.used + a.count + 1) n) ((h other).1 (λ m. takes g l 2 m a.octet))
 
-    pub at_place : (p : Place) (y : Met) (new : TextReader) → p ≡ place r → DidWhatCame g l r (scanning.run p piece s) y new → DidWhatCame g l r (scanning.run (place r) piece s) y new
+    pub at_place : (p : Place) (y : Met) (new : TextReader) → p ≡ place r → DidWhatCame g l r (scanning.run p piece s) y new
+        → DidWhatCame g l r (scanning.run (place r) piece s) y new
     at_place p y new e h = subst (λ (q : Place). DidWhatCame g l r (scanning.run q piece s) y new) e h
 
     -- the octet behind those used comes again
-    module _ (mid : TextReader) (count : ℕ) (y : Met) (h : DidWhatCame g l r (scanning.run (place r) piece s) y mid) (b : comes_again y ≡ true) (u : (scanned mid.scanner).used ≡ s.used + count)
+    module _ (mid : TextReader) (count : ℕ) (y : Met) (h : DidWhatCame g l r (scanning.run (place r) piece s) y mid) (b : comes_again y ≡ true)
+        (u : (scanned mid.scanner).used ≡ s.used + count)
         (same_catalog : mid.catalog.now ≡ g) (same_limits : mid.limits ≡ l) where
       there : AtLeft (scanning.run (place r) piece s) mid count
       there = left_at (scanning.run (place r) piece s) mid y count refl h b u
@@ -416,54 +463,72 @@ module _ (g : Catalog) (l : Limits) (r : Reading) (calm : IsCalm r.now) (s : Kno
       took_again : takes g l 2 (state_of mid) there.at.octet ≡ takes mid.catalog.now mid.limits 2 (state_of mid) (get_or piece count 0)
       took_again =
           ap (takes g l 2 (state_of mid)) (sym there.at.read ∙ ap (λ k. get_or piece k 0) (sym there.same))
-          ∙ (ap (λ x. takes x l 2 (state_of mid) (get_or piece count 0)) (sym same_catalog) ∙ ap (λ x. takes mid.catalog.now x 2 (state_of mid) (get_or piece count 0)) (sym same_limits))
+          ∙ (ap (λ x. takes x l 2 (state_of mid) (get_or piece count 0)) (sym same_catalog)
+          ∙ ap (λ x. takes mid.catalog.now x 2 (state_of mid) (get_or piece count 0)) (sym same_limits))
 
-      comes : y ≡ met.Again → on_scan g l (λ m. takes g l 2 m there.at.octet) r (scanning.run (place r) piece s) ≡ takes mid.catalog.now mid.limits 2 (state_of mid) (get_or piece count 0)
+      comes : y ≡ met.Again → on_scan g l (λ m. takes g l 2 m there.at.octet) r (scanning.run (place r) piece s)
+          ≡ takes mid.catalog.now mid.limits 2 (state_of mid) (get_or piece count 0)
       comes is = (subst (λ (y : Met). DidWhatCame g l r (scanning.run (place r) piece s) y mid) is h).did (λ m. takes g l 2 m there.at.octet) ∙ took_again
 
-      comes_late : (reason : Reason) → y ≡ met.Late reason → on_scan g l (λ m. takes g l 2 m there.at.octet) r (scanning.run (place r) piece s) ≡ or_worse reason (takes mid.catalog.now mid.limits 2 (state_of mid) (get_or piece count 0))
-      comes_late reason is = (subst (λ (y : Met). DidWhatCame g l r (scanning.run (place r) piece s) y mid) is h).did (λ m. takes g l 2 m there.at.octet) ∙ ap (or_worse reason) took_again
+      comes_late : (reason : Reason) → y ≡ met.Late reason → on_scan g l (λ m. takes g l 2 m there.at.octet) r (scanning.run (place r) piece s)
+          ≡ or_worse reason (takes mid.catalog.now mid.limits 2 (state_of mid) (get_or piece count 0))
+      comes_late reason is = (subst (λ (y : Met). DidWhatCame g l r (scanning.run (place r) piece s) y mid) is h).did (λ m. takes g l 2 m there.at.octet)
+          ∙ ap (or_worse reason) took_again
 
-      module _ (result : Result Taken Reason) (new : TextReader) (did : DidTake (takes mid.catalog.now mid.limits 2 (state_of mid) (get_or piece count 0)) result new) where
-        pub again_uses : y ≡ met.Again → result ≡ Ok taken.Uses → (0 < count + 1) × (count + 1 ≤ length piece) × (run g l s.used (with_scan s r) (take (count + 1) piece) ≡ led (state_of new))
+      module _ (result : Result Taken Reason) (new : TextReader)
+          (did : DidTake (takes mid.catalog.now mid.limits 2 (state_of mid) (get_or piece count 0)) result new) where
+        pub again_uses : y ≡ met.Again → result ≡ Ok taken.Uses → (0 < count + 1) × (count + 1 ≤ length piece)
+            × (run g l s.used (with_scan s r) (take (count + 1) piece) ≡ led (state_of new))
         again_uses is i =
             let inside = left_inside in (
               omega arith,
               omega arith,
               ap (λ k. run g l s.used (with_scan s r) (take (k + 1) piece)) there.same
-                  ∙ left_uses (scanning.run (place r) piece s) there.at result new (takes mid.catalog.now mid.limits 2 (state_of mid) (get_or piece count 0)) (comes is) i did,
+                  ∙ left_uses (scanning.run (place r) piece s) there.at result new (takes mid.catalog.now mid.limits 2 (state_of mid) (get_or piece count 0))
+                  (comes is) i did,
             )
 
-        pub again_tells : y ≡ met.Again → result ≡ Ok taken.Tells → (0 < count + 1) × (count + 1 ≤ length piece) × GaveLast (run g l s.used (with_scan s r) (take (count + 1) piece)) (s.used + (count + 1)) new.given (state_of new)
+        pub again_tells : y ≡ met.Again → result ≡ Ok taken.Tells → (0 < count + 1) × (count + 1 ≤ length piece)
+            × GaveLast (run g l s.used (with_scan s r) (take (count + 1) piece)) (s.used + (count + 1)) new.given (state_of new)
         again_tells is i =
             let inside = left_inside in
-            let told = left_tells (scanning.run (place r) piece s) there.at result new (takes mid.catalog.now mid.limits 2 (state_of mid) (get_or piece count 0)) (comes is) i did in
+            let told = left_tells (scanning.run (place r) piece s) there.at result new
+            (takes mid.catalog.now mid.limits 2 (state_of mid) (get_or piece count 0)) (comes is) i did in
             let total : s.used + count + 1 ≡ s.used + (count + 1) = omega arith in (
               omega arith,
               omega arith,
               subst (λ (k : ℕ). GaveLast (run g l s.used (with_scan s r) (take (count + 1) piece)) k new.given (state_of new)) total
-                  (subst (λ (k : ℕ). GaveLast (run g l s.used (with_scan s r) (take (k + 1) piece)) (s.used + k + 1) new.given (state_of new)) (sym there.same) told),
+                  (subst (λ (k : ℕ). GaveLast (run g l s.used (with_scan s r) (take (k + 1) piece)) (s.used + k + 1) new.given (state_of new)) (sym there.same)
+                  told),
             )
 
         pub again_leaves : y ≡ met.Again → result ≡ Ok taken.Leaves → LedLeaving g l s.used (with_scan s r) piece count new.given (state_of new)
         again_leaves is i =
             subst (λ (k : ℕ). LedLeaving g l s.used (with_scan s r) piece k new.given (state_of new)) (sym there.same)
-            (left_leaves (scanning.run (place r) piece s) there.at result new (takes mid.catalog.now mid.limits 2 (state_of mid) (get_or piece count 0)) (comes is) i did)
+            (left_leaves (scanning.run (place r) piece s) there.at result new (takes mid.catalog.now mid.limits 2 (state_of mid) (get_or piece count 0))
+            (comes is) i did)
 
         at_count : (offset : ℕ) → offset ≡ (scanned mid.scanner).used + 1 → offset ≡ s.used + there.at.count + 1
         at_count offset e = let n = there.same in omega arith
 
-        pub again_refused : (offset : ℕ) (reason : Reason) → offset ≡ (scanned mid.scanner).used + 1 → y ≡ met.Again → result ≡ Err reason → reason ≢ reasons.Memory → run g l s.used (with_scan s r) piece ≡ record { given = []; now = Err (record { offset = offset; reason = reason }) }
+        pub again_refused : (offset : ℕ) (reason : Reason) → offset ≡ (scanned mid.scanner).used + 1 → y ≡ met.Again → result ≡ Err reason
+            → reason ≢ reasons.Memory → run g l s.used (with_scan s r) piece ≡ record { given = []; now = Err (record { offset = offset; reason = reason }) }
         again_refused offset reason o is i other =
-            at_refused (scanning.run (place r) piece s) there.at reason (record { offset = offset; reason = reason }) (ap (λ k. record { offset = k; reason = reason }) (at_count offset o))
-            (comes is ∙ subst (λ (q : Result Taken Reason). DidTake (takes mid.catalog.now mid.limits 2 (state_of mid) (get_or piece count 0)) q new) i did other)
+            at_refused (scanning.run (place r) piece s) there.at reason (record { offset = offset; reason = reason })
+            (ap (λ k. record { offset = k; reason = reason }) (at_count offset o))
+            (comes is ∙ subst (λ (q : Result Taken Reason). DidTake (takes mid.catalog.now mid.limits 2 (state_of mid) (get_or piece count 0)) q new) i did
+            other)
 
-        pub late_refused : (offset : ℕ) (reason cause : Reason) → offset ≡ (scanned mid.scanner).used + 1 → y ≡ met.Late reason → cause ≡ worse reason result → cause ≢ reasons.Memory → run g l s.used (with_scan s r) piece ≡ record { given = []; now = Err (record { offset = offset; reason = cause }) }
+        pub late_refused : (offset : ℕ) (reason cause : Reason) → offset ≡ (scanned mid.scanner).used + 1 → y ≡ met.Late reason → cause ≡ worse reason result
+            → cause ≢ reasons.Memory → run g l s.used (with_scan s r) piece ≡ record { given = []; now = Err (record { offset = offset; reason = cause }) }
         late_refused offset reason cause o is w other =
-            at_refused (scanning.run (place r) piece s) there.at cause (record { offset = offset; reason = cause }) (ap (λ k. record { offset = k; reason = cause }) (at_count offset o))
-            (comes_late reason is ∙ (take_worse reason (takes mid.catalog.now mid.limits 2 (state_of mid) (get_or piece count 0)) result new did (λ m. other (w ∙ m)) ∙ ap fails (sym w)))
+            at_refused (scanning.run (place r) piece s) there.at cause (record { offset = offset; reason = cause })
+            (ap (λ k. record { offset = k; reason = cause }) (at_count offset o))
+            (comes_late reason is ∙ (take_worse reason (takes mid.catalog.now mid.limits 2 (state_of mid) (get_or piece count 0)) result new did
+            (λ m. other (w ∙ m)) ∙ ap fails (sym w)))
 
-    pub leaves_by : (x : Outcome) (new : TextReader) (count : ℕ) → scanning.run (place r) piece s ≡ x → DidWhatCame g l r x met.Leaves new → (scanned new.scanner).used ≡ s.used + count → LedLeaving g l s.used (with_scan s r) piece count new.given (state_of new)
+    pub leaves_by : (x : Outcome) (new : TextReader) (count : ℕ) → scanning.run (place r) piece s ≡ x → DidWhatCame g l r x met.Leaves new
+        → (scanned new.scanner).used ≡ s.used + count → LedLeaving g l s.used (with_scan s r) piece count new.given (state_of new)
     leaves_by x new count e h u =
         let a = left_at x new met.Leaves count e h refl u in
         subst (λ (k : ℕ). LedLeaving g l s.used (with_scan s r) piece k new.given (state_of new)) (sym a.same) (record {
@@ -473,6 +538,7 @@ module _ (g : Catalog) (l : Limits) (r : Reading) (calm : IsCalm r.now) (s : Kno
           left = by a.at new.given (h.did (λ m. takes g l 2 m a.at.octet));
         })
       where
-        by : (a : AtLast x) (given : Option Value) → Told (on_scan g l (λ m. takes g l 2 m a.octet) r x) leaves given (state_of new) → Told (eats g l (with_scan a.known r) (get_or piece a.count 0)) leaves given (state_of new)
+        by : (a : AtLast x) (given : Option Value) → Told (on_scan g l (λ m. takes g l 2 m a.octet) r x) leaves given (state_of new)
+            → Told (eats g l (with_scan a.known r) (get_or piece a.count 0)) leaves given (state_of new)
         by a None d = d
         by a (Some v) d = ap (eats g l (with_scan a.known r)) a.read ∙ (a.does ∙ d)

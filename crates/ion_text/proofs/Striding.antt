@@ -49,7 +49,8 @@ strides_none r octets h = record {
 same_on : (a b c : TextReader) → SameReader a b → SameReader b c → SameReader a c
 same_on a b c h k = record { catalog = k.catalog ∙ h.catalog; limits = k.limits ∙ h.limits; awaited = k.awaited ∙ h.awaited; failed = k.failed ∙ h.failed }
 
-pub strides_on : (a b c : TextReader) (octets rest : List ℕ) (i j : ℕ) → rest ≡ drop i octets → Strides a b octets i → Strides b c rest j → Strides a c octets (i + j)
+pub strides_on : (a b c : TextReader) (octets rest : List ℕ) (i j : ℕ) → rest ≡ drop i octets → Strides a b octets i → Strides b c rest j
+    → Strides a c octets (i + j)
 strides_on a b c octets rest i j is h k =
     let size : length rest ≡ length octets - i = ap (λ (w : List ℕ). length w) is ∙ length-drop i octets in
     let catalog : b.catalog.now ≡ a.catalog.now = ap (λ x. x.now) h.same.catalog in
@@ -119,10 +120,12 @@ module _ (first mid : TextReader) (piece : List ℕ) (k : ℕ) (h : Strides firs
   abbrev o : ℕ
   o = get_or piece k 0
 
-  with_octet : run g l (scanned first.scanner).used (state_of first) (take (k + 1) piece) ≡ run_on (scanned mid.scanner).used (λ n. eats g l n o) led (eats g l (state_of mid) o)
+  with_octet : run g l (scanned first.scanner).used (state_of first) (take (k + 1) piece) ≡ run_on (scanned mid.scanner).used (λ n. eats g l n o) led
+      (eats g l (state_of mid) o)
   with_octet =
       h.passes (take (k + 1) piece) (twice (k + 1))
-      ∙ ap (run g l (scanned mid.scanner).used (state_of mid)) (next_octet k (take (k + 1) piece) piece h.within (twice (k + 1)) ∙ ap (λ w. o ∷ w) (none (k + 1)))
+      ∙ ap (run g l (scanned mid.scanner).used (state_of mid)) (next_octet k (take (k + 1) piece) piece h.within (twice (k + 1))
+      ∙ ap (λ w. o ∷ w) (none (k + 1)))
     where
       twice : (n : ℕ) → take n (take n piece) ≡ take n piece
       twice n = grind (arith, common_steps)
@@ -130,7 +133,8 @@ module _ (first mid : TextReader) (piece : List ℕ) (k : ℕ) (h : Strides firs
       none : (n : ℕ) → drop n (take n piece) ≡ []
       none n = grind (arith, common_steps)
 
-  all_refused : (e : Reason) → eats g l (state_of mid) o ≡ fails e → run g l (scanned first.scanner).used (state_of first) piece ≡ record { given = []; now = Err (record { offset = (scanned mid.scanner).used + 1; reason = e }) }
+  all_refused : (e : Reason) → eats g l (state_of mid) o ≡ fails e → run g l (scanned first.scanner).used (state_of first) piece
+      ≡ record { given = []; now = Err (record { offset = (scanned mid.scanner).used + 1; reason = e }) }
   all_refused e f =
       h.passes piece refl
       ∙ (ap (run g l (scanned mid.scanner).used (state_of mid)) (next_octet k piece piece h.within refl)
@@ -139,34 +143,43 @@ module _ (first mid : TextReader) (piece : List ℕ) (k : ℕ) (h : Strides firs
   never : (v : Value) (n : State) → eats g l (state_of mid) o ≡ leaves v n → ⊥
   never v n e =
       let r = h.rests resting in
-      subst (NotLeaves g l) e (eats_stays g l (reading_of mid) (scanned mid.scanner) o (still_settles g l (reading_of mid) r.0) (blank_uses (place (reading_of mid)) (scanned mid.scanner) o r.1))
+      subst (NotLeaves g l) e (eats_stays g l (reading_of mid) (scanned mid.scanner) o (still_settles g l (reading_of mid) r.0)
+      (blank_uses (place (reading_of mid)) (scanned mid.scanner) o r.1))
 
   same_eats : eats mid.catalog.now mid.limits (state_of mid) o ≡ eats g l (state_of mid) o
   same_eats = ap (λ x. eats x.now mid.limits (state_of mid) o) h.same.catalog ∙ ap (λ x. eats g x (state_of mid) o) h.same.limits
 
   module _ (new : TextReader) where
-    pub behind_uses : DidTake (eats mid.catalog.now mid.limits (state_of mid) o) (Ok taken.Uses) new → Took g l (scanned first.scanner).used (state_of first) piece (Ok (k + 1, taken.Uses)) new
+    pub behind_uses : DidTake (eats mid.catalog.now mid.limits (state_of mid) o) (Ok taken.Uses) new
+        → Took g l (scanned first.scanner).used (state_of first) piece (Ok (k + 1, taken.Uses)) new
     behind_uses d =
         let within = h.within in
         (omega arith, omega arith, with_octet ∙ ap (run_on (scanned mid.scanner).used (λ n. eats g l n o) led) (sym same_eats ∙ d))
 
-    pub behind_tells : DidTake (eats mid.catalog.now mid.limits (state_of mid) o) (Ok taken.Tells) new → Took g l (scanned first.scanner).used (state_of first) piece (Ok (k + 1, taken.Tells)) new
+    pub behind_tells : DidTake (eats mid.catalog.now mid.limits (state_of mid) o) (Ok taken.Tells) new
+        → Took g l (scanned first.scanner).used (state_of first) piece (Ok (k + 1, taken.Tells)) new
     behind_tells d =
         let within = h.within in
         (omega arith, omega arith, by new.given d)
       where
-        by : (given : Option Value) → Told (eats mid.catalog.now mid.limits (state_of mid) o) tells given (state_of new) → GaveLast (run g l (scanned first.scanner).used (state_of first) (take (k + 1) piece)) ((scanned first.scanner).used + (k + 1)) given (state_of new)
+        by : (given : Option Value) → Told (eats mid.catalog.now mid.limits (state_of mid) o) tells given (state_of new)
+            → GaveLast (run g l (scanned first.scanner).used (state_of first) (take (k + 1) piece)) ((scanned first.scanner).used + (k + 1)) given
+            (state_of new)
         by None e = absurd e
         by (Some v) e =
             let total : (scanned mid.scanner).used + 1 ≡ (scanned first.scanner).used + (k + 1) = let u = h.used in omega arith in
-            with_octet ∙ (ap (run_on (scanned mid.scanner).used (λ n. eats g l n o) led) (sym same_eats ∙ e) ∙ ap (λ j. record { given = (v, j) ∷ []; now = Ok (state_of new) }) total)
+            with_octet ∙ (ap (run_on (scanned mid.scanner).used (λ n. eats g l n o) led) (sym same_eats ∙ e)
+            ∙ ap (λ j. record { given = (v, j) ∷ []; now = Ok (state_of new) }) total)
 
-    pub behind_leaves : DidTake (eats mid.catalog.now mid.limits (state_of mid) o) (Ok taken.Leaves) new → Took g l (scanned first.scanner).used (state_of first) piece (Ok (k, taken.Leaves)) new
+    pub behind_leaves : DidTake (eats mid.catalog.now mid.limits (state_of mid) o) (Ok taken.Leaves) new
+        → Took g l (scanned first.scanner).used (state_of first) piece (Ok (k, taken.Leaves)) new
     behind_leaves d = absurd (by new.given d)
       where
         by : (given : Option Value) → Told (eats mid.catalog.now mid.limits (state_of mid) o) leaves given (state_of new) → ⊥
         by None e = e
         by (Some v) e = never v (state_of new) (sym same_eats ∙ e)
 
-    pub behind_refused : (e : Reason) → DidTake (eats mid.catalog.now mid.limits (state_of mid) o) (Err e) new → e ≢ reasons.Memory → run g l (scanned first.scanner).used (state_of first) piece ≡ record { given = []; now = Err (record { offset = (scanned mid.scanner).used + 1; reason = e }) }
+    pub behind_refused : (e : Reason) → DidTake (eats mid.catalog.now mid.limits (state_of mid) o) (Err e) new → e ≢ reasons.Memory
+        → run g l (scanned first.scanner).used (state_of first) piece
+        ≡ record { given = []; now = Err (record { offset = (scanned mid.scanner).used + 1; reason = e }) }
     behind_refused e d other = all_refused e (sym same_eats ∙ d other)

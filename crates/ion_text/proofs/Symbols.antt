@@ -60,10 +60,12 @@ some_is a b e = cc
 ok_is : (a b : Content) → Path (Result Content Reason) (Ok a) (Ok b) → a ≡ b
 ok_is a b e = cc
 
-pub waits_so : (setting : Setting) (spot : Spot) (fs : List Frame) (ss : Symbols) (c : Content) (h : Held) → held_of c ≡ Some h → on_ready setting spot fs ss c ≡ goes (at spot.start spot.context fs ss (nows.Pending h spot.end))
+pub waits_so : (setting : Setting) (spot : Spot) (fs : List Frame) (ss : Symbols) (c : Content) (h : Held) → held_of c ≡ Some h → on_ready setting spot fs ss c
+    ≡ goes (at spot.start spot.context fs ss (nows.Pending h spot.end))
 waits_so setting spot fs ss c h e = go c e
   where
-    held : (a : Held) → Some a ≡ Some h → goes (at spot.start spot.context fs ss (nows.Pending a spot.end)) ≡ goes (at spot.start spot.context fs ss (nows.Pending h spot.end))
+    held : (a : Held) → Some a ≡ Some h → goes (at spot.start spot.context fs ss (nows.Pending a spot.end))
+        ≡ goes (at spot.start spot.context fs ss (nows.Pending h spot.end))
     held a e = ap (λ x. goes (at spot.start spot.context fs ss (nows.Pending x spot.end))) (some_is a h e)
 
     go : (c : Content) → held_of c ≡ Some h → on_ready setting spot fs ss c ≡ goes (at spot.start spot.context fs ss (nows.Pending h spot.end))
@@ -79,7 +81,8 @@ waits_so setting spot fs ss c h e = go c e
     go (Blob w) e = absurd cc
     go (Mark' m) e = absurd cc
 
-ends_so : (setting : Setting) (spot : Spot) (fs : List Frame) (ss : Symbols) (c : Content) (v : Payload) → value_of c ≡ Some v → on_ready setting spot fs ss c ≡ ended setting spot fs (annotated ss v)
+ends_so : (setting : Setting) (spot : Spot) (fs : List Frame) (ss : Symbols) (c : Content) (v : Payload) → value_of c ≡ Some v → on_ready setting spot fs ss c
+    ≡ ended setting spot fs (annotated ss v)
 ends_so setting spot fs ss c v e = go c e
   where
     value : (a : Payload) → Some a ≡ Some v → ended setting spot fs (annotated ss a) ≡ ended setting spot fs (annotated ss v)
@@ -98,14 +101,16 @@ ends_so setting spot fs ss c v e = go c e
     go (Number' n) e = absurd cc
     go (Mark' m) e = absurd cc
 
-names_so : (setting : Setting) (spot : Spot) (fs : List Frame) (c : Content) (s : Option (List ℕ)) → Names c s → on_name setting spot fs c ≡ goes (keyed spot.start spot.context fs s)
+names_so : (setting : Setting) (spot : Spot) (fs : List Frame) (c : Content) (s : Option (List ℕ)) → Names c s → on_name setting spot fs c
+    ≡ goes (keyed spot.start spot.context fs s)
 names_so setting spot fs c s e = go c e
   where
     name : (w : List ℕ) → s ≡ Some w → goes (keyed spot.start spot.context fs (Some w)) ≡ goes (keyed spot.start spot.context fs s)
     name w e = ap (λ x. goes (keyed spot.start spot.context fs x)) (sym e)
 
     go : (c : Content) → Names c s → on_name setting spot fs c ≡ goes (keyed spot.start spot.context fs s)
-    go (Word w) e = ap (λ b. if b then late reasons.KeywordAsName (keyed spot.start spot.context fs (Some w)) else goes (keyed spot.start spot.context fs (Some w))) e.1 ∙ name w e.0
+    go (Word w) e = ap (λ b. if b then late reasons.KeywordAsName (keyed spot.start spot.context fs (Some w)) else goes
+        (keyed spot.start spot.context fs (Some w))) e.1 ∙ name w e.0
     go (Quoted w) e = name w e
     go (Short w) e = name w e
     go (TypedNull k) e = absurd e
@@ -118,7 +123,8 @@ names_so setting spot fs c s e = go c e
     go (Mark' m) e = absurd e
 
 -- a colon may stand behind it
-name_colon : (p : Place) (k : TokenKind) (kept : List ℕ) (c : Content) (s : Option (List ℕ)) → said k kept ≡ Ok c → Names c s → is_name p ≡ true → takes_colon p k ≡ true
+name_colon : (p : Place) (k : TokenKind) (kept : List ℕ) (c : Content) (s : Option (List ℕ)) → said k kept ≡ Ok c → Names c s → is_name p ≡ true
+    → takes_colon p k ≡ true
 name_colon p k kept c s e n h = go k (subst (λ x. IsBody k kept x) e (says k kept))
   where
     other : (d : Content) → c ≡ d → Names d s
@@ -219,7 +225,8 @@ next_at : (k : ℕ) (w : List ℕ) → get_or (drop k w) 1 0 ≡ get_or w (k + 1
 next_at k w = grind (arith, common_steps)
 
 -- Behind one colon no token has begun that surely is one.
-colon_idle : (p : Place) (b : Rest) (octets : List ℕ) → b.colon ≡ true → get_or octets 0 0 ≡ 58 → (k : Known) → scanning.run p (take 1 octets) (resting b) ≡ Next k → is_idle k.mode ≡ true
+colon_idle : (p : Place) (b : Rest) (octets : List ℕ) → b.colon ≡ true → get_or octets 0 0 ≡ 58 → (k : Known) → scanning.run p (take 1 octets) (resting b)
+    ≡ Next k → is_idle k.mode ≡ true
 colon_idle p b octets may colon k e = ap idle_in (sym e) ∙ by octets colon
   where
     idle_in : Outcome → Bool
@@ -233,8 +240,10 @@ colon_idle p b octets may colon k e = ap idle_in (sym e) ∙ by octets colon
         ∙ ap (λ c. idle_in (follow (acts p (resting b) 58 (in_blank p c 58)) (λ s. Next s))) may
 
 -- An annotation, wherever it may come, with the blank and `::` behind it.
-module _ (g : Catalog) (l : Limits) (r : Reading) (start : ℕ) (now : r.now ≡ nows.Ready) (still : settle g l r ≡ goes r) (rest : Rest) (octets : List ℕ) (kind : TokenKind) (kept : List ℕ) (n m : ℕ) (left : Bool) (c : Content) (held : Held) (s : Option (List ℕ))
-    (found : IsFound (place r) rest octets kind kept n left) (says : said kind kept ≡ Ok c) (holds : held_of c ≡ Some held) (symbol : held_symbol held ≡ Ok s) (passed : IsPassed (drop n octets) m)
+module _ (g : Catalog) (l : Limits) (r : Reading) (start : ℕ) (now : r.now ≡ nows.Ready) (still : settle g l r ≡ goes r) (rest : Rest) (octets : List ℕ)
+    (kind : TokenKind) (kept : List ℕ) (n m : ℕ) (left : Bool) (c : Content) (held : Held) (s : Option (List ℕ))
+    (found : IsFound (place r) rest octets kind kept n left) (says : said kind kept ≡ Ok c) (holds : held_of c ≡ Some held) (symbol : held_symbol held ≡ Ok s)
+    (passed : IsPassed (drop n octets) m)
     (within : n + m + 2 < length octets) (one : get_or octets (n + m) 0 ≡ 58) (two : get_or octets (n + m + 1) 0 ≡ 58) where
   abbrev pub held_back : Reading
   held_back = at start r.context r.frames r.notes (nows.Pending held (rest.used + n))
@@ -251,7 +260,8 @@ module _ (g : Catalog) (l : Limits) (r : Reading) (start : ℕ) (now : r.now ≡
   abbrev past_colons : Rest
   past_colons = past_token (place r) past_between (kinds.Mark marks.Colons) 2
 
-  module _ (quiet : (k : ℕ) → k ≤ n → Quiet g l r (place r) (resting rest) (take k octets)) (turns : turn g l r (token_of (lexeme_at rest kind kept n) c) ≡ goes held_back)
+  module _ (quiet : (k : ℕ) → k ≤ n → Quiet g l r (place r) (resting rest) (take k octets))
+      (turns : turn g l r (token_of (lexeme_at rest kind kept n) c) ≡ goes held_back)
       (waits : NoticesNothing l held_back (rest.used + length octets)) (notes : NoticesNothing l with_note (rest.used + length octets)) where
     behind_size : length (drop n octets) ≡ length octets - n
     behind_size = length-drop n octets
@@ -262,14 +272,17 @@ module _ (g : Catalog) (l : Limits) (r : Reading) (start : ℕ) (now : r.now ≡
     note_is : Passes g l (with_scan (resting rest) r) octets n (with_scan (resting past_symbol) held_back)
     note_is = by left found
       where
-        by : (b : Bool) → IsFound (place r) rest octets kind kept n b → Passes g l (with_scan (resting rest) r) octets n (with_scan (resting past_symbol) held_back)
+        by : (b : Bool) → IsFound (place r) rest octets kind kept n b
+            → Passes g l (with_scan (resting rest) r) octets n (with_scan (resting past_symbol) held_back)
         by true f = left_found g l r still rest octets kind kept n c held_back says turns f (quiet n (omega arith))
-        by false f = given_found g l r still rest octets kind kept n c held_back says turns f (quiet (n - 1) (omega arith)) (rest.used + length octets) waits (omega arith)
+        by false f = given_found g l r still rest octets kind kept n c held_back says turns f (quiet (n - 1) (omega arith)) (rest.used + length octets) waits
+            (omega arith)
 
     between_is : Passes g l (with_scan (resting past_symbol) held_back) (drop n octets) m (with_scan (resting past_between) held_back)
     between_is =
         let some = behind_size in
-        passes_waiting g l held_back (rest.used + length octets) waits (resting past_symbol) (resting past_between) (drop n octets) m (omega arith) refl refl (passed (place held_back) past_symbol) (omega arith) held (rest.used + n) refl
+        passes_waiting g l held_back (rest.used + length octets) waits (resting past_symbol) (resting past_between) (drop n octets) m (omega arith) refl refl
+        (passed (place held_back) past_symbol) (omega arith) held (rest.used + n) refl
 
     may_colons : past_between.colon ≡ true
     may_colons = blank_colon past_symbol m ∙ symbol_colon (place r) kind kept c held says holds
@@ -278,14 +291,16 @@ module _ (g : Catalog) (l : Limits) (r : Reading) (start : ℕ) (now : r.now ≡
     same_there = same_place_in r.frames nows.Ready held_back.now refl held (rest.used + n) refl ∙ ap (place_in r.frames) (sym now)
 
     colons : IsFound (place held_back) past_between (drop (n + m) octets) (kinds.Mark marks.Colons) [] 2 false
-    colons = let some = colons_size in colons_found (place held_back) past_between (drop (n + m) octets) may_colons (omega arith) (at_drop (n + m) octets ∙ one) (next_at (n + m) octets ∙ two)
+    colons = let some = colons_size in colons_found (place held_back) past_between (drop (n + m) octets) may_colons (omega arith) (at_drop (n + m) octets ∙ one)
+        (next_at (n + m) octets ∙ two)
 
     first_is : Passes g l (with_scan (resting past_between) held_back) (drop (n + m) octets) 1 (with_scan colons.known held_back)
     first_is =
         let some = colons_size in
         let used = blank_used past_symbol m in
         passes_waiting g l held_back (rest.used + length octets) waits (resting past_between) colons.known (drop (n + m) octets) 1 (omega arith) refl
-        (colon_idle (place held_back) past_between (drop (n + m) octets) may_colons (at_drop (n + m) octets ∙ one) colons.known colons.ran) colons.ran (omega arith) held (rest.used + n) refl
+        (colon_idle (place held_back) past_between (drop (n + m) octets) may_colons (at_drop (n + m) octets ∙ one) colons.known colons.ran) colons.ran
+        (omega arith) held (rest.used + n) refl
 
     second_is : Passes g l (with_scan colons.known held_back) (drop 1 (drop (n + m) octets)) 1 (with_scan (resting past_colons) with_note)
     second_is =
@@ -294,26 +309,33 @@ module _ (g : Catalog) (l : Limits) (r : Reading) (start : ℕ) (now : r.now ≡
         let rest_of = length-drop 1 (drop (n + m) octets) in
         let few = length-take-le 1 (drop (n + m) octets) (omega arith) in
         let counted = next_used (place held_back) (take 1 (drop (n + m) octets)) (resting past_between) colons.known (sym colons.ran) in
-        passes_colons g l held_back held (rest.used + n) refl colons.known (resting past_colons) (drop 1 (drop (n + m) octets)) (lexeme_at past_between (kinds.Mark marks.Colons) [] 2) (Mark' marks.Colons) with_note (omega arith)
-        (ap (feed (place held_back) colons.known) (at_drop 1 (drop (n + m) octets)) ∙ colons.ends) refl (mark_says marks.Colons) (ap (noted start r.context r.frames r.notes) symbol) refl (omega arith) (rest.used + length octets) notes (omega arith)
+        passes_colons g l held_back held (rest.used + n) refl colons.known (resting past_colons) (drop 1 (drop (n + m) octets))
+        (lexeme_at past_between (kinds.Mark marks.Colons) [] 2) (Mark' marks.Colons) with_note (omega arith)
+        (ap (feed (place held_back) colons.known) (at_drop 1 (drop (n + m) octets)) ∙ colons.ends) refl (mark_says marks.Colons)
+        (ap (noted start r.context r.frames r.notes) symbol) refl (omega arith) (rest.used + length octets) notes (omega arith)
 
     pub noted_passes : Passes g l (with_scan (resting rest) r) octets (n + m + 2) (with_scan (resting past_colons) with_note)
     noted_passes =
         passes_on g l (with_scan (resting rest) r) (with_scan (resting past_between) held_back) (with_scan (resting past_colons) with_note) octets (n + m) 2
-        (passes_on g l (with_scan (resting rest) r) (with_scan (resting past_symbol) held_back) (with_scan (resting past_between) held_back) octets n m note_is between_is)
-        (passes_on g l (with_scan (resting past_between) held_back) (with_scan colons.known held_back) (with_scan (resting past_colons) with_note) (drop (n + m) octets) 1 1 first_is second_is)
+        (passes_on g l (with_scan (resting rest) r) (with_scan (resting past_symbol) held_back) (with_scan (resting past_between) held_back) octets n m note_is
+        between_is)
+        (passes_on g l (with_scan (resting past_between) held_back) (with_scan colons.known held_back) (with_scan (resting past_colons) with_note)
+        (drop (n + m) octets) 1 1 first_is second_is)
 
 -- The machine over such a token, the blank behind it, and what follows.
 
-named_place : (start : ℕ) (c : List Slot) (q : Reading) (fs : List Frame) (s : Option (List ℕ)) → named start c fs s ≡ goes q → is_name (place_in fs nows.Name) ≡ true
+named_place : (start : ℕ) (c : List Slot) (q : Reading) (fs : List Frame) (s : Option (List ℕ)) → named start c fs s ≡ goes q → is_name (place_in fs nows.Name)
+    ≡ true
 named_place start c q [] s e = absurd cc
 named_place start c q (frames.List ss vs ∷ fs) s e = absurd cc
 named_place start c q (frames.Sexp ss vs ∷ fs) s e = absurd cc
 named_place start c q (frames.Named ss ms name ∷ fs) s e = absurd cc
 named_place start c q (frames.Fields ss ms ∷ fs) s e = refl
 
-module _ (g : Catalog) (l : Limits) (r : Reading) (inner : is_top r.frames ≡ false) (rest : Rest) (octets : List ℕ) (kind : TokenKind) (kept : List ℕ) (n m : ℕ) (left : Bool) (c : Content) (room : rest.used + length octets ≤ l.item + r.start) (within : n + m < length octets)
-    (found : IsFound (place r) rest octets kind kept n left) (says : said kind kept ≡ Ok c) (passed : IsPassed (drop n octets) m) (calm : IsCalm r.now) (still : IsStill r.now) where
+module _ (g : Catalog) (l : Limits) (r : Reading) (inner : is_top r.frames ≡ false) (rest : Rest) (octets : List ℕ) (kind : TokenKind) (kept : List ℕ) (n m : ℕ)
+    (left : Bool) (c : Content) (room : rest.used + length octets ≤ l.item + r.start) (within : n + m < length octets)
+    (found : IsFound (place r) rest octets kind kept n left) (says : said kind kept ≡ Ok c) (passed : IsPassed (drop n octets) m) (calm : IsCalm r.now)
+    (still : IsStill r.now) where
   abbrev behind_token : Rest
   behind_token = past_token (place r) rest kind n
 
@@ -326,7 +348,8 @@ module _ (g : Catalog) (l : Limits) (r : Reading) (inner : is_top r.frames ≡ f
   quiet : (k : ℕ) → k ≤ n → Quiet g l r (place r) (resting rest) (take k octets)
   quiet k few = calm_quiet g l r inner calm (resting rest) refl octets k (omega arith) (omega arith)
 
-  token_passes : (q : Reading) → turn g l r (token_of (lexeme_at rest kind kept n) c) ≡ goes q → is_top q.frames ≡ false → q.start ≡ r.start → Passes g l (with_scan (resting rest) r) octets n (with_scan (resting behind_token) q)
+  token_passes : (q : Reading) → turn g l r (token_of (lexeme_at rest kind kept n) c) ≡ goes q → is_top q.frames ≡ false → q.start ≡ r.start
+      → Passes g l (with_scan (resting rest) r) octets n (with_scan (resting behind_token) q)
   token_passes q turns inside same = by left found
     where
       by : (b : Bool) → IsFound (place r) rest octets kind kept n b → Passes g l (with_scan (resting rest) r) octets n (with_scan (resting behind_token) q)
@@ -343,43 +366,54 @@ module _ (g : Catalog) (l : Limits) (r : Reading) (inner : is_top r.frames ≡ f
 
     is_token : Passes g l (with_scan (resting rest) r) octets n (with_scan (resting behind_token) waiting)
     is_token =
-        token_passes waiting (ready_turns g l r (lexeme_at rest kind kept n) c now inner ∙ waits_so (under g l) (spot_in r (rest.used + n)) r.frames r.notes c held holds) inner refl
+        token_passes waiting (ready_turns g l r (lexeme_at rest kind kept n) c now inner
+        ∙ waits_so (under g l) (spot_in r (rest.used + n)) r.frames r.notes c held holds) inner refl
 
     is_blank : Passes g l (with_scan (resting behind_token) waiting) (drop n octets) m (with_scan (resting behind_blank) waiting)
     is_blank =
         let some = size in
-        passes_waiting g l waiting (l.item + r.start) (inner_notices l waiting inner) (resting behind_token) (resting behind_blank) (drop n octets) m (omega arith) refl refl (passed (place waiting) behind_token) (omega arith) held (rest.used + n) refl
+        passes_waiting g l waiting (l.item + r.start) (inner_notices l waiting inner) (resting behind_token) (resting behind_blank) (drop n octets) m
+        (omega arith) refl refl (passed (place waiting) behind_token) (omega arith) held (rest.used + n) refl
 
     is_waiting : Passes g l (with_scan (resting rest) r) octets (n + m) (with_scan (resting behind_blank) waiting)
-    is_waiting = passes_on g l (with_scan (resting rest) r) (with_scan (resting behind_token) waiting) (with_scan (resting behind_blank) waiting) octets n m is_token is_blank
+    is_waiting = passes_on g l (with_scan (resting rest) r) (with_scan (resting behind_token) waiting) (with_scan (resting behind_blank) waiting) octets n m
+        is_token is_blank
 
     -- it is a value
-    module _ (q : Reading) (payload : Payload) (pays : held_payload held ≡ Ok payload) (does : ended (under g l) (spot_in r (rest.used + n)) r.frames (annotated r.notes payload) ≡ goes q) (ends : ends_symbol (get_or octets (n + m) 0) ≡ true) where
+    module _ (q : Reading) (payload : Payload) (pays : held_payload held ≡ Ok payload)
+        (does : ended (under g l) (spot_in r (rest.used + n)) r.frames (annotated r.notes payload) ≡ goes q)
+        (ends : ends_symbol (get_or octets (n + m) 0) ≡ true) where
       stays : StaysIn r.start q
       stays = ended_stays (under g l) (spot_in r (rest.used + n)) q r.frames (annotated r.notes payload) inner does
 
       settles : settle g l waiting ≡ goes q
-      settles = released_inner (under g l) (spot_in r (rest.used + n)) r.frames r.notes held inner ∙ (ap (paid (under g l) (spot_in r (rest.used + n)) r.frames r.notes) pays ∙ does)
+      settles = released_inner (under g l) (spot_in r (rest.used + n)) r.frames r.notes held inner
+          ∙ (ap (paid (under g l) (spot_in r (rest.used + n)) r.frames r.notes) pays ∙ does)
 
       is_settled : Passes g l (with_scan (resting behind_blank) waiting) (drop (n + m) octets) 0 (with_scan (resting behind_blank) q)
       is_settled =
           let some : length (drop (n + m) octets) ≡ length octets - (n + m) = length-drop (n + m) octets in
           passes_settled g l waiting (resting behind_blank) held (rest.used + n) (drop (n + m) octets) q (omega arith) refl
-          (ends_waits (place waiting) behind_blank (get_or (drop (n + m) octets) 0 0) (ap ends_symbol (at_drop (n + m) octets) ∙ ends)) settles (still_settles g l q stays.2)
-          (ended_place (under g l) (spot_in r (rest.used + n)) q r.frames (annotated r.notes payload) inner does ∙ (ap (place_in r.frames) (sym now) ∙ sym waits_there))
+          (ends_waits (place waiting) behind_blank (get_or (drop (n + m) octets) 0 0) (ap ends_symbol (at_drop (n + m) octets) ∙ ends)) settles
+          (still_settles g l q stays.2)
+          (ended_place (under g l) (spot_in r (rest.used + n)) q r.frames (annotated r.notes payload) inner does
+          ∙ (ap (place_in r.frames) (sym now) ∙ sym waits_there))
 
       pub symbol_passes : Passes g l (with_scan (resting rest) r) octets (n + m) (with_scan (resting behind_blank) q)
       symbol_passes =
           let none : n + m + 0 ≡ n + m = omega arith in
           subst (λ k. Passes g l (with_scan (resting rest) r) octets k (with_scan (resting behind_blank) q)) none
-          (passes_on g l (with_scan (resting rest) r) (with_scan (resting behind_blank) waiting) (with_scan (resting behind_blank) q) octets (n + m) 0 is_waiting is_settled)
+          (passes_on g l (with_scan (resting rest) r) (with_scan (resting behind_blank) waiting) (with_scan (resting behind_blank) q) octets (n + m) 0
+          is_waiting is_settled)
 
     -- it is an annotation, and `::` follows
-    module _ (s : Option (List ℕ)) (symbol : held_symbol held ≡ Ok s) (more : n + m + 2 < length octets) (one : get_or octets (n + m) 0 ≡ 58) (two : get_or octets (n + m + 1) 0 ≡ 58) where
+    module _ (s : Option (List ℕ)) (symbol : held_symbol held ≡ Ok s) (more : n + m + 2 < length octets) (one : get_or octets (n + m) 0 ≡ 58)
+        (two : get_or octets (n + m + 1) 0 ≡ 58) where
       abbrev noting : Reading
       noting = at r.start r.context r.frames (r.notes ++ s ∷ []) nows.Ready
 
-      pub note_passes : Passes g l (with_scan (resting rest) r) octets (n + m + 2) (with_scan (resting (past_token (place r) behind_blank (kinds.Mark marks.Colons) 2)) noting)
+      pub note_passes : Passes g l (with_scan (resting rest) r) octets (n + m + 2)
+          (with_scan (resting (past_token (place r) behind_blank (kinds.Mark marks.Colons) 2)) noting)
       note_passes =
           noted_passes g l r r.start now (still_settles g l r still) rest octets kind kept n m left c held s found says holds symbol passed more one two quiet
           (ready_turns g l r (lexeme_at rest kind kept n) c now inner ∙ waits_so (under g l) (spot_in r (rest.used + n)) r.frames r.notes c held holds)
@@ -400,29 +434,38 @@ module _ (g : Catalog) (l : Limits) (r : Reading) (inner : is_top r.frames ≡ f
     is_key : Passes g l (with_scan (resting rest) r) octets n (with_scan (resting behind_token) with_name)
     is_key =
         token_passes with_name
-        (ap (turn_now (under g l) r (token_at rest.used (rest.used + n) c)) now ∙ names_so (under g l) (spot_in r (rest.used + n)) r.frames c name names) inner refl
+        (ap (turn_now (under g l) r (token_at rest.used (rest.used + n) c)) now ∙ names_so (under g l) (spot_in r (rest.used + n)) r.frames c name names) inner
+        refl
 
     is_key_blank : Passes g l (with_scan (resting behind_token) with_name) (drop n octets) m (with_scan (resting behind_blank) with_name)
     is_key_blank =
         let some = size in
-        passes_blank g l with_name (l.item + r.start) (inner_notices l with_name inner) (resting behind_token) (resting behind_blank) (drop n octets) m (omega arith) refl refl (passed (place with_name) behind_token) (omega arith) refl
+        passes_blank g l with_name (l.item + r.start) (inner_notices l with_name inner) (resting behind_token) (resting behind_blank) (drop n octets) m
+        (omega arith) refl refl (passed (place with_name) behind_token) (omega arith) refl
 
     may_colon : behind_blank.colon ≡ true
-    may_colon = blank_colon behind_token m ∙ name_colon (place r) kind kept c name says names (ap (λ x. is_name (place_in r.frames x)) now ∙ named_place r.start r.context q r.frames name does)
+    may_colon = blank_colon behind_token m ∙ name_colon (place r) kind kept c name says names
+        (ap (λ x. is_name (place_in r.frames x)) now ∙ named_place r.start r.context q r.frames name does)
 
     is_colon : Passes g l (with_scan (resting behind_blank) with_name) (drop (n + m) octets) 1 (with_scan (resting behind_colon) q)
     is_colon =
         let some : length (drop (n + m) octets) ≡ length octets - (n + m) = length-drop (n + m) octets in
         let used = blank_used behind_token m in
-        let f = colon_found (place with_name) behind_blank (drop (n + m) octets) may_colon (omega arith) (at_drop (n + m) octets ∙ colon) (λ e. one (sym (next_at (n + m) octets) ∙ e)) in
-        subst (λ p. Passes g l (with_scan (resting behind_blank) with_name) (drop (n + m) octets) 1 (with_scan (resting (past_token p behind_blank (kinds.Mark marks.Colon) 1)) q)) name_there
-        (left_passes g l with_name inner refl behind_blank (drop (n + m) octets) (kinds.Mark marks.Colon) [] 1 (Mark' marks.Colon) q (mark_says marks.Colon) does (omega arith) f
-        (blank_quiet g l with_name (l.item + r.start) (inner_notices l with_name inner) (place with_name) (take 1 (drop (n + m) octets)) (resting behind_blank) f.known refl (colon_idle (place with_name) behind_blank (drop (n + m) octets) may_colon (at_drop (n + m) octets ∙ colon) f.known f.ran) f.ran (let few = length-take-le 1 (drop (n + m) octets) (omega arith) in omega arith)))
+        let f = colon_found (place with_name) behind_blank (drop (n + m) octets) may_colon (omega arith) (at_drop (n + m) octets ∙ colon)
+        (λ e. one (sym (next_at (n + m) octets) ∙ e)) in
+        subst (λ p. Passes g l (with_scan (resting behind_blank) with_name) (drop (n + m) octets) 1
+        (with_scan (resting (past_token p behind_blank (kinds.Mark marks.Colon) 1)) q)) name_there
+        (left_passes g l with_name inner refl behind_blank (drop (n + m) octets) (kinds.Mark marks.Colon) [] 1 (Mark' marks.Colon) q (mark_says marks.Colon)
+        does (omega arith) f
+        (blank_quiet g l with_name (l.item + r.start) (inner_notices l with_name inner) (place with_name) (take 1 (drop (n + m) octets)) (resting behind_blank)
+        f.known refl (colon_idle (place with_name) behind_blank (drop (n + m) octets) may_colon (at_drop (n + m) octets ∙ colon) f.known f.ran) f.ran
+        (let few = length-take-le 1 (drop (n + m) octets) (omega arith) in omega arith)))
 
     pub name_passes : Passes g l (with_scan (resting rest) r) octets (n + m + 1) (with_scan (resting behind_colon) q)
     name_passes =
         passes_on g l (with_scan (resting rest) r) (with_scan (resting behind_blank) with_name) (with_scan (resting behind_colon) q) octets (n + m) 1
-        (passes_on g l (with_scan (resting rest) r) (with_scan (resting behind_token) with_name) (with_scan (resting behind_blank) with_name) octets n m is_key is_key_blank) is_colon
+        (passes_on g l (with_scan (resting rest) r) (with_scan (resting behind_token) with_name) (with_scan (resting behind_blank) with_name) octets n m is_key
+        is_key_blank) is_colon
 
 -- Tokens that are found whole, and what they are.
 
@@ -440,10 +483,12 @@ module _ (p : Place) (r : Rest) (octets : List ℕ) (n : ℕ) where
   abbrev short_token : FoundToken
   short_token = record { kind = kinds.ShortString; count = n; left = false }
 
-  pub word_said : IsFound p r octets kinds.Word (take n octets) n true → IsUtf8 (take n octets) → get_or octets 0 0 ≢ 36 → said kinds.Word (take n octets) ≡ Ok (Word (take n octets))
+  pub word_said : IsFound p r octets kinds.Word (take n octets) n true → IsUtf8 (take n octets) → get_or octets 0 0 ≢ 36 → said kinds.Word (take n octets)
+      ≡ Ok (Word (take n octets))
   word_said found text first = let some = found.some in word_says (take n octets) text (λ e. first (sym (first_of n octets some) ∙ e))
 
-  pub word_symbol : (payload : Payload) → IsFound p r octets kinds.Word (take n octets) n true → IsUtf8 (take n octets) → get_or octets 0 0 ≢ 36 → held_payload (held_word (take n octets)) ≡ Ok payload → BeginsSymbol p r octets found_word payload
+  pub word_symbol : (payload : Payload) → IsFound p r octets kinds.Word (take n octets) n true → IsUtf8 (take n octets) → get_or octets 0 0 ≢ 36
+      → held_payload (held_word (take n octets)) ≡ Ok payload → BeginsSymbol p r octets found_word payload
   word_symbol payload found text first pays = record {
     kept = take n octets;
     content = Word (take n octets);
@@ -452,7 +497,8 @@ module _ (p : Place) (r : Rest) (octets : List ℕ) (n : ℕ) where
     pays = pays;
   }
 
-  pub word_name : (name : Option (List ℕ)) → IsFound p r octets kinds.Word (take n octets) n true → IsUtf8 (take n octets) → get_or octets 0 0 ≢ 36 → is_keyword (take n octets) ≡ false → name ≡ Some (take n octets) → BeginsName p r octets found_word name
+  pub word_name : (name : Option (List ℕ)) → IsFound p r octets kinds.Word (take n octets) n true → IsUtf8 (take n octets) → get_or octets 0 0 ≢ 36
+      → is_keyword (take n octets) ≡ false → name ≡ Some (take n octets) → BeginsName p r octets found_word name
   word_name name found text first free is = record {
     kept = take n octets;
     content = Word (take n octets);
@@ -497,7 +543,8 @@ pub held_in : (o : Option Held) (v : Payload) → Pays o v → (h : Held) × (o 
 held_in None v p = absurd p
 held_in (Some h) v p = (h, refl, p)
 
-module _ (old new : TextReader) (moved : Scanner) (rest behind : Rest) (octets : List ℕ) (token : FoundToken) (inside : Inside old octets) (rests : scanned old.scanner ≡ resting rest) (move : Moved old.scanner moved behind) (setting : SameSetting (with_scanner old moved) new) where
+module _ (old new : TextReader) (moved : Scanner) (rest behind : Rest) (octets : List ℕ) (token : FoundToken) (inside : Inside old octets)
+    (rests : scanned old.scanner ≡ resting rest) (move : Moved old.scanner moved behind) (setting : SameSetting (with_scanner old moved) new) where
   abbrev n : ℕ
   n = token.count
 
@@ -507,43 +554,64 @@ module _ (old new : TextReader) (moved : Scanner) (rest behind : Rest) (octets :
   total : (a b c : ℕ) → a + b + c ≡ a + (b + c)
   total a b c = omega arith
 
-  pub symbol_strides : (m : ℕ) (payload : Payload) → n + m < length octets → behind ≡ past_blank (past_token (place (reading_of old)) rest token.kind n) m → old.stage ≡ nows.Ready → BeginsSymbol (place (reading_of old)) rest octets token payload → IsPassed (drop n octets) m
-      → ends_symbol (get_or octets (n + m) 0) ≡ true → ended (setting_of old) (spot_of old (rest.used + n)) (open_frames old) (annotated old.notes payload) ≡ goes (reading_of new) → Strides old new octets (n + m)
+  pub symbol_strides : (m : ℕ) (payload : Payload) → n + m < length octets → behind ≡ past_blank (past_token (place (reading_of old)) rest token.kind n) m
+      → old.stage ≡ nows.Ready → BeginsSymbol (place (reading_of old)) rest octets token payload → IsPassed (drop n octets) m
+      → ends_symbol (get_or octets (n + m) 0) ≡ true → ended (setting_of old) (spot_of old (rest.used + n)) (open_frames old) (annotated old.notes payload)
+      ≡ goes (reading_of new) → Strides old new octets (n + m)
   symbol_strides m payload within there now b passed ends does =
       let pays = held_in (held_of b.content) payload b.pays in
-      moved_strides old new moved rest behind octets inside rests move setting (n + m) within (ap (λ (k : Rest). k.used) there ∙ (blank_used (past_token (place (reading_of old)) rest token.kind n) m ∙ total rest.used n m))
+      moved_strides old new moved rest behind octets inside rests move setting (n + m) within
+      (ap (λ (k : Rest). k.used) there ∙ (blank_used (past_token (place (reading_of old)) rest token.kind n) m ∙ total rest.used n m))
       (ended_stays (setting_of old) (spot_of old (rest.used + n)) (reading_of new) (open_frames old) (annotated old.notes payload) inside.inner does)
-      (subst (λ (k : Rest). Passes old.catalog.now old.limits (with_scan (resting rest) (reading_of old)) octets (n + m) (with_scan (resting k) (reading_of new))) (sym there)
-      (symbol_passes old.catalog.now old.limits (reading_of old) inside.inner rest octets token.kind b.kept n m token.left b.content fits within b.found b.says passed (subst IsCalm (sym now) tt) (subst IsStill (sym now) tt) now pays.0 pays.1 (reading_of new) payload pays.2 does ends))
+      (subst (λ (k : Rest). Passes old.catalog.now old.limits (with_scan (resting rest) (reading_of old)) octets (n + m)
+      (with_scan (resting k) (reading_of new))) (sym there)
+      (symbol_passes old.catalog.now old.limits (reading_of old) inside.inner rest octets token.kind b.kept n m token.left b.content fits within b.found b.says
+      passed (subst IsCalm (sym now) tt) (subst IsStill (sym now) tt) now pays.0 pays.1 (reading_of new) payload pays.2 does ends))
 
-  pub note_strides : (m : ℕ) (s : Option (List ℕ)) → n + m + 2 < length octets → behind ≡ past_token (place (reading_of old)) (past_blank (past_token (place (reading_of old)) rest token.kind n) m) (kinds.Mark marks.Colons) 2 → old.stage ≡ nows.Ready → BeginsSymbol (place (reading_of old)) rest octets token (payloads.Symbol s)
-      → IsPassed (drop n octets) m → get_or octets (n + m) 0 ≡ 58 → get_or octets (n + m + 1) 0 ≡ 58 → reading_of new ≡ at old.start old.context (open_frames old) (old.notes ++ s ∷ []) nows.Ready → Strides old new octets (n + m + 2)
+  pub note_strides : (m : ℕ) (s : Option (List ℕ)) → n + m + 2 < length octets
+      → behind ≡ past_token (place (reading_of old)) (past_blank (past_token (place (reading_of old)) rest token.kind n) m) (kinds.Mark marks.Colons) 2
+      → old.stage ≡ nows.Ready → BeginsSymbol (place (reading_of old)) rest octets token (payloads.Symbol s)
+      → IsPassed (drop n octets) m → get_or octets (n + m) 0 ≡ 58 → get_or octets (n + m + 1) 0 ≡ 58
+      → reading_of new ≡ at old.start old.context (open_frames old) (old.notes ++ s ∷ []) nows.Ready → Strides old new octets (n + m + 2)
   note_strides m s within there now b passed one two is =
       let pays = held_in (held_of b.content) (payloads.Symbol s) b.pays in
-      moved_strides old new moved rest behind octets inside rests move setting (n + m + 2) within (ap (λ (k : Rest). k.used) there ∙ (ap (λ k. k + 2) (blank_used (past_token (place (reading_of old)) rest token.kind n) m) ∙ more rest.used n m))
+      moved_strides old new moved rest behind octets inside rests move setting (n + m + 2) within
+      (ap (λ (k : Rest). k.used) there ∙ (ap (λ k. k + 2) (blank_used (past_token (place (reading_of old)) rest token.kind n) m) ∙ more rest.used n m))
       (subst (StaysIn old.start) (sym is) (inside.inner, refl, tt))
-      (subst (λ (k : Rest). Passes old.catalog.now old.limits (with_scan (resting rest) (reading_of old)) octets (n + m + 2) (with_scan (resting k) (reading_of new))) (sym there)
-      (subst (λ q. Passes old.catalog.now old.limits (with_scan (resting rest) (reading_of old)) octets (n + m + 2) (with_scan (resting (past_token (place (reading_of old)) (past_blank (past_token (place (reading_of old)) rest token.kind n) m) (kinds.Mark marks.Colons) 2)) q)) (sym is)
-      (note_passes old.catalog.now old.limits (reading_of old) inside.inner rest octets token.kind b.kept n m token.left b.content fits (omega arith) b.found b.says passed (subst IsCalm (sym now) tt) (subst IsStill (sym now) tt) now pays.0 pays.1 s (symbol_held pays.0 s pays.2) within one two)))
+      (subst (λ (k : Rest). Passes old.catalog.now old.limits (with_scan (resting rest) (reading_of old)) octets (n + m + 2)
+      (with_scan (resting k) (reading_of new))) (sym there)
+      (subst (λ q. Passes old.catalog.now old.limits (with_scan (resting rest) (reading_of old)) octets (n + m + 2)
+      (with_scan (resting (past_token (place (reading_of old)) (past_blank (past_token (place (reading_of old)) rest token.kind n) m)
+      (kinds.Mark marks.Colons) 2)) q)) (sym is)
+      (note_passes old.catalog.now old.limits (reading_of old) inside.inner rest octets token.kind b.kept n m token.left b.content fits (omega arith) b.found
+      b.says passed (subst IsCalm (sym now) tt) (subst IsStill (sym now) tt) now pays.0 pays.1 s (symbol_held pays.0 s pays.2) within one two)))
     where
       more : (a b c : ℕ) → a + b + c + 2 ≡ a + (b + c + 2)
       more a b c = omega arith
 
-  pub name_strides : (m : ℕ) (name : Option (List ℕ)) → n + m + 1 < length octets → behind ≡ past_token (place (reading_of old)) (past_blank (past_token (place (reading_of old)) rest token.kind n) m) (kinds.Mark marks.Colon) 1 → old.stage ≡ nows.Name → BeginsName (place (reading_of old)) rest octets token name
-      → IsPassed (drop n octets) m → get_or octets (n + m) 0 ≡ 58 → get_or octets (n + m + 1) 0 ≢ 58 → named old.start old.context (open_frames old) name ≡ goes (reading_of new) → Strides old new octets (n + m + 1)
+  pub name_strides : (m : ℕ) (name : Option (List ℕ)) → n + m + 1 < length octets
+      → behind ≡ past_token (place (reading_of old)) (past_blank (past_token (place (reading_of old)) rest token.kind n) m) (kinds.Mark marks.Colon) 1
+      → old.stage ≡ nows.Name → BeginsName (place (reading_of old)) rest octets token name
+      → IsPassed (drop n octets) m → get_or octets (n + m) 0 ≡ 58 → get_or octets (n + m + 1) 0 ≢ 58 → named old.start old.context (open_frames old) name
+      ≡ goes (reading_of new) → Strides old new octets (n + m + 1)
   name_strides m name within there now b passed colon one does =
-      moved_strides old new moved rest behind octets inside rests move setting (n + m + 1) within (ap (λ (k : Rest). k.used) there ∙ (ap (λ k. k + 1) (blank_used (past_token (place (reading_of old)) rest token.kind n) m) ∙ more rest.used n m))
+      moved_strides old new moved rest behind octets inside rests move setting (n + m + 1) within
+      (ap (λ (k : Rest). k.used) there ∙ (ap (λ k. k + 1) (blank_used (past_token (place (reading_of old)) rest token.kind n) m) ∙ more rest.used n m))
       (named_stays (setting_of old) (spot_of old 0) (reading_of new) (open_frames old) name does)
-      (subst (λ (k : Rest). Passes old.catalog.now old.limits (with_scan (resting rest) (reading_of old)) octets (n + m + 1) (with_scan (resting k) (reading_of new))) (sym there)
-      (name_passes old.catalog.now old.limits (reading_of old) inside.inner rest octets token.kind b.kept n m token.left b.content fits (omega arith) b.found b.says passed (subst IsCalm (sym now) tt) (subst IsStill (sym now) tt) now (reading_of new) within name b.names colon one does))
+      (subst (λ (k : Rest). Passes old.catalog.now old.limits (with_scan (resting rest) (reading_of old)) octets (n + m + 1)
+      (with_scan (resting k) (reading_of new))) (sym there)
+      (name_passes old.catalog.now old.limits (reading_of old) inside.inner rest octets token.kind b.kept n m token.left b.content fits (omega arith) b.found
+      b.says passed (subst IsCalm (sym now) tt) (subst IsStill (sym now) tt) now (reading_of new) within name b.names colon one does))
     where
       more : (a b c : ℕ) → a + b + c + 1 ≡ a + (b + c + 1)
       more a b c = omega arith
 
-  pub whole_strides : (payload : Payload) → n < length octets → behind ≡ past_token (place (reading_of old)) rest token.kind n → old.stage ≡ nows.Ready → BeginsValue (place (reading_of old)) rest octets token payload
+  pub whole_strides : (payload : Payload) → n < length octets → behind ≡ past_token (place (reading_of old)) rest token.kind n → old.stage ≡ nows.Ready
+      → BeginsValue (place (reading_of old)) rest octets token payload
       → ended (setting_of old) (spot_of old (rest.used + n)) (open_frames old) (annotated old.notes payload) ≡ goes (reading_of new) → Strides old new octets n
   whole_strides payload within there now b does =
-      value_strides old new moved rest behind octets token.kind b.kept n token.left b.content (annotated old.notes payload) inside rests move setting within there now b.found b.says
+      value_strides old new moved rest behind octets token.kind b.kept n token.left b.content (annotated old.notes payload) inside rests move setting within
+      there now b.found b.says
       (ends_so (setting_of old) (spot_of old (rest.used + n)) (open_frames old) old.notes b.content payload b.is) does
 
 pub inside_beside : (r : TextReader) (b : TokenReader) (octets : List ℕ) → Inside r octets → Inside (with_beside r b) octets

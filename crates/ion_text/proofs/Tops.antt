@@ -65,14 +65,16 @@ passed_of piece front n k is few passed = λ p r. ap (λ w. scanning.run p w (re
     same = grind (arith, common_steps)
 
 -- what octets at the front lead to, all of them lead to
-passes_front : (g : Catalog) (l : Limits) (m n : State) (octets : List ℕ) (k count : ℕ) → count + 1 ≤ k → Passes g l m (take k octets) count n → Passes g l m octets count n
+passes_front : (g : Catalog) (l : Limits) (m n : State) (octets : List ℕ) (k count : ℕ) → count + 1 ≤ k → Passes g l m (take k octets) count n
+    → Passes g l m octets count n
 passes_front g l m n octets k count within h = λ w e. h w (e ∙ sym (front (count + 1) within))
   where
     front : (j : ℕ) → j ≤ k → take j (take k octets) ≡ take j octets
     front j h = grind (arith, common_steps)
 
 -- behind octets that give nothing the next one gives a value
-gives_next : (g : Catalog) (l : Limits) (m n p : State) (v : Value) (piece : List ℕ) (k : ℕ) → k < length piece → n.scan.used ≡ m.scan.used + k → Passes g l m piece k n → eats g l n (get_or piece k 0) ≡ tells v p
+gives_next : (g : Catalog) (l : Limits) (m n p : State) (v : Value) (piece : List ℕ) (k : ℕ) → k < length piece → n.scan.used ≡ m.scan.used + k
+    → Passes g l m piece k n → eats g l n (get_or piece k 0) ≡ tells v p
     → run g l m.scan.used m (take (k + 1) piece) ≡ record { given = (v, m.scan.used + (k + 1)) ∷ []; now = Ok p }
 gives_next g l m n p v piece k within counted passes e =
     let total : n.scan.used + 1 ≡ m.scan.used + (k + 1) = omega arith in
@@ -88,7 +90,8 @@ gives_next g l m n p v piece k within counted passes e =
     none n = grind (arith, common_steps)
 
 -- behind octets that give nothing, a run over more of them goes on
-pub passes_then : (g : Catalog) (l : Limits) (m n : State) (octets : List ℕ) (a b : ℕ) → 0 < b → Passes g l m octets a n → run g l m.scan.used m (take (a + b) octets) ≡ run g l n.scan.used n (take b (drop a octets))
+pub passes_then : (g : Catalog) (l : Limits) (m n : State) (octets : List ℕ) (a b : ℕ) → 0 < b → Passes g l m octets a n
+    → run g l m.scan.used m (take (a + b) octets) ≡ run g l n.scan.used n (take b (drop a octets))
 passes_then g l m n octets a b some h = h (take (a + b) octets) (front (a + 1) (omega arith)) ∙ ap (run g l n.scan.used n) known_behind
   where
     front : (j : ℕ) → j ≤ a + b → take j (take (a + b) octets) ≡ take j octets
@@ -101,8 +104,10 @@ le_true : (x y : ℕ) → x ≤ y → nat_le x y ≡ true
 le_true x y h = grind (arith, nat_tests)
 
 -- a token whose last octet gives a value
-module _ (g : Catalog) (l : Limits) (r : Reading) (still : settle g l r ≡ goes r) (rest : Rest) (octets : List ℕ) (kind : TokenKind) (kept : List ℕ) (n : ℕ) (c : Content) (v : Value) (q : Reading) (found : IsFound (place r) rest octets kind kept n false)
-    (quiet : Quiet g l r (place r) (resting rest) (take (n - 1) octets)) (says : said kind kept ≡ Ok c) (turns : turn g l r (token_of (lexeme_at rest kind kept n) c) ≡ gives v q) where
+module _ (g : Catalog) (l : Limits) (r : Reading) (still : settle g l r ≡ goes r) (rest : Rest) (octets : List ℕ) (kind : TokenKind) (kept : List ℕ) (n : ℕ)
+    (c : Content) (v : Value) (q : Reading) (found : IsFound (place r) rest octets kind kept n false)
+    (quiet : Quiet g l r (place r) (resting rest) (take (n - 1) octets)) (says : said kind kept ≡ Ok c)
+    (turns : turn g l r (token_of (lexeme_at rest kind kept n) c) ≡ gives v q) where
   abbrev last_octet : ℕ
   last_octet = get_or octets (n - 1) 0
 
@@ -111,12 +116,14 @@ module _ (g : Catalog) (l : Limits) (r : Reading) (still : settle g l r ≡ goes
 
   tells_it : eats g l (with_scan found.known r) last_octet ≡ tells v (with_scan known_behind q)
   tells_it =
-      go_on g l (λ m. takes g l 2 m last_octet) r found.known (feed (place r) found.known last_octet) (unsettled found.known r (feed (place r) found.known last_octet)) (inr still)
+      go_on g l (λ m. takes g l 2 m last_octet) r found.known (feed (place r) found.known last_octet)
+      (unsettled found.known r (feed (place r) found.known last_octet)) (inr still)
       ∙ (ap (on_scan g l (λ m. takes g l 2 m last_octet) r) found.ends
       ∙ (ap (λ a. on_said a (λ c. behind_given l known_behind (turn g l r (token_of (lexeme_at rest kind kept n) c)))) says
       ∙ ap (behind_given l known_behind) turns))
 
-  pub token_gives : run g l rest.used (with_scan (resting rest) r) (take n octets) ≡ record { given = (v, rest.used + n) ∷ []; now = Ok (with_scan known_behind q) }
+  pub token_gives : run g l rest.used (with_scan (resting rest) r) (take n octets)
+      ≡ record { given = (v, rest.used + n) ∷ []; now = Ok (with_scan known_behind q) }
   token_gives =
       let some = found.some in
       let shown = found.shown in
@@ -124,13 +131,15 @@ module _ (g : Catalog) (l : Limits) (r : Reading) (still : settle g l r ≡ goes
       let counted = next_used (place r) (take (n - 1) octets) (resting rest) found.known (sym found.ran) in
       let used : found.known.used ≡ rest.used + (n - 1) = omega arith in
       let last : n - 1 + 1 ≡ n = omega arith in
-      subst (λ j. run g l rest.used (with_scan (resting rest) r) (take j octets) ≡ record { given = (v, rest.used + j) ∷ []; now = Ok (with_scan known_behind q) }) last
+      subst (λ j. run g l rest.used (with_scan (resting rest) r) (take j octets)
+      ≡ record { given = (v, rest.used + j) ∷ []; now = Ok (with_scan known_behind q) }) last
       (gives_next g l (with_scan (resting rest) r) (with_scan found.known r) (with_scan known_behind q) v octets (n - 1) shown used
       (passes_led g l (with_scan (resting rest) r) (with_scan found.known r) octets (n - 1) (omega arith) used
       (drive g l (take (n - 1) octets) rest.used r (resting rest) found.known found.ran quiet (inl still))) tells_it)
 
 -- a whole value of the top level is given
-top_ended : (g : Catalog) (l : Limits) (end start : ℕ) (c : List Slot) (v : Value) → is_table v ≡ false → end ≤ start + l.item → ended (under g l) (spot_at end start c) [] v ≡ gives v (fresh c)
+top_ended : (g : Catalog) (l : Limits) (end start : ℕ) (c : List Slot) (v : Value) → is_table v ≡ false → end ≤ start + l.item
+    → ended (under g l) (spot_at end start c) [] v ≡ gives v (fresh c)
 top_ended g l end start c v free room =
     ap (λ b. if b then turned l.item start end (next c v g) else within l.item start end (gives v (fresh c))) free
     ∙ ap (λ b. if b then gives v (fresh c) else refuses reasons.ItemTooLong) (le_true end (start + l.item) room)
@@ -151,34 +160,44 @@ module _ (g : Catalog) (l : Limits) (start : ℕ) (c : List Slot) (ss : Symbols)
   abbrev begin : ℕ → ℕ
   begin used = begun_at start used [] ss
 
-  top_quiet : (rest : Rest) (octets : List ℕ) (n : ℕ) → n ≤ length octets → rest.used + n ≤ l.item + begin rest.used → Quiet g l on_top places.Top (resting rest) (take n octets)
+  top_quiet : (rest : Rest) (octets : List ℕ) (n : ℕ) → n ≤ length octets → rest.used + n ≤ l.item + begin rest.used
+      → Quiet g l on_top places.Top (resting rest) (take n octets)
   top_quiet rest octets n within room =
       let size = length-take-le n octets within in
       let is = base_begun start rest.used ss in
       quiet_within g l on_top rest.used tt places.Top (take n octets) (resting rest) (omega arith) (omega arith) (omega arith)
 
-  top_blank : (rest : Rest) (piece : List ℕ) (n : ℕ) → n ≤ length piece → rest.used + n ≤ l.item + begin rest.used → IsPassed piece n → Passes g l (rested rest start c [] ss nows.Ready) piece n (rested (past_blank rest n) start c [] ss nows.Ready)
+  top_blank : (rest : Rest) (piece : List ℕ) (n : ℕ) → n ≤ length piece → rest.used + n ≤ l.item + begin rest.used → IsPassed piece n
+      → Passes g l (rested rest start c [] ss nows.Ready) piece n (rested (past_blank rest n) start c [] ss nows.Ready)
   top_blank rest piece n within room passed =
       passes_led g l (rested rest start c [] ss nows.Ready) (rested (past_blank rest n) start c [] ss nows.Ready) piece n within (blank_used rest n)
-      (drive g l (take n piece) rest.used on_top (resting rest) (resting (past_blank rest n)) (passed places.Top rest) (top_quiet rest piece n within room) (inl refl))
+      (drive g l (take n piece) rest.used on_top (resting rest) (resting (past_blank rest n)) (passed places.Top rest) (top_quiet rest piece n within room)
+      (inl refl))
 
   -- a container opens
   abbrev opening : Rest → Mark → Reading
   opening rest m = at (begin rest.used) c (opened m ss ∷ []) [] (first_now m)
 
-  top_open : (rest : Rest) (octets : List ℕ) (m : Mark) → 0 < l.depth → 1 < length octets → OpensAt octets m → rest.used + length octets ≤ l.item + begin rest.used
-      → Passes g l (rested rest start c [] ss nows.Ready) octets 1 (rested (past_token places.Top rest (kinds.Mark m) 1) (begin rest.used) c (opened m ss ∷ []) [] (first_now m))
+  top_open : (rest : Rest) (octets : List ℕ) (m : Mark) → 0 < l.depth → 1 < length octets → OpensAt octets m
+      → rest.used + length octets ≤ l.item + begin rest.used
+      → Passes g l (rested rest start c [] ss nows.Ready) octets 1
+      (rested (past_token places.Top rest (kinds.Mark m) 1) (begin rest.used) c (opened m ss ∷ []) [] (first_now m))
   top_open rest octets m deep more opens room = by (is_open_left m) (open_found m places.Top rest octets opens more refl)
     where
       turns : turn g l on_top (token_of (lexeme_at rest (kinds.Mark m) [] 1) (Mark' m)) ≡ goes (opening rest m)
       turns = open_turns (under g l) (spot_at (rest.used + 1) (begin rest.used) c) [] ss octets m opens deep
 
-      by : (b : Bool) → IsFound places.Top rest octets (kinds.Mark m) [] 1 b → Passes g l (rested rest start c [] ss nows.Ready) octets 1 (rested (past_token places.Top rest (kinds.Mark m) 1) (begin rest.used) c (opened m ss ∷ []) [] (first_now m))
-      by true f = left_found g l on_top refl rest octets (kinds.Mark m) [] 1 (Mark' m) (opening rest m) (mark_says m) turns f (top_quiet rest octets 1 (omega arith) (omega arith))
-      by false f = given_found g l on_top refl rest octets (kinds.Mark m) [] 1 (Mark' m) (opening rest m) (mark_says m) turns f tt (l.item + begin rest.used) (inner_notices l (opening rest m) refl) room
+      by : (b : Bool) → IsFound places.Top rest octets (kinds.Mark m) [] 1 b
+          → Passes g l (rested rest start c [] ss nows.Ready) octets 1
+          (rested (past_token places.Top rest (kinds.Mark m) 1) (begin rest.used) c (opened m ss ∷ []) [] (first_now m))
+      by true f = left_found g l on_top refl rest octets (kinds.Mark m) [] 1 (Mark' m) (opening rest m) (mark_says m) turns f
+          (top_quiet rest octets 1 (omega arith) (omega arith))
+      by false f = given_found g l on_top refl rest octets (kinds.Mark m) [] 1 (Mark' m) (opening rest m) (mark_says m) turns f tt (l.item + begin rest.used)
+          (inner_notices l (opening rest m) refl) room
 
   -- and its close gives the value
-  module _ (level : ℕ) (octets : List ℕ) (count : ℕ) (before after : Tally) (m : Mark) (w : WalkedContainer places.Top m level octets count before after) (more : 1 < length octets) (opens : OpensAt octets m) (deep : level ≤ l.depth)
+  module _ (level : ℕ) (octets : List ℕ) (count : ℕ) (before after : Tally) (m : Mark) (w : WalkedContainer places.Top m level octets count before after)
+      (more : 1 < length octets) (opens : OpensAt octets m) (deep : level ≤ l.depth)
       (room : before.rest.used + length octets ≤ l.item + begin before.rest.used) (free : is_table (annotated ss w.inside.payload) ≡ false) where
     abbrev v : Value
     v = annotated ss w.inside.payload
@@ -219,15 +238,23 @@ module _ (g : Catalog) (l : Limits) (start : ℕ) (c : List Slot) (ss : Symbols)
         passes_on g l first mid last octets 1 w.behind (top_open before.rest octets m (omega arith) more opens room)
         (up_to_close places.Top m level octets count before after w more opens g l (begin before.rest.used) c ss [] (omega arith) room)
 
-    close_gives : run g l w.last.rest.used last (take 1 at_close) ≡ record { given = (v, w.last.rest.used + 1) ∷ []; now = Ok (with_scan (resting (past_token (place inner) w.last.rest (kinds.Mark close) 1)) (fresh c)) }
+    close_gives : run g l w.last.rest.used last (take 1 at_close)
+        ≡ record {
+          given = (v, w.last.rest.used + 1) ∷ [];
+          now =
+              Ok (with_scan (resting (past_token (place inner) w.last.rest (kinds.Mark close) 1)) (fresh c));
+        }
     close_gives =
         let used = last_used in
         let fits = behind_is in
         let size = close_size in
-        let shut = closing g l w.last.rest.used (w.last.rest.used + 1) (begin before.rest.used) c close (w.inside.whole ss ∷ []) w.inside.now (w.inside.closes ss []) in
+        let shut = closing g l w.last.rest.used (w.last.rest.used + 1) (begin before.rest.used) c close (w.inside.whole ss ∷ []) w.inside.now
+        (w.inside.closes ss []) in
         token_gives g l inner (still_settles g l inner shut.1) w.last.rest at_close (kinds.Mark close) [] 1 (Mark' close) v (fresh c)
-        (close_found close (w.inside.whole ss ∷ []) w.inside.now w.last.rest at_close (w.inside.closes ss []) (omega arith) (ap (λ w. get_or w 0 0) at_close_is ∙ (at_drop w.behind (drop 1 octets) ∙ w.inside.close))) tt (mark_says close)
-        (shut.0 ∙ (w.inside.closed (under g l) (spot_at (w.last.rest.used + 1) (begin before.rest.used) c) ss [] ∙ top_ended g l (w.last.rest.used + 1) (begin before.rest.used) c v free (omega arith)))
+        (close_found close (w.inside.whole ss ∷ []) w.inside.now w.last.rest at_close (w.inside.closes ss []) (omega arith)
+        (ap (λ w. get_or w 0 0) at_close_is ∙ (at_drop w.behind (drop 1 octets) ∙ w.inside.close))) tt (mark_says close)
+        (shut.0 ∙ (w.inside.closed (under g l) (spot_at (w.last.rest.used + 1) (begin before.rest.used) c) ss []
+        ∙ top_ended g l (w.last.rest.used + 1) (begin before.rest.used) c v free (omega arith)))
 
     pub container_gives : GivesTop g l before.rest start c ss octets count after.rest v
     container_gives =
@@ -242,24 +269,32 @@ module _ (g : Catalog) (l : Limits) (start : ℕ) (c : List Slot) (ss : Symbols)
         ∙ ap (λ r. record { given = (v, before.rest.used + (1 + w.behind + 1)) ∷ []; now = Ok (rested r 0 c [] [] nows.Ready) }) there)))
 
   -- so does a token whose last octet shows its end
-  pub scalar_gives : (rest : Rest) (octets : List ℕ) (s : Scalar) (f : FoundScalar places.Top rest octets s) → s.waits ≡ false → s.token.left ≡ false → rest.used + length octets ≤ l.item + begin rest.used → is_table (annotated ss f.payload) ≡ false
+  pub scalar_gives : (rest : Rest) (octets : List ℕ) (s : Scalar) (f : FoundScalar places.Top rest octets s) → s.waits ≡ false → s.token.left ≡ false
+      → rest.used + length octets ≤ l.item + begin rest.used → is_table (annotated ss f.payload) ≡ false
       → GivesTop g l rest start c ss octets s.token.count (past_token places.Top rest s.token.kind s.token.count) (annotated ss f.payload)
   scalar_gives rest octets s f ends given room free =
       let n = s.token.count in
-      let found : IsFound places.Top rest octets s.token.kind f.kept n false = subst (λ b. IsFound places.Top rest octets s.token.kind f.kept n b) given f.found in
+      let found : IsFound places.Top rest octets s.token.kind f.kept n false =
+      subst (λ b. IsFound places.Top rest octets s.token.kind f.kept n b) given f.found in
       let some = found.some in
       let shown = found.shown in
       let is : EndsAtOnce f.content f.payload = subst (λ b. IsValue b f.content f.payload) ends f.is in
-      token_gives g l on_top refl rest octets s.token.kind f.kept n f.content (annotated ss f.payload) (fresh c) found (top_quiet rest octets (n - 1) (omega arith) (omega arith)) f.says
-      (is (under g l) (spot_at (rest.used + n) (begin rest.used) c) [] ss ∙ top_ended g l (rest.used + n) (begin rest.used) c (annotated ss f.payload) free (omega arith))
+      token_gives g l on_top refl rest octets s.token.kind f.kept n f.content (annotated ss f.payload) (fresh c) found
+      (top_quiet rest octets (n - 1) (omega arith) (omega arith)) f.says
+      (is (under g l) (spot_at (rest.used + n) (begin rest.used) c) [] ss ∙ top_ended g l (rest.used + n) (begin rest.used) c (annotated ss f.payload) free
+      (omega arith))
 
 -- what waits behind an annotation, or behind `::`, isn't too long
-waits_notices : (l : Limits) (start : ℕ) (c : List Slot) (ss : Symbols) (h : Held) (end most : ℕ) → end ≤ start + l.item → NoticesNothing l (at start c [] ss (nows.Pending h end)) most
-waits_notices l start c ss h end most room s idle few = ap (λ b. if b then uses (with_scan s (at start c [] ss (nows.Pending h end))) else fails reasons.ItemTooLong) (le_true (end - start) l.item (omega arith))
+waits_notices : (l : Limits) (start : ℕ) (c : List Slot) (ss : Symbols) (h : Held) (end most : ℕ) → end ≤ start + l.item
+    → NoticesNothing l (at start c [] ss (nows.Pending h end)) most
+waits_notices l start c ss h end most room s idle few = ap
+    (λ b. if b then uses (with_scan s (at start c [] ss (nows.Pending h end))) else fails reasons.ItemTooLong) (le_true (end - start) l.item (omega arith))
 
-noted_notices : (l : Limits) (start : ℕ) (c : List Slot) (ss : Symbols) (x : Option (List ℕ)) → NoticesNothing l (at start c [] (ss ++ x ∷ []) nows.Ready) (l.item + start)
+noted_notices : (l : Limits) (start : ℕ) (c : List Slot) (ss : Symbols) (x : Option (List ℕ))
+    → NoticesNothing l (at start c [] (ss ++ x ∷ []) nows.Ready) (l.item + start)
 noted_notices l start c ss x s idle few =
-    ap (λ b. if b then uses (with_scan s (at start c [] (ss ++ x ∷ []) nows.Ready)) else fails reasons.ItemTooLong) (le_true (reaches [] (at start c [] (ss ++ x ∷ []) nows.Ready) s) l.item (let e = reach ss in omega arith))
+    ap (λ b. if b then uses (with_scan s (at start c [] (ss ++ x ∷ []) nows.Ready)) else fails reasons.ItemTooLong)
+    (le_true (reaches [] (at start c [] (ss ++ x ∷ []) nows.Ready) s) l.item (let e = reach ss in omega arith))
   where
     none : begun_in s ≡ None
     none = cond-true _ _ _ idle
@@ -269,15 +304,19 @@ noted_notices l start c ss x s idle few =
     reach (y ∷ ss) = ap (λ b. longest_top start s.used nows.Ready (y ∷ (ss ++ x ∷ [])) b (is_long_begun b)) none
 
 -- an annotation of the top level
-module _ (octets : List ℕ) (token : FoundToken) (f : FoundNote octets token) (m : ℕ) (within : token.count + m + 2 < length octets) (passed : IsPassed (drop token.count octets) m) (one : get_or octets (token.count + m) 0 ≡ 58) (two : get_or octets (token.count + m + 1) 0 ≡ 58) where
-  note_leads : (g : Catalog) (l : Limits) (start : ℕ) (c : List Slot) (ss : Symbols) (rest : Rest) → rest.used + length octets ≤ l.item + begun_at start rest.used [] ss
-      → Passes g l (rested rest start c [] ss nows.Ready) octets (token.count + m + 2) (rested (behind_note rest token m) (begun_at start rest.used [] ss) c [] (ss ++ f.name ∷ []) nows.Ready)
+module _ (octets : List ℕ) (token : FoundToken) (f : FoundNote octets token) (m : ℕ) (within : token.count + m + 2 < length octets)
+    (passed : IsPassed (drop token.count octets) m) (one : get_or octets (token.count + m) 0 ≡ 58) (two : get_or octets (token.count + m + 1) 0 ≡ 58) where
+  note_leads : (g : Catalog) (l : Limits) (start : ℕ) (c : List Slot) (ss : Symbols) (rest : Rest)
+      → rest.used + length octets ≤ l.item + begun_at start rest.used [] ss
+      → Passes g l (rested rest start c [] ss nows.Ready) octets (token.count + m + 2)
+      (rested (behind_note rest token m) (begun_at start rest.used [] ss) c [] (ss ++ f.name ∷ []) nows.Ready)
   note_leads g l start c ss rest room =
       let b = f.begins places.Top rest in
       let n = token.count in
       let start' = begun_at start rest.used [] ss in
       let pays = held_in (held_of b.content) _ b.pays in
-      noted_passes g l (at start c [] ss nows.Ready) start' refl refl rest octets token.kind b.kept n m token.left b.content pays.0 f.name b.found b.says pays.1 (symbol_held pays.0 f.name pays.2) passed within one two
+      noted_passes g l (at start c [] ss nows.Ready) start' refl refl rest octets token.kind b.kept n m token.left b.content pays.0 f.name b.found b.says pays.1
+      (symbol_held pays.0 f.name pays.2) passed within one two
       (λ k few. top_quiet g l start c ss rest octets k (omega arith) (omega arith))
       (waits_so (under g l) (spot_at (rest.used + n) start' c) [] ss b.content pays.0 pays.1)
       (waits_notices l start' c ss pays.0 (rest.used + n) (rest.used + length octets) (omega arith))
@@ -287,8 +326,10 @@ module _ (octets : List ℕ) (token : FoundToken) (f : FoundNote octets token) (
   note_used rest = let used = blank_used (past_token places.Top rest token.kind token.count) m in omega arith
 
   -- with a blank behind it, and what is noted
-  pub walked_note : (before mid after : Tally) (n : ℕ) (known_behind : List ℕ) → known_behind ≡ drop (token.count + m + 2) octets → n ≤ length known_behind → IsPassed known_behind n
-      → mid ≡ record { kind = before.kind; level = before.level; nodes = min (before.nodes + 1) most; rest = behind_note before.rest token m } → after ≡ record { kind = mid.kind; level = mid.level; nodes = mid.nodes; rest = past_blank mid.rest n }
+  pub walked_note : (before mid after : Tally) (n : ℕ) (known_behind : List ℕ) → known_behind ≡ drop (token.count + m + 2) octets → n ≤ length known_behind
+      → IsPassed known_behind n
+      → mid ≡ record { kind = before.kind; level = before.level; nodes = min (before.nodes + 1) most; rest = behind_note before.rest token m }
+      → after ≡ record { kind = mid.kind; level = mid.level; nodes = mid.nodes; rest = past_blank mid.rest n }
       → (w : WalkedNote octets (token.count + m + 2 + n) before after) × (w.name ≡ f.name)
   walked_note before mid after n known_behind is few blank em ea =
       let size : length known_behind ≡ length octets - (token.count + m + 2) = ap (λ (w : List ℕ). length w) is ∙ length-drop (token.count + m + 2) octets in
@@ -300,9 +341,11 @@ module _ (octets : List ℕ) (token : FoundToken) (f : FoundNote octets token) (
           leads = λ g l start c ss room.
               let start' = begun_at start before.rest.used [] ss in
               let same = begun_more start' (behind_note before.rest token m).used ss f.name in
-              passes_on g l (rested before.rest start c [] ss nows.Ready) (rested (behind_note before.rest token m) start' c [] (ss ++ f.name ∷ []) nows.Ready) (rested (past_blank (behind_note before.rest token m) n) start' c [] (ss ++ f.name ∷ []) nows.Ready) octets (token.count + m + 2) n
+              passes_on g l (rested before.rest start c [] ss nows.Ready) (rested (behind_note before.rest token m) start' c [] (ss ++ f.name ∷ []) nows.Ready)
+              (rested (past_blank (behind_note before.rest token m) n) start' c [] (ss ++ f.name ∷ []) nows.Ready) octets (token.count + m + 2) n
               (note_leads g l start c ss before.rest room)
-              (subst (λ w. Passes g l (rested (behind_note before.rest token m) start' c [] (ss ++ f.name ∷ []) nows.Ready) w n (rested (past_blank (behind_note before.rest token m) n) start' c [] (ss ++ f.name ∷ []) nows.Ready)) is
+              (subst (λ w. Passes g l (rested (behind_note before.rest token m) start' c [] (ss ++ f.name ∷ []) nows.Ready) w n
+              (rested (past_blank (behind_note before.rest token m) n) start' c [] (ss ++ f.name ∷ []) nows.Ready)) is
               (top_blank g l start' c (ss ++ f.name ∷ []) (behind_note before.rest token m) known_behind n few (omega arith) blank));
           within = omega arith;
           used = omega arith;
@@ -326,7 +369,8 @@ notes_none octets before = record {
 }
 
 -- one more
-unfoldable pub notes_on : (octets rest : List ℕ) (a b : ℕ) (before mid after : Tally) → rest ≡ drop a octets → WalkedNotes octets a before mid → WalkedNote rest b mid after → WalkedNotes octets (a + b) before after
+unfoldable pub notes_on : (octets rest : List ℕ) (a b : ℕ) (before mid after : Tally) → rest ≡ drop a octets → WalkedNotes octets a before mid
+    → WalkedNote rest b mid after → WalkedNotes octets (a + b) before after
 notes_on octets rest a b before mid after is w x =
     let size : length rest ≡ length octets - a = ap (λ (w : List ℕ). length w) is ∙ length-drop a octets in
     let within = w.within in
@@ -343,9 +387,12 @@ notes_on octets rest a b before mid after is w x =
           let begins = y.1 in (
             before.rest.used,
             begun_more before.rest.used after.rest.used w.notes x.name,
-            subst (λ k. Passes g l (rested before.rest start c [] [] nows.Ready) octets (a + b) (rested after.rest k c [] (w.notes ++ x.name ∷ []) nows.Ready)) begins
-                (passes_on g l (rested before.rest start c [] [] nows.Ready) (rested mid.rest y.0 c [] w.notes nows.Ready) (rested after.rest (begun_at y.0 mid.rest.used [] w.notes) c [] (w.notes ++ x.name ∷ []) nows.Ready) octets a b y.2
-                (subst (λ o. Passes g l (rested mid.rest y.0 c [] w.notes nows.Ready) o b (rested after.rest (begun_at y.0 mid.rest.used [] w.notes) c [] (w.notes ++ x.name ∷ []) nows.Ready)) is
+            subst (λ k. Passes g l (rested before.rest start c [] [] nows.Ready) octets (a + b) (rested after.rest k c [] (w.notes ++ x.name ∷ []) nows.Ready))
+                begins
+                (passes_on g l (rested before.rest start c [] [] nows.Ready) (rested mid.rest y.0 c [] w.notes nows.Ready)
+                (rested after.rest (begun_at y.0 mid.rest.used [] w.notes) c [] (w.notes ++ x.name ∷ []) nows.Ready) octets a b y.2
+                (subst (λ o. Passes g l (rested mid.rest y.0 c [] w.notes nows.Ready) o b
+                (rested after.rest (begun_at y.0 mid.rest.used [] w.notes) c [] (w.notes ++ x.name ∷ []) nows.Ready)) is
                 (x.leads g l y.0 c w.notes (omega arith)))),
           );
       within = omega arith;
@@ -361,7 +408,9 @@ notes_on octets rest a b before mid after is w x =
 
 -- values behind them
 
-unfoldable pub walked_bare : (level : ℕ) (octets : List ℕ) (count : ℕ) (before after : Tally) (m : Mark) → WalkedContainer places.Top m level octets count before after → 1 < length octets → OpensAt octets m → before.level ≤ level → WalkedBare level octets count before after
+unfoldable pub walked_bare : (level : ℕ) (octets : List ℕ) (count : ℕ) (before after : Tally) (m : Mark)
+    → WalkedContainer places.Top m level octets count before after → 1 < length octets → OpensAt octets m → before.level ≤ level
+    → WalkedBare level octets count before after
 walked_bare level octets count before after m w more opens low =
     let inside = w.inside.within in
     let total = w.total in
@@ -383,8 +432,15 @@ walked_bare level octets count before after m w more opens low =
       noted = container_noted places.Top m level octets count before after w more opens low;
     }
 
-pub bare_scalar : (level : ℕ) (octets : List ℕ) (s : Scalar) (before after : Tally) (f : FoundScalar places.Top before.rest octets s) → s.waits ≡ false → s.token.left ≡ false → before.level ≤ level
-    → after ≡ record { kind = s.kind; level = before.level; nodes = min (before.nodes + 1) most; rest = past_token places.Top before.rest s.token.kind s.token.count } → (w : WalkedBare level octets s.token.count before after) × (w.payload ≡ f.payload)
+pub bare_scalar : (level : ℕ) (octets : List ℕ) (s : Scalar) (before after : Tally) (f : FoundScalar places.Top before.rest octets s) → s.waits ≡ false
+    → s.token.left ≡ false → before.level ≤ level
+    → after ≡ record {
+      kind = s.kind;
+      level = before.level;
+      nodes = min (before.nodes + 1) most;
+      rest =
+          past_token places.Top before.rest s.token.kind s.token.count;
+    } → (w : WalkedBare level octets s.token.count before after) × (w.payload ≡ f.payload)
 bare_scalar level octets s before after f ends given low e =
     let found = f.found in
     let some = found.some in
@@ -406,7 +462,8 @@ bare_scalar level octets s before after f ends given low e =
     )
 
 -- both
-unfoldable pub walked_top : (level : ℕ) (octets rest : List ℕ) (a b : ℕ) (before mid after : Tally) → rest ≡ drop a octets → WalkedNotes octets a before mid → WalkedBare level rest b mid after → WalkedTop level octets (a + b) before after
+unfoldable pub walked_top : (level : ℕ) (octets rest : List ℕ) (a b : ℕ) (before mid after : Tally) → rest ≡ drop a octets → WalkedNotes octets a before mid
+    → WalkedBare level rest b mid after → WalkedTop level octets (a + b) before after
 walked_top level octets rest a b before mid after is w x =
     let size : length rest ≡ length octets - a = ap (λ (w : List ℕ). length w) is ∙ length-drop a octets in
     let within = w.within in
@@ -445,13 +502,15 @@ walked_top level octets rest a b before mid after is w x =
       counted = omega arith;
     }
 
-same_outline : (j k : Kind) (c d m n : ℕ) → j ≡ k → c ≡ d → m ≡ n → Path Outline (record { kind = j; depth = c; nodes = m }) (record { kind = k; depth = d; nodes = n })
+same_outline : (j k : Kind) (c d m n : ℕ) → j ≡ k → c ≡ d → m ≡ n
+    → Path Outline (record { kind = j; depth = c; nodes = m }) (record { kind = k; depth = d; nodes = n })
 same_outline j k c d m n e f h =
     ap (λ x. record { kind = x; depth = c; nodes = m }) e
     ∙ (ap (λ x. record { kind = k; depth = x; nodes = m }) f ∙ ap (λ x. record { kind = k; depth = d; nodes = x }) h)
 
 -- what is told of it
-pub outlined : (level : ℕ) (item : List ℕ) (count : ℕ) (before after : Tally) (w : WalkedTop level item count before after) → before.level ≡ level → before.nodes ≡ 0 → level < 2 ^ 32
+pub outlined : (level : ℕ) (item : List ℕ) (count : ℕ) (before after : Tally) (w : WalkedTop level item count before after) → before.level ≡ level
+    → before.nodes ≡ 0 → level < 2 ^ 32
     → (after.level ≤ level) × (outline_of w.value ≡ record { kind = after.kind; depth = level - after.level; nodes = after.nodes })
 outlined level item count before after w low none levels =
     let deep = w.deep in
@@ -460,20 +519,27 @@ outlined level item count before after w low none levels =
     let d : min (depth w.value) (2 ^ 64 - 1) ≡ level - after.level = omega arith in
     let n : min (nodes w.value) (2 ^ 64 - 1) ≡ after.nodes = omega arith in (
       omega arith,
-      same_outline (kind_of w.value) after.kind (min (depth w.value) (2 ^ 64 - 1)) (level - after.level) (min (nodes w.value) (2 ^ 64 - 1)) after.nodes (sym w.kind) d n,
+      same_outline (kind_of w.value) after.kind (min (depth w.value) (2 ^ 64 - 1)) (level - after.level) (min (nodes w.value) (2 ^ 64 - 1)) after.nodes
+          (sym w.kind) d n,
     )
 
 -- with the blank before it
-module _ (g : Catalog) (l : Limits) (level : ℕ) (item : List ℕ) (count : ℕ) (before after : Tally) (w : WalkedTop level item count before after) (s : ℕ) (c : List Slot) (rest : Rest) (piece : List ℕ) (n k : ℕ) (is : item ≡ take k (drop n piece)) (inside : n ≤ length piece)
-    (blank : n ≤ l.item) (few : length item ≤ l.item) (size : length item ≡ min k (length piece - n)) (passed : IsPassed piece n) (begins : before.rest ≡ past_blank rest n) (deep : level ≤ l.depth) where
-  pub top_runs : (n + count ≤ length piece) × ((0 < n + count) × (run g l rest.used (rested rest s c [] [] nows.Ready) (take (n + count) piece) ≡ record { given = (w.value, rest.used + (n + count)) ∷ []; now = Ok (rested after.rest 0 c [] [] nows.Ready) }))
+module _ (g : Catalog) (l : Limits) (level : ℕ) (item : List ℕ) (count : ℕ) (before after : Tally) (w : WalkedTop level item count before after) (s : ℕ)
+    (c : List Slot) (rest : Rest) (piece : List ℕ) (n k : ℕ) (is : item ≡ take k (drop n piece)) (inside : n ≤ length piece)
+    (blank : n ≤ l.item) (few : length item ≤ l.item) (size : length item ≡ min k (length piece - n)) (passed : IsPassed piece n)
+    (begins : before.rest ≡ past_blank rest n) (deep : level ≤ l.depth) where
+  pub top_runs : (n + count ≤ length piece) × ((0 < n + count)
+      × (run g l rest.used (rested rest s c [] [] nows.Ready) (take (n + count) piece)
+      ≡ record { given = (w.value, rest.used + (n + count)) ∷ []; now = Ok (rested after.rest 0 c [] [] nows.Ready) }))
   top_runs =
       let some = w.some in
       let fits = w.within in
       let used : before.rest.used ≡ rest.used + n = ap (λ (r : Rest). r.used) begins ∙ blank_used rest n in
       let total : before.rest.used + count ≡ rest.used + (n + count) = omega arith in
       let to_item : take count (drop n piece) ≡ take count item = sym (front (drop n piece) (omega (arith, size))) ∙ ap (take count) (sym is) in
-      let up_to : Passes g l (rested rest s c [] [] nows.Ready) piece n (rested before.rest s c [] [] nows.Ready) = subst (λ r. Passes g l (rested rest s c [] [] nows.Ready) piece n (rested r s c [] [] nows.Ready)) (sym begins) (top_blank g l s c [] rest piece n inside (omega arith) passed) in (
+      let up_to : Passes g l (rested rest s c [] [] nows.Ready) piece n (rested before.rest s c [] [] nows.Ready) =
+      subst (λ r. Passes g l (rested rest s c [] [] nows.Ready) piece n (rested r s c [] [] nows.Ready)) (sym begins)
+      (top_blank g l s c [] rest piece n inside (omega arith) passed) in (
         omega (arith, size),
         (
           omega arith,
@@ -488,19 +554,41 @@ module _ (g : Catalog) (l : Limits) (level : ℕ) (item : List ℕ) (count : ℕ
 
 -- the reader behind it
 abbrev pub gone_on : TextReader → Scanner → TokenReader → TextReader
-gone_on r s b = record { alloc = r.alloc; catalog = r.catalog; limits = r.limits; scanner = s; beside = b; start = 0; context = r.context; frames = r.frames; notes = r.notes; stage = r.stage; given = r.given; awaited = r.awaited; failed = r.failed }
+gone_on r s b = record {
+  alloc = r.alloc;
+  catalog = r.catalog;
+  limits = r.limits;
+  scanner = s;
+  beside = b;
+  start = 0;
+  context = r.context;
+  frames =
+      r.frames;
+  notes = r.notes;
+  stage = r.stage;
+  given = r.given;
+  awaited = r.awaited;
+  failed = r.failed;
+}
 
-pub top_advances : (old : TextReader) (moved : Scanner) (b : TokenReader) (level : ℕ) (item : List ℕ) (count : ℕ) (before after : Tally) (w : WalkedTop level item count before after) (rest : Rest) (piece : List ℕ) (n k : ℕ)
-    → IsFresh old rest → scanned moved ≡ resting after.rest → item ≡ take k (drop n piece) → n ≤ length piece → n ≤ old.limits.item → length item ≤ old.limits.item → length item ≡ min k (length piece - n) → IsPassed piece n → before.rest ≡ past_blank rest n → level ≤ old.limits.depth
-    → Advances old.catalog.now old.limits (is_some old.awaited) (scanned old.scanner).used (state_of old) piece (Ok (record { used = n + count; value = Some w.value })) old.awaited (state_of (gone_on old moved b))
+pub top_advances : (old : TextReader) (moved : Scanner) (b : TokenReader) (level : ℕ) (item : List ℕ) (count : ℕ) (before after : Tally)
+    (w : WalkedTop level item count before after) (rest : Rest) (piece : List ℕ) (n k : ℕ)
+    → IsFresh old rest → scanned moved ≡ resting after.rest → item ≡ take k (drop n piece) → n ≤ length piece → n ≤ old.limits.item
+    → length item ≤ old.limits.item → length item ≡ min k (length piece - n) → IsPassed piece n → before.rest ≡ past_blank rest n → level ≤ old.limits.depth
+    → Advances old.catalog.now old.limits (is_some old.awaited) (scanned old.scanner).used (state_of old) piece
+    (Ok (record { used = n + count; value = Some w.value })) old.awaited (state_of (gone_on old moved b))
 top_advances old moved b level item count before after w rest piece n k h there is within blank few size passed from deep =
-    let x = top_runs old.catalog.now old.limits level item count before after w old.start old.context rest piece n k is within blank few size passed from deep in
-    let a : state_of old ≡ rested rest old.start old.context [] [] nows.Ready = states (scanned old.scanner) (resting rest) old.start (open_frames old) old.notes old.stage h.rests h.top h.bare h.ready in
-    let e : state_of (gone_on old moved b) ≡ rested after.rest 0 old.context [] [] nows.Ready = states (scanned moved) (resting after.rest) 0 (open_frames old) old.notes old.stage there h.top h.bare h.ready in
+    let x = top_runs old.catalog.now old.limits level item count before after w old.start old.context rest piece n k is within blank few size passed from
+    deep in
+    let a : state_of old ≡ rested rest old.start old.context [] [] nows.Ready =
+    states (scanned old.scanner) (resting rest) old.start (open_frames old) old.notes old.stage h.rests h.top h.bare h.ready in
+    let e : state_of (gone_on old moved b) ≡ rested after.rest 0 old.context [] [] nows.Ready =
+    states (scanned moved) (resting after.rest) 0 (open_frames old) old.notes old.stage there h.top h.bare h.ready in
     let used : (scanned old.scanner).used ≡ rest.used = ap (λ (s : Known). s.used) h.rests in
     rw (a, e, used, h.awaited) x
   where
-    states : (s t : Known) (begin : ℕ) (fs : List Frame) (ss : Symbols) (now : Now) → s ≡ t → fs ≡ [] → ss ≡ [] → now ≡ nows.Ready → with_scan s (at begin old.context fs ss now) ≡ with_scan t (at begin old.context [] [] nows.Ready)
+    states : (s t : Known) (begin : ℕ) (fs : List Frame) (ss : Symbols) (now : Now) → s ≡ t → fs ≡ [] → ss ≡ [] → now ≡ nows.Ready
+        → with_scan s (at begin old.context fs ss now) ≡ with_scan t (at begin old.context [] [] nows.Ready)
     states s t begin fs ss now e1 e2 e3 e4 =
         ap (λ x. with_scan x (at begin old.context fs ss now)) e1
         ∙ (ap (λ x. with_scan t (at begin old.context x ss now)) e2

@@ -37,7 +37,8 @@ next_last [] x o = refl
 next_last (y ∷ xs) x o = refl
 
 -- one text more, behind what stands before it
-separated_last : {X : Type 0} (f : X → List ℕ) (o : Option ℕ) (xs : List X) (x : X) → separated (option_to_list o) (map f (xs ++ x ∷ [])) ≡ separated (option_to_list o) (map f xs) ++ (option_to_list (before_next xs o) ++ f x)
+separated_last : {X : Type 0} (f : X → List ℕ) (o : Option ℕ) (xs : List X) (x : X) → separated (option_to_list o) (map f (xs ++ x ∷ []))
+    ≡ separated (option_to_list o) (map f xs) ++ (option_to_list (before_next xs o) ++ f x)
 separated_last f o [] x = append-nil (f x)
 separated_last f o (y ∷ xs) x =
     let between = option_to_list o in
@@ -103,7 +104,8 @@ each_more f xs x a m b h w =
     }
 
 -- the items between an open and its close are one item
-enclosed_written : {X : Type 0} (f : X → List ℕ) (xs : List X) (x : Bracket) (k : Option ℕ) (a m n b : Transcription) → Opens a m x k → WroteEach f xs m n → Closes n b x k
+enclosed_written : {X : Type 0} (f : X → List ℕ) (xs : List X) (x : Bracket) (k : Option ℕ) (a m n b : Transcription) → Opens a m x k → WroteEach f xs m n
+    → Closes n b x k
     → Wrote a b (enclosed (open_octet x ∷ []) (octet_between x ∷ []) (bracket_close x ∷ []) (map f xs))
 enclosed_written f xs x k a m n b o i c =
     let first = open_octet x ∷ [] in
@@ -112,7 +114,8 @@ enclosed_written f xs x k a m n b o i c =
     record {
       octets =
           c.octets
-          ∙ (ap (λ w. w ++ last) (i.octets ∙ (ap (λ s. m.out.items ++ separated (option_to_list s) (map f xs)) o.between ∙ (ap (λ w. w ++ inner) o.octets ∙ append_assoc (front a) first inner)))
+          ∙ (ap (λ w. w ++ last) (i.octets ∙ (ap (λ s. m.out.items ++ separated (option_to_list s) (map f xs)) o.between
+          ∙ (ap (λ w. w ++ inner) o.octets ∙ append_assoc (front a) first inner)))
           ∙ append_assoc (front a) (first ++ inner) last);
       before = c.before ∙ o.mark;
       between = c.between ∙ o.mark;
@@ -139,7 +142,15 @@ mutual
   value_written _ _ _ (bare_visited p a b i) =
       let c = payload_written p a b i in
       let text : value_text (bare p) ≡ layer_text (views.out-Payload p) = text-out (bare p) in
-      record { kept = kepts.kept [] p tt c.kept; wrote = record { octets = c.wrote.octets ∙ ap (λ w. front a ++ w) (sym text); before = c.wrote.before; between = c.wrote.between } }
+      record {
+        kept = kepts.kept [] p tt c.kept;
+        wrote = record {
+          octets = c.wrote.octets ∙ ap (λ w. front a ++ w) (sym text);
+          before =
+              c.wrote.before;
+          between = c.wrote.between;
+        };
+      }
   value_written _ _ _ (annotated_visited ss p k a m n x y b some o i t j u) =
       let v = annotated ss p in
       let layer = layer_text (views.out-Payload p) in
@@ -165,13 +176,25 @@ mutual
   payload_written _ _ _ (in_one p a b is x) = record { kept = x.kept; wrote = record { octets = x.octets; before = x.before; between = x.between } }
   payload_written _ _ _ (in_list vs k a m n b o i c) =
       let f = items_written vs m n i o.before in
-      record { kept = kepts.kept_list vs f.kept; wrote = subst (λ d. Wrote a b (layer_text d)) (sym (views.outs-List vs)) (enclosed_written value_text vs _ k a m n b o f.wrote c) }
+      record {
+        kept = kepts.kept_list vs f.kept;
+        wrote = subst (λ d. Wrote a b (layer_text d)) (sym (views.outs-List vs))
+            (enclosed_written value_text vs _ k a m n b o f.wrote c);
+      }
   payload_written _ _ _ (in_sexp vs k a m n b o i c) =
       let f = items_written vs m n i o.before in
-      record { kept = kepts.kept_sexp vs f.kept; wrote = subst (λ d. Wrote a b (layer_text d)) (sym (views.outs-Sexp vs)) (enclosed_written value_text vs _ k a m n b o f.wrote c) }
+      record {
+        kept = kepts.kept_sexp vs f.kept;
+        wrote = subst (λ d. Wrote a b (layer_text d)) (sym (views.outs-Sexp vs))
+            (enclosed_written value_text vs _ k a m n b o f.wrote c);
+      }
   payload_written _ _ _ (in_struct ms k a m n b o i c) =
       let f = fields_written ms m n i o.before in
-      record { kept = kepts.kept_fields ms f.kept; wrote = subst (λ d. Wrote a b (layer_text d)) (sym (views.outs-Fields ms)) (enclosed_written field_text ms _ k a m n b o f.wrote c) }
+      record {
+        kept = kepts.kept_fields ms f.kept;
+        wrote = subst (λ d. Wrote a b (layer_text d)) (sym (views.outs-Fields ms))
+            (enclosed_written field_text ms _ k a m n b o f.wrote c);
+      }
 
   items_written : (vs : List Value) (a b : Transcription) → VisitedItems transcribing vs a b → a.before ≡ None → WroteItems vs a b
   items_written _ _ _ (no_items a) e = record { kept = kepts.no_items; wrote = each_none value_text a e }
@@ -199,7 +222,8 @@ mutual
       record { kept = fields_last ms s v c.kept x.0 f.kept; wrote = each_more field_text ms (field_of s v) a m b c.wrote all }
 
 -- what was gone over was written
-pub transcribed : (level : ℕ) (octets before : List ℕ) (x y : Tally) (a b : Transcription) (r : Option ℕ) → a.before ≡ None → a.out.items ≡ before → IfSome r (λ n. VisitedTop transcribing level octets n x y a b)
+pub transcribed : (level : ℕ) (octets before : List ℕ) (x y : Tally) (a b : Transcription) (r : Option ℕ) → a.before ≡ None → a.out.items ≡ before
+    → IfSome r (λ n. VisitedTop transcribing level octets n x y a b)
     → IfSome r (λ n. (top : WalkedTop level octets n x y) × IsKept top.value × (b.out.items ≡ before ++ value_text top.value))
 transcribed level octets before x y a b None e o t = t
 transcribed level octets before x y a b (Some n) e o t =
@@ -215,16 +239,25 @@ symbol_known w = refl
 
 -- a value of one token, which is this part
 module _ (s x : Part) (is : s ≡ x) where
-  pub part_text : (d : Layer) (r : Result (Unit {0}) Fault) (before after : List ℕ) → views.out-Payload (payload_of x) ≡ d → OnOk r (after ≡ before ++ layer_text d) → OnOk r (after ≡ before ++ layer_text (views.out-Payload (payload_of s)))
-  part_text d r before after level h = subst (λ s. OnOk r (after ≡ before ++ layer_text (views.out-Payload (payload_of s)))) (sym is) (subst (λ d. OnOk r (after ≡ before ++ layer_text d)) (sym level) h)
+  pub part_text : (d : Layer) (r : Result (Unit {0}) Fault) (before after : List ℕ) → views.out-Payload (payload_of x) ≡ d
+      → OnOk r (after ≡ before ++ layer_text d) → OnOk r (after ≡ before ++ layer_text (views.out-Payload (payload_of s)))
+  part_text d r before after level h = subst (λ s. OnOk r (after ≡ before ++ layer_text (views.out-Payload (payload_of s)))) (sym is)
+      (subst (λ d. OnOk r (after ≡ before ++ layer_text d)) (sym level) h)
 
-pub part_added : (a b : Transcription) (p : Payload) (begun : List ℕ) → KeptPayload p → begun ≡ front a → b.out.items ≡ begun ++ layer_text (views.out-Payload p) → b.before ≡ a.between → b.between ≡ a.between → AddsPart a b p
-part_added a b p begun k e o before between = record { kept = k; octets = o ∙ ap (λ w. w ++ layer_text (views.out-Payload p)) e; before = before; between = between }
+pub part_added : (a b : Transcription) (p : Payload) (begun : List ℕ) → KeptPayload p → begun ≡ front a
+    → b.out.items ≡ begun ++ layer_text (views.out-Payload p) → b.before ≡ a.between → b.between ≡ a.between → AddsPart a b p
+part_added a b p begun k e o before between = record {
+  kept = k;
+  octets = o ∙ ap (λ w. w ++ layer_text (views.out-Payload p)) e;
+  before = before;
+  between = between;
+}
 
 number_level : (n : Number) → number_text n ≡ layer_text (views.out-Payload (number_payload n))
 number_level (numbers.Int z) = ap layer_text (sym (views.outs-Int z))
 number_level (numbers.Decimal d) = ap layer_text (sym (views.outs-Decimal d))
 number_level (numbers.Timestamp t) = ap layer_text (sym (views.outs-Timestamp t))
 
-pub number_added : (a b : Transcription) (n : Number) (begun : List ℕ) → KeptPayload (number_payload n) → begun ≡ front a → b.out.items ≡ begun ++ number_text n → b.before ≡ a.between → b.between ≡ a.between → AddsPart a b (number_payload n)
+pub number_added : (a b : Transcription) (n : Number) (begun : List ℕ) → KeptPayload (number_payload n) → begun ≡ front a → b.out.items ≡ begun ++ number_text n
+    → b.before ≡ a.between → b.between ≡ a.between → AddsPart a b (number_payload n)
 number_added a b n begun k e o before between = part_added a b (number_payload n) begun k e (o ∙ ap (λ w. begun ++ w) (number_level n)) before between

@@ -50,11 +50,12 @@ all_digits (o ∷ []) h = by (is_digit o) where
   by : (b : Bool) → (b && true) ≡ (b && (false || true))
   by true = refl
   by false = refl
-all_digits (o ∷ x ∷ w) h = ap (λ b. is_digit o && b) (all_digits (x ∷ w) (some_more x w) ∙ more (some_digits (x ∷ w)) (length (x ∷ w) == 0) (some_more x w)) where
-  some_more : (y : ℕ) (ys : List ℕ) → (length (y ∷ ys) == 0) ≡ false
-  some_more y ys = grind (arith, nat_tests)
+all_digits (o ∷ x ∷ w) h = ap (λ b. is_digit o && b) (all_digits (x ∷ w) (some_more x w)
+    ∙ more (some_digits (x ∷ w)) (length (x ∷ w) == 0) (some_more x w)) where
+      some_more : (y : ℕ) (ys : List ℕ) → (length (y ∷ ys) == 0) ≡ false
+      some_more y ys = grind (arith, nat_tests)
 
-  more : (b e : Bool) → e ≡ false → b ≡ (b || e)
-  more true e h = refl
-  more false true h = cc
-  more false false h = refl
+      more : (b e : Bool) → e ≡ false → b ≡ (b || e)
+      more true e h = refl
+      more false true h = cc
+      more false false h = refl

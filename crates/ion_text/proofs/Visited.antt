@@ -21,69 +21,101 @@ use Rattle.ion_text.proofs.Walking.{ListGone, SexpGone, FieldsGone, walked_conta
 
 module _ {S M : Type 0} (h : Visits S M) where
   -- a value of one token
-  pub part_visited : (p : Place) (r : Rest) (octets : List ℕ) (s : Scalar) (q : Payload) (f : FoundPart p r octets s q) (x : Payload) (a b : S) → x ≡ f.token.payload → h.takes a (part q) b → VisitedPayload h x a b
+  pub part_visited : (p : Place) (r : Rest) (octets : List ℕ) (s : Scalar) (q : Payload) (f : FoundPart p r octets s q) (x : Payload) (a b : S)
+      → x ≡ f.token.payload → h.takes a (part q) b → VisitedPayload h x a b
   part_visited p r octets s q f x a b same t =
-      subst (λ x. VisitedPayload h x a b) (sym (same ∙ f.is)) (in_one q a b (subst (λ x. IsPart x) f.is (record { flat = f.token.flat.deep; one = f.token.flat.counted })) t)
+      subst (λ x. VisitedPayload h x a b) (sym (same ∙ f.is))
+      (in_one q a b (subst (λ x. IsPart x) f.is (record { flat = f.token.flat.deep; one = f.token.flat.counted })) t)
 
-  pub scalar_visited : (p : Place) (r : Rest) (octets : List ℕ) (s : Scalar) (q : Payload) (f : FoundPart p r octets s q) (level n total : ℕ) (before after : Tally) (a b : S) → total ≡ n → (w : Walked p level octets n before after) × (w.payload ≡ f.token.payload)
+  pub scalar_visited : (p : Place) (r : Rest) (octets : List ℕ) (s : Scalar) (q : Payload) (f : FoundPart p r octets s q) (level n total : ℕ)
+      (before after : Tally) (a b : S) → total ≡ n → (w : Walked p level octets n before after) × (w.payload ≡ f.token.payload)
       → h.takes a (part q) b → VisitedValue h p level octets total before after a b
   scalar_visited p r octets s q f level n total before after a b e w t =
-      subst (λ k. VisitedValue h p level octets k before after a b) (sym e) (record { walked = w.0; visited = part_visited p r octets s q f w.0.payload a b w.1 t })
+      subst (λ k. VisitedValue h p level octets k before after a b) (sym e)
+      (record { walked = w.0; visited = part_visited p r octets s q f w.0.payload a b w.1 t })
 
-  pub bare_scalar_visited : (p : Place) (r : Rest) (octets : List ℕ) (s : Scalar) (q : Payload) (f : FoundPart p r octets s q) (level n total : ℕ) (before after : Tally) (a b : S) → total ≡ n → (w : WalkedBare level octets n before after) × (w.payload ≡ f.token.payload)
+  pub bare_scalar_visited : (p : Place) (r : Rest) (octets : List ℕ) (s : Scalar) (q : Payload) (f : FoundPart p r octets s q) (level n total : ℕ)
+      (before after : Tally) (a b : S) → total ≡ n → (w : WalkedBare level octets n before after) × (w.payload ≡ f.token.payload)
       → h.takes a (part q) b → VisitedBare h level octets total before after a b
   bare_scalar_visited p r octets s q f level n total before after a b e w t =
-      subst (λ k. VisitedBare h level octets k before after a b) (sym e) (record { walked = w.0; visited = part_visited p r octets s q f w.0.payload a b w.1 t })
+      subst (λ k. VisitedBare h level octets k before after a b) (sym e)
+      (record { walked = w.0; visited = part_visited p r octets s q f w.0.payload a b w.1 t })
 
   -- a field's name
-  pub name_visited : (octets : List ℕ) (key total n : ℕ) (s : Option (List ℕ)) (before after : Tally) (a b : S) → key ≡ total → (w : WalkedName octets (total + n) before after) × (w.name ≡ s) → h.takes a (name s) b → VisitedName h octets (key + n) before after a b
+  pub name_visited : (octets : List ℕ) (key total n : ℕ) (s : Option (List ℕ)) (before after : Tally) (a b : S) → key ≡ total
+      → (w : WalkedName octets (total + n) before after) × (w.name ≡ s) → h.takes a (name s) b → VisitedName h octets (key + n) before after a b
   name_visited octets key total n s before after a b e w t =
       subst (λ k. VisitedName h octets (k + n) before after a b) (sym e) (record { walked = w.0; visited = subst (λ x. h.takes a (name x) b) (sym w.1) t })
 
   -- an annotation
-  pub note_visited : (octets : List ℕ) (note total n : ℕ) (s : Option (List ℕ)) (before after : Tally) (a b : S) → note ≡ total → (w : WalkedNote octets (total + n) before after) × (w.name ≡ s) → h.takes a (annotation s) b
+  pub note_visited : (octets : List ℕ) (note total n : ℕ) (s : Option (List ℕ)) (before after : Tally) (a b : S) → note ≡ total
+      → (w : WalkedNote octets (total + n) before after) × (w.name ≡ s) → h.takes a (annotation s) b
       → (w : WalkedNote octets (note + n) before after) × h.takes a (annotation w.name) b
   note_visited octets note total n s before after a b e w t =
-      subst (λ k. (w : WalkedNote octets (k + n) before after) × h.takes a (annotation w.name) b) (sym e) (w.0, subst (λ x. h.takes a (annotation x) b) (sym w.1) t)
+      subst (λ k. (w : WalkedNote octets (k + n) before after) × h.takes a (annotation w.name) b) (sym e)
+      (w.0, subst (λ x. h.takes a (annotation x) b) (sym w.1) t)
 
   -- containers
-  pub container_visited : (p : Place) (m : Mark) (level : ℕ) (octets rest : List ℕ) (behind : ℕ) (before first last after : Tally) (k : M) (a x y b : S) → 0 < level → rest ≡ drop 1 octets → VisitedInside h m (level - 1) rest behind first last x y
-      → first ≡ behind_open p m level before → after ≡ behind_close p m last → h.opens a (bracket_of m) k x → h.closes y (bracket_of m) k b → VisitedContainer h p m level octets (behind + 2) before after a b
+  pub container_visited : (p : Place) (m : Mark) (level : ℕ) (octets rest : List ℕ) (behind : ℕ) (before first last after : Tally) (k : M) (a x y b : S)
+      → 0 < level → rest ≡ drop 1 octets → VisitedInside h m (level - 1) rest behind first last x y
+      → first ≡ behind_open p m level before → after ≡ behind_close p m last → h.opens a (bracket_of m) k x → h.closes y (bracket_of m) k b
+      → VisitedContainer h p m level octets (behind + 2) before after a b
   container_visited p m level octets rest behind before first last after k a x y b some is w opens shuts o c =
-      let inside : VisitedInside h m (level - 1) (drop 1 octets) behind first last x y = subst (λ w. VisitedInside h m (level - 1) w behind first last x y) is w in
-      record { walked = record { some = some; first = first; last = last; behind = behind; inside = inside.walked; opens = opens; shuts = shuts; total = refl }; visited = inside.visited k a b o c }
+      let inside : VisitedInside h m (level - 1) (drop 1 octets) behind first last x y =
+      subst (λ w. VisitedInside h m (level - 1) w behind first last x y) is w in
+      record {
+        walked = record { some = some; first = first; last = last; behind = behind; inside = inside.walked; opens = opens; shuts = shuts; total = refl };
+        visited = inside.visited k a b o c;
+      }
 
-  pub containers_visited : (p : Place) (m : Mark) (level : ℕ) (octets : List ℕ) (before after : Tally) (a b : S) (r : Option ℕ) → IfSome r (λ n. VisitedContainer h p m level octets n before after a b) → 1 < length octets → OpensAt octets m → is_name p ≡ false → before.level ≤ level
+  pub containers_visited : (p : Place) (m : Mark) (level : ℕ) (octets : List ℕ) (before after : Tally) (a b : S) (r : Option ℕ)
+      → IfSome r (λ n. VisitedContainer h p m level octets n before after a b) → 1 < length octets → OpensAt octets m → is_name p ≡ false → before.level ≤ level
       → IfSome r (λ n. VisitedValue h p level octets n before after a b)
   unfolding walked_container
   containers_visited p m level octets before after a b None w more opens value low = w
-  containers_visited p m level octets before after a b (Some n) w more opens value low = record { walked = walked_container p m level octets n before after w.walked more opens value low; visited = w.visited }
+  containers_visited p m level octets before after a b (Some n) w more opens value low =
+      record { walked = walked_container p m level octets n before after w.walked more opens value low; visited = w.visited }
 
-  pub bares_visited : (level : ℕ) (octets : List ℕ) (before after : Tally) (a b : S) (m : Mark) (r : Option ℕ) → IfSome r (λ n. VisitedContainer h places.Top m level octets n before after a b) → 1 < length octets → OpensAt octets m → before.level ≤ level → IfSome r (λ n. VisitedBare h level octets n before after a b)
+  pub bares_visited : (level : ℕ) (octets : List ℕ) (before after : Tally) (a b : S) (m : Mark) (r : Option ℕ)
+      → IfSome r (λ n. VisitedContainer h places.Top m level octets n before after a b) → 1 < length octets → OpensAt octets m → before.level ≤ level
+      → IfSome r (λ n. VisitedBare h level octets n before after a b)
   unfolding walked_bare
   bares_visited level octets before after a b m None w more opens low = w
-  bares_visited level octets before after a b m (Some n) w more opens low = record { walked = walked_bare level octets n before after m w.walked more opens low; visited = w.visited }
+  bares_visited level octets before after a b m (Some n) w more opens low =
+      record { walked = walked_bare level octets n before after m w.walked more opens low; visited = w.visited }
 
   -- up to the close
   module _ (level : ℕ) (octets rest : List ℕ) (at : ℕ) (before now : Tally) (is : rest ≡ drop at octets) (some : 0 < length rest) (a b : S) where
-    pub list_visited : (vs : List Value) (behind : Bool) → ListGone level octets at before now vs behind → get_or rest 0 0 ≡ 93 → VisitedItems h vs a b → VisitedInside h marks.ListOpen level octets at before now a b
+    pub list_visited : (vs : List Value) (behind : Bool) → ListGone level octets at before now vs behind → get_or rest 0 0 ≡ 93 → VisitedItems h vs a b
+        → VisitedInside h marks.ListOpen level octets at before now a b
     unfolding list_inside
-    list_visited vs behind x e v = record { walked = list_inside level octets rest at before now is some vs behind x e; visited = λ k x y o c. in_list vs k x a b y o v c }
+    list_visited vs behind x e v = record {
+      walked = list_inside level octets rest at before now is some vs behind x e;
+      visited =
+          λ k x y o c. in_list vs k x a b y o v c;
+    }
 
-    pub sexp_visited : (vs : List Value) → SexpGone level octets at before now vs → get_or rest 0 0 ≡ 41 → VisitedItems h vs a b → VisitedInside h marks.SexpOpen level octets at before now a b
+    pub sexp_visited : (vs : List Value) → SexpGone level octets at before now vs → get_or rest 0 0 ≡ 41 → VisitedItems h vs a b
+        → VisitedInside h marks.SexpOpen level octets at before now a b
     unfolding sexp_inside
     sexp_visited vs x e v = record { walked = sexp_inside level octets rest at before now is some vs x e; visited = λ k x y o c. in_sexp vs k x a b y o v c }
 
-    pub fields_visited : (ms : List Field) (behind : Bool) → FieldsGone level octets at before now ms behind → get_or rest 0 0 ≡ 125 → VisitedFields h ms a b → VisitedInside h marks.FieldsOpen level octets at before now a b
+    pub fields_visited : (ms : List Field) (behind : Bool) → FieldsGone level octets at before now ms behind → get_or rest 0 0 ≡ 125 → VisitedFields h ms a b
+        → VisitedInside h marks.FieldsOpen level octets at before now a b
     unfolding fields_inside
-    fields_visited ms behind x e v = record { walked = fields_inside level octets rest at before now is some ms behind x e; visited = λ k x y o c. in_struct ms k x a b y o v c }
+    fields_visited ms behind x e v = record {
+      walked = fields_inside level octets rest at before now is some ms behind x e;
+      visited =
+          λ k x y o c. in_struct ms k x a b y o v c;
+    }
 
   -- annotations of an item
   pub no_notes : (octets : List ℕ) (before : Tally) (a : S) → VisitedNotes h octets 0 before before a a
   unfolding notes_none
   no_notes octets before a = record { walked = notes_none octets before; some = λ e. absurd (omega (arith, e)); visited = no_annotations a }
 
-  pub notes_more : (octets rest : List ℕ) (i j : ℕ) (before mid after : Tally) (a m b : S) → rest ≡ drop i octets → VisitedNotes h octets i before mid a m → (w : WalkedNote rest j mid after) × h.takes m (annotation w.name) b → VisitedNotes h octets (i + j) before after a b
+  pub notes_more : (octets rest : List ℕ) (i j : ℕ) (before mid after : Tally) (a m b : S) → rest ≡ drop i octets → VisitedNotes h octets i before mid a m
+      → (w : WalkedNote rest j mid after) × h.takes m (annotation w.name) b → VisitedNotes h octets (i + j) before after a b
   unfolding notes_on
   notes_more octets rest i j before mid after a m b is w x = record {
     walked = notes_on octets rest i j before mid after is w.walked x.0;
@@ -92,16 +124,23 @@ module _ {S M : Type 0} (h : Visits S M) where
   }
 
   -- the item of a value without annotations
-  pub tops_bare : (level : ℕ) (octets : List ℕ) (before after : Tally) (a b : S) (r : Option ℕ) → IfSome r (λ n. VisitedBare h level octets n before after a b) → IfSome r (λ n. VisitedTop h level octets n before after a b)
+  pub tops_bare : (level : ℕ) (octets : List ℕ) (before after : Tally) (a b : S) (r : Option ℕ) → IfSome r (λ n. VisitedBare h level octets n before after a b)
+      → IfSome r (λ n. VisitedTop h level octets n before after a b)
   unfolding walked_top notes_none
   tops_bare level octets before after a b None w = w
   tops_bare level octets before after a b (Some n) w =
       let all : 0 + n ≡ n = omega arith in
       subst (λ k. VisitedTop h level octets k before after a b) all
-      (record { walked = walked_top level octets octets 0 n before before after refl (notes_none octets before) w.walked; visited = bare_visited w.walked.payload a b w.visited })
+      (record {
+        walked = walked_top level octets octets 0 n before before after refl (notes_none octets before) w.walked;
+        visited =
+            bare_visited w.walked.payload a b w.visited;
+      })
 
   -- and of one with some
-  pub top_annotated : (level : ℕ) (octets rest : List ℕ) (i j : ℕ) (before mid after : Tally) (k : M) (a m n x y b : S) → rest ≡ drop i octets → 0 < i → h.opens_wrapper a k m → VisitedNotes h octets i before mid m n → h.ends_annotations n k x → VisitedBare h level rest j mid after x y → h.closes_wrapper y k b
+  pub top_annotated : (level : ℕ) (octets rest : List ℕ) (i j : ℕ) (before mid after : Tally) (k : M) (a m n x y b : S) → rest ≡ drop i octets → 0 < i
+      → h.opens_wrapper a k m → VisitedNotes h octets i before mid m n → h.ends_annotations n k x → VisitedBare h level rest j mid after x y
+      → h.closes_wrapper y k b
       → VisitedTop h level octets (i + j) before after a b
   unfolding walked_top
   top_annotated level octets rest i j before mid after k a m n x y b is some o w t v c = record {

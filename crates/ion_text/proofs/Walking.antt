@@ -49,18 +49,24 @@ use Rattle.ion_text.proofs.Striding.{still_settles}
 use Rattle.ion_text.proofs.Symbols.{held_in, symbol_passes, name_passes}
 
 -- a token where the scanner rests and a container is open
-module _ (g : Catalog) (l : Limits) (r : Reading) (inner : is_top r.frames ≡ false) (still : IsStill r.now) (rest : Rest) (octets : List ℕ) (kind : TokenKind) (kept : List ℕ) (n : ℕ) (c : Content) (q : Reading)
-    (says : said kind kept ≡ Ok c) (turns : turn g l r (token_of (lexeme_at rest kind kept n) c) ≡ goes q) (room : rest.used + length octets ≤ l.item + r.start) (stays : StaysIn r.start q) where
+module _ (g : Catalog) (l : Limits) (r : Reading) (inner : is_top r.frames ≡ false) (still : IsStill r.now) (rest : Rest) (octets : List ℕ) (kind : TokenKind)
+    (kept : List ℕ) (n : ℕ) (c : Content) (q : Reading)
+    (says : said kind kept ≡ Ok c) (turns : turn g l r (token_of (lexeme_at rest kind kept n) c) ≡ goes q) (room : rest.used + length octets ≤ l.item + r.start)
+    (stays : StaysIn r.start q) where
   quiet : (k : ℕ) → k ≤ length octets → IsCalm r.now ⊎ (k ≡ 0) → Quiet g l r (place r) (resting rest) (take k octets)
   quiet k few (inl calm) = calm_quiet g l r inner calm (resting rest) refl octets k few (omega arith)
   quiet k few (inr none) = subst (λ j. Quiet g l r (place r) (resting rest) (take j octets)) (sym none) tt
 
-  pub token_passes : (left : Bool) → IsFound (place r) rest octets kind kept n left → IsCalm r.now ⊎ (before_end left n ≡ 0) → Passes g l (with_scan (resting rest) r) octets n (with_scan (resting (past_token (place r) rest kind n)) q)
-  token_passes true f m = let shown = f.shown in left_passes g l r inner (still_settles g l r still) rest octets kind kept n c q says turns room f (quiet n (omega arith) m)
-  token_passes false f m = let shown = f.shown in given_passes g l r inner (still_settles g l r still) rest octets kind kept n c q says turns room f (quiet (n - 1) (omega arith) m) stays
+  pub token_passes : (left : Bool) → IsFound (place r) rest octets kind kept n left → IsCalm r.now ⊎ (before_end left n ≡ 0)
+      → Passes g l (with_scan (resting rest) r) octets n (with_scan (resting (past_token (place r) rest kind n)) q)
+  token_passes true f m = let shown = f.shown in left_passes g l r inner (still_settles g l r still) rest octets kind kept n c q says turns room f
+      (quiet n (omega arith) m)
+  token_passes false f m = let shown = f.shown in given_passes g l r inner (still_settles g l r still) rest octets kind kept n c q says turns room f
+      (quiet (n - 1) (omega arith) m) stays
 
 -- a token that is found lies whole in the octets
-pub found_within : (p : Place) (r : Rest) (octets : List ℕ) (kind : TokenKind) (kept : List ℕ) (n : ℕ) (left : Bool) → IsFound p r octets kind kept n left → n ≤ length octets
+pub found_within : (p : Place) (r : Rest) (octets : List ℕ) (kind : TokenKind) (kept : List ℕ) (n : ℕ) (left : Bool) → IsFound p r octets kind kept n left
+    → n ≤ length octets
 found_within p r octets kind kept n true f = let shown = f.shown in omega arith
 found_within p r octets kind kept n false f = let shown = f.shown in omega arith
 
@@ -75,10 +81,12 @@ module _ (p : Place) (level : ℕ) (rest : Rest) (octets : List ℕ) (s : Scalar
       let r = at start c fs ss nows.Ready in
       let q = at start c those [] n in
       let is : EndsAtOnce f.content f.payload = subst (λ b. IsValue b f.content f.payload) e f.is in
-      let does : ended (under g l) (spot_at (rest.used + count) start c) fs (annotated ss f.payload) ≡ goes q = puts (under g l) (spot_at (rest.used + count) start c) in
+      let does : ended (under g l) (spot_at (rest.used + count) start c) fs (annotated ss f.payload) ≡ goes q =
+      puts (under g l) (spot_at (rest.used + count) start c) in
       subst (λ p. Passes g l (rested rest start c fs ss nows.Ready) octets count (rested (past_token p rest s.token.kind count) start c those [] n)) here
       (token_passes g l r inner tt rest octets s.token.kind f.kept count f.content q f.says
-      (ready_turns g l r (lexeme_at rest s.token.kind f.kept count) f.content refl inner ∙ (is (under g l) (spot_at (rest.used + count) start c) fs ss ∙ does)) room
+      (ready_turns g l r (lexeme_at rest s.token.kind f.kept count) f.content refl inner ∙ (is (under g l) (spot_at (rest.used + count) start c) fs ss ∙ does))
+      room
       (ended_stays (under g l) (spot_at (rest.used + count) start c) q fs (annotated ss f.payload) inner does)
       s.token.left (subst (λ p. IsFound p rest octets s.token.kind f.kept count s.token.left) (sym here) f.found) (inl tt))
 
@@ -88,14 +96,19 @@ module _ (p : Place) (level : ℕ) (rest : Rest) (octets : List ℕ) (s : Scalar
       let r = at start c fs ss nows.Ready in
       let q = at start c those [] n in
       let pays = held_in (held_of f.content) f.payload (subst (λ b. IsValue b f.content f.payload) e f.is) in
-      let does : ended (under g l) (spot_at (rest.used + count) start c) fs (annotated ss f.payload) ≡ goes q = puts (under g l) (spot_at (rest.used + count) start c) in
-      subst (λ p. Passes g l (rested rest start c fs ss nows.Ready) octets (count + m) (rested (past_blank (past_token p rest s.token.kind count) m) start c those [] n)) here
+      let does : ended (under g l) (spot_at (rest.used + count) start c) fs (annotated ss f.payload) ≡ goes q =
+      puts (under g l) (spot_at (rest.used + count) start c) in
+      subst (λ p. Passes g l (rested rest start c fs ss nows.Ready) octets (count + m)
+      (rested (past_blank (past_token p rest s.token.kind count) m) start c those [] n)) here
       (symbol_passes g l r inner rest octets s.token.kind f.kept count m s.token.left f.content room within
-      (subst (λ p. IsFound p rest octets s.token.kind f.kept count s.token.left) (sym here) f.found) f.says passed tt tt refl pays.0 pays.1 q f.payload pays.2 does ends)
+      (subst (λ p. IsFound p rest octets s.token.kind f.kept count s.token.left) (sym here) f.found) f.says passed tt tt refl pays.0 pays.1 q f.payload pays.2
+      does ends)
 
   -- with what is noted
-  pub walked_scalar : (before after : Tally) (m : ℕ) → before.level ≤ level → before.rest ≡ rest → count + m ≤ length octets → LeadsBehind p level rest octets (count + m) (past_blank (past_token p rest s.token.kind count) m) f.payload
-      → after ≡ record { kind = s.kind; level = before.level; nodes = min (before.nodes + 1) most; rest = past_blank (past_token p rest s.token.kind count) m } → (w : Walked p level octets (count + m) before after) × (w.payload ≡ f.payload)
+  pub walked_scalar : (before after : Tally) (m : ℕ) → before.level ≤ level → before.rest ≡ rest → count + m ≤ length octets
+      → LeadsBehind p level rest octets (count + m) (past_blank (past_token p rest s.token.kind count) m) f.payload
+      → after ≡ record { kind = s.kind; level = before.level; nodes = min (before.nodes + 1) most; rest = past_blank (past_token p rest s.token.kind count) m }
+      → (w : Walked p level octets (count + m) before after) × (w.payload ≡ f.payload)
   walked_scalar before after m low same within leads e =
       let flat = f.flat in
       let deep = flat.deep in
@@ -123,25 +136,32 @@ leads_on level a b d octets i j f h k m n o within used x y = λ g l start c ss 
     (x g l start c ss fs deep room) (y g l start c ss fs deep (omega arith))
 
 -- a blank
-pub blank_leads : (level : ℕ) (r : Rest) (octets : List ℕ) (n : ℕ) (f : Symbols → Frame) (now : Now) → IsPassed octets n → n ≤ length octets → IsStill now → Leads level r octets n (past_blank r n) f now f now
+pub blank_leads : (level : ℕ) (r : Rest) (octets : List ℕ) (n : ℕ) (f : Symbols → Frame) (now : Now) → IsPassed octets n → n ≤ length octets → IsStill now
+    → Leads level r octets n (past_blank r n) f now f now
 blank_leads level r octets n f now passed within still = λ g l start c ss fs deep room.
     let q = at start c (f ss ∷ fs) [] now in
-    passes_blank g l q (l.item + q.start) (inner_notices l q refl) (resting r) (resting (past_blank r n)) octets n within refl refl (passed (place q) r) (omega arith) (still_settles g l q still)
+    passes_blank g l q (l.item + q.start) (inner_notices l q refl) (resting r) (resting (past_blank r n)) octets n within refl refl (passed (place q) r)
+    (omega arith) (still_settles g l q still)
 
 -- a field's name and its colon
-module _ (rest : Rest) (octets : List ℕ) (token : FoundToken) (f : FoundName rest octets token) (m : ℕ) (within : token.count + m + 1 < length octets) (passed : IsPassed (drop token.count octets) m)
+module _ (rest : Rest) (octets : List ℕ) (token : FoundToken) (f : FoundName rest octets token) (m : ℕ) (within : token.count + m + 1 < length octets)
+    (passed : IsPassed (drop token.count octets) m)
     (colon : get_or octets (token.count + m) 0 ≡ 58) (one : get_or octets (token.count + m + 1) 0 ≢ 58) where
-  key_leads : (level : ℕ) (ms : List Field) → Leads level rest octets (token.count + m + 1) (behind_key rest token m) (λ ss. frames.Fields ss ms) nows.Name (λ ss. frames.Named ss ms f.name) nows.Ready
+  key_leads : (level : ℕ) (ms : List Field) → Leads level rest octets (token.count + m + 1) (behind_key rest token m) (λ ss. frames.Fields ss ms) nows.Name
+      (λ ss. frames.Named ss ms f.name) nows.Ready
   key_leads level ms = λ g l start c ss fs deep room.
-      name_passes g l (at start c (frames.Fields ss ms ∷ fs) [] nows.Name) refl rest octets token.kind f.begins.kept token.count m token.left f.begins.content room (omega arith) f.begins.found f.begins.says passed tt tt refl
+      name_passes g l (at start c (frames.Fields ss ms ∷ fs) [] nows.Name) refl rest octets token.kind f.begins.kept token.count m token.left f.begins.content
+      room (omega arith) f.begins.found f.begins.says passed tt tt refl
       (at start c (frames.Named ss ms f.name ∷ fs) [] nows.Ready) within f.name f.begins.names colon one refl
 
   key_used : (behind_key rest token m).used ≡ rest.used + (token.count + m + 1)
   key_used = let used = blank_used (past_token places.Name rest token.kind token.count) m in omega arith
 
   -- with a blank behind it, and what is noted
-  pub walked_name : (before mid after : Tally) (n : ℕ) (behind : List ℕ) → before.rest ≡ rest → behind ≡ drop (token.count + m + 1) octets → n ≤ length behind → IsPassed behind n
-      → mid ≡ record { kind = before.kind; level = before.level; nodes = min (before.nodes + 1) most; rest = (behind_key rest token m) } → after ≡ record { kind = mid.kind; level = mid.level; nodes = mid.nodes; rest = past_blank mid.rest n }
+  pub walked_name : (before mid after : Tally) (n : ℕ) (behind : List ℕ) → before.rest ≡ rest → behind ≡ drop (token.count + m + 1) octets → n ≤ length behind
+      → IsPassed behind n
+      → mid ≡ record { kind = before.kind; level = before.level; nodes = min (before.nodes + 1) most; rest = (behind_key rest token m) }
+      → after ≡ record { kind = mid.kind; level = mid.level; nodes = mid.nodes; rest = past_blank mid.rest n }
       → (w : WalkedName octets (token.count + m + 1 + n) before after) × (w.name ≡ f.name)
   walked_name before mid after n behind same is few blank em ea =
       let size : length behind ≡ length octets - (token.count + m + 1) = ap (λ (w : List ℕ). length w) is ∙ length-drop (token.count + m + 1) octets in
@@ -152,10 +172,13 @@ module _ (rest : Rest) (octets : List ℕ) (token : FoundToken) (f : FoundName r
         record {
           name = f.name;
           leads = λ level ms.
-              subst (λ r. Leads level r octets (token.count + m + 1 + n) (past_blank (behind_key rest token m) n) (λ ss. frames.Fields ss ms) nows.Name (λ ss. frames.Named ss ms f.name) nows.Ready) (sym same)
-              (leads_on level rest (behind_key rest token m) (past_blank (behind_key rest token m) n) octets (token.count + m + 1) n (λ ss. frames.Fields ss ms) (λ ss. frames.Named ss ms f.name) (λ ss. frames.Named ss ms f.name) nows.Name nows.Ready nows.Ready (omega arith) counted
+              subst (λ r. Leads level r octets (token.count + m + 1 + n) (past_blank (behind_key rest token m) n) (λ ss. frames.Fields ss ms) nows.Name
+              (λ ss. frames.Named ss ms f.name) nows.Ready) (sym same)
+              (leads_on level rest (behind_key rest token m) (past_blank (behind_key rest token m) n) octets (token.count + m + 1) n (λ ss. frames.Fields ss ms)
+              (λ ss. frames.Named ss ms f.name) (λ ss. frames.Named ss ms f.name) nows.Name nows.Ready nows.Ready (omega arith) counted
               (key_leads level ms)
-              (subst (λ w. Leads level (behind_key rest token m) w n (past_blank (behind_key rest token m) n) (λ ss. frames.Named ss ms f.name) nows.Ready (λ ss. frames.Named ss ms f.name) nows.Ready) is
+              (subst (λ w. Leads level (behind_key rest token m) w n (past_blank (behind_key rest token m) n) (λ ss. frames.Named ss ms f.name) nows.Ready
+              (λ ss. frames.Named ss ms f.name) nows.Ready) is
               (blank_leads level (behind_key rest token m) behind n (λ ss. frames.Named ss ms f.name) nows.Ready blank few tt)));
           within = omega arith;
           used = omega arith;
@@ -170,13 +193,16 @@ module _ (rest : Rest) (octets : List ℕ) (token : FoundToken) (f : FoundName r
 pub list_comma : (level : ℕ) (r : Rest) (octets : List ℕ) (vs : List Value) → 0 < length octets → get_or octets 0 0 ≡ 44
     → Leads level r octets 1 (past_token places.List r (kinds.Mark marks.Comma) 1) (λ ss. frames.List ss vs) nows.After (λ ss. frames.List ss vs) nows.Ready
 list_comma level r octets vs some first = λ g l start c ss fs deep room.
-    token_passes g l (at start c (frames.List ss vs ∷ fs) [] nows.After) refl tt r octets (kinds.Mark marks.Comma) [] 1 (Mark' marks.Comma) (at start c (frames.List ss vs ∷ fs) [] nows.Ready) (mark_says marks.Comma) refl room (refl, refl, tt)
+    token_passes g l (at start c (frames.List ss vs ∷ fs) [] nows.After) refl tt r octets (kinds.Mark marks.Comma) [] 1 (Mark' marks.Comma)
+    (at start c (frames.List ss vs ∷ fs) [] nows.Ready) (mark_says marks.Comma) refl room (refl, refl, tt)
     false (comma_found places.List r octets some first) (inr refl)
 
 pub field_comma : (level : ℕ) (r : Rest) (octets : List ℕ) (ms : List Field) → 0 < length octets → get_or octets 0 0 ≡ 44
-    → Leads level r octets 1 (past_token places.FieldValue r (kinds.Mark marks.Comma) 1) (λ ss. frames.Fields ss ms) nows.After (λ ss. frames.Fields ss ms) nows.Name
+    → Leads level r octets 1 (past_token places.FieldValue r (kinds.Mark marks.Comma) 1) (λ ss. frames.Fields ss ms) nows.After (λ ss. frames.Fields ss ms)
+    nows.Name
 field_comma level r octets ms some first = λ g l start c ss fs deep room.
-    token_passes g l (at start c (frames.Fields ss ms ∷ fs) [] nows.After) refl tt r octets (kinds.Mark marks.Comma) [] 1 (Mark' marks.Comma) (at start c (frames.Fields ss ms ∷ fs) [] nows.Name) (mark_says marks.Comma) refl room (refl, refl, tt)
+    token_passes g l (at start c (frames.Fields ss ms ∷ fs) [] nows.After) refl tt r octets (kinds.Mark marks.Comma) [] 1 (Mark' marks.Comma)
+    (at start c (frames.Fields ss ms ∷ fs) [] nows.Name) (mark_says marks.Comma) refl room (refl, refl, tt)
     false (comma_found places.FieldValue r octets some first) (inr refl)
 
 -- values in containers
@@ -185,21 +211,26 @@ module _ (level : ℕ) (octets : List ℕ) (count : ℕ) (before after : Tally) 
   pub list_value : (w : Walked places.List level octets count before after) (vs : List Value)
       → Leads level before.rest octets count after.rest (λ ss. frames.List ss vs) nows.Ready (λ ss. frames.List ss (vs ++ bare w.payload ∷ [])) nows.After
   list_value w vs = λ g l start c ss fs deep room.
-      w.leads g l start c [] (frames.List ss vs ∷ fs) (frames.List ss (vs ++ bare w.payload ∷ []) ∷ fs) nows.After refl refl (omega arith) room (λ setting spot. refl)
+      w.leads g l start c [] (frames.List ss vs ∷ fs) (frames.List ss (vs ++ bare w.payload ∷ []) ∷ fs) nows.After refl refl (omega arith) room
+      (λ setting spot. refl)
 
   pub sexp_value : (w : Walked places.Sexp level octets count before after) (vs : List Value)
       → Leads level before.rest octets count after.rest (λ ss. frames.Sexp ss vs) nows.Ready (λ ss. frames.Sexp ss (vs ++ bare w.payload ∷ [])) nows.Ready
   sexp_value w vs = λ g l start c ss fs deep room.
-      w.leads g l start c [] (frames.Sexp ss vs ∷ fs) (frames.Sexp ss (vs ++ bare w.payload ∷ []) ∷ fs) nows.Ready refl refl (omega arith) room (λ setting spot. refl)
+      w.leads g l start c [] (frames.Sexp ss vs ∷ fs) (frames.Sexp ss (vs ++ bare w.payload ∷ []) ∷ fs) nows.Ready refl refl (omega arith) room
+      (λ setting spot. refl)
 
   pub field_value : (w : Walked places.FieldValue level octets count before after) (ms : List Field) (name : Option (List ℕ))
-      → Leads level before.rest octets count after.rest (λ ss. frames.Named ss ms name) nows.Ready (λ ss. frames.Fields ss (ms ++ field_of name (bare w.payload) ∷ [])) nows.After
+      → Leads level before.rest octets count after.rest (λ ss. frames.Named ss ms name) nows.Ready
+      (λ ss. frames.Fields ss (ms ++ field_of name (bare w.payload) ∷ [])) nows.After
   field_value w ms name = λ g l start c ss fs deep room.
-      w.leads g l start c [] (frames.Named ss ms name ∷ fs) (frames.Fields ss (ms ++ field_of name (bare w.payload) ∷ []) ∷ fs) nows.After refl refl (omega arith) room (λ setting spot. refl)
+      w.leads g l start c [] (frames.Named ss ms name ∷ fs) (frames.Fields ss (ms ++ field_of name (bare w.payload) ∷ []) ∷ fs) nows.After refl refl
+      (omega arith) room (λ setting spot. refl)
 
 -- containers
 
-pub open_turns : (setting : Setting) (spot : Spot) (fs : List Frame) (ss : Symbols) (octets : List ℕ) (m : Mark) → OpensAt octets m → length fs < setting.limits.depth
+pub open_turns : (setting : Setting) (spot : Spot) (fs : List Frame) (ss : Symbols) (octets : List ℕ) (m : Mark) → OpensAt octets m
+    → length fs < setting.limits.depth
     → on_ready setting spot fs ss (Mark' m) ≡ goes (at spot.start spot.context (opened m ss ∷ fs) [] (first_now m))
 open_turns setting spot fs ss octets m opens deep = by m opens
   where
@@ -232,7 +263,8 @@ opened_stays start c fs ss marks.Colon = (refl, refl, tt)
 opened_stays start c fs ss marks.Colons = (refl, refl, tt)
 
 -- behind the open, and up to the close
-module _ (p : Place) (m : Mark) (level : ℕ) (octets : List ℕ) (count : ℕ) (before after : Tally) (w : WalkedContainer p m level octets count before after) (more : 1 < length octets) (opens : OpensAt octets m) where
+module _ (p : Place) (m : Mark) (level : ℕ) (octets : List ℕ) (count : ℕ) (before after : Tally) (w : WalkedContainer p m level octets count before after)
+    (more : 1 < length octets) (opens : OpensAt octets m) where
   abbrev first : Rest
   first = past_token p before.rest (kinds.Mark m) 1
 
@@ -242,13 +274,16 @@ module _ (p : Place) (m : Mark) (level : ℕ) (octets : List ℕ) (count : ℕ) 
   pub size : length (drop 1 octets) ≡ length octets - 1
   size = length-drop 1 octets
 
-  pub up_to_close : (g : Catalog) (l : Limits) (start : ℕ) (c : List Slot) (ss : Symbols) (fs : List Frame) → length fs + level ≤ l.depth → before.rest.used + length octets ≤ l.item + start
-      → Passes g l (rested first start c (opened m ss ∷ fs) [] (first_now m)) (drop 1 octets) w.behind (rested w.last.rest start c (w.inside.whole ss ∷ fs) [] w.inside.now)
+  pub up_to_close : (g : Catalog) (l : Limits) (start : ℕ) (c : List Slot) (ss : Symbols) (fs : List Frame) → length fs + level ≤ l.depth
+      → before.rest.used + length octets ≤ l.item + start
+      → Passes g l (rested first start c (opened m ss ∷ fs) [] (first_now m)) (drop 1 octets) w.behind
+      (rested w.last.rest start c (w.inside.whole ss ∷ fs) [] w.inside.now)
   up_to_close g l start c ss fs deep room =
       let some = w.some in
       let long = size in
       let used : w.first.rest.used ≡ before.rest.used + 1 = ap (λ (r : Rest). r.used) first_is in
-      subst (λ r. Passes g l (rested r start c (opened m ss ∷ fs) [] (first_now m)) (drop 1 octets) w.behind (rested w.last.rest start c (w.inside.whole ss ∷ fs) [] w.inside.now)) first_is
+      subst (λ r. Passes g l (rested r start c (opened m ss ∷ fs) [] (first_now m)) (drop 1 octets) w.behind
+      (rested w.last.rest start c (w.inside.whole ss ∷ fs) [] w.inside.now)) first_is
       (w.inside.leads g l start c ss fs (omega arith) (omega arith))
 
   pub container_leads : is_name p ≡ false → LeadsBehind p level before.rest octets count after.rest w.inside.payload
@@ -266,14 +301,20 @@ module _ (p : Place) (m : Mark) (level : ℕ) (octets : List ℕ) (count : ℕ) 
       let e = at start c those [] n in
       let close = close_of m in
       let shut = closing g l w.last.rest.used (w.last.rest.used + 1) start c close (w.inside.whole ss ∷ fs) w.inside.now (w.inside.closes ss fs) in
-      let does : ended (under g l) (spot_at (w.last.rest.used + 1) start c) fs (annotated ss w.inside.payload) ≡ goes e = puts (under g l) (spot_at (w.last.rest.used + 1) start c) in
-      let found = close_found close (w.inside.whole ss ∷ fs) w.inside.now w.last.rest behind (w.inside.closes ss fs) (omega arith) (at_drop w.behind (drop 1 octets) ∙ w.inside.close) in
+      let does : ended (under g l) (spot_at (w.last.rest.used + 1) start c) fs (annotated ss w.inside.payload) ≡ goes e =
+      puts (under g l) (spot_at (w.last.rest.used + 1) start c) in
+      let found = close_found close (w.inside.whole ss ∷ fs) w.inside.now w.last.rest behind (w.inside.closes ss fs) (omega arith)
+      (at_drop w.behind (drop 1 octets) ∙ w.inside.close) in
       let one : Passes g l (rested before.rest start c fs ss nows.Ready) octets 1 (rested first start c (opened m ss ∷ fs) [] (first_now m)) =
-      subst (λ p. Passes g l (rested before.rest start c fs ss nows.Ready) octets 1 (rested (past_token p before.rest (kinds.Mark m) 1) start c (opened m ss ∷ fs) [] (first_now m))) here
+      subst (λ p. Passes g l (rested before.rest start c fs ss nows.Ready) octets 1
+      (rested (past_token p before.rest (kinds.Mark m) 1) start c (opened m ss ∷ fs) [] (first_now m))) here
       (token_passes g l r inner tt before.rest octets (kinds.Mark m) [] 1 (Mark' m) q (mark_says m)
-      (ready_turns g l r (lexeme_at before.rest (kinds.Mark m) [] 1) (Mark' m) refl inner ∙ open_turns (under g l) (spot_at (before.rest.used + 1) start c) fs ss octets m opens (omega arith)) room
-      (opened_stays start c fs ss m) (is_open_left m) (open_found m (place_in fs nows.Ready) before.rest octets opens more (ap is_name here ∙ value)) (inl tt)) in
-      let last : Passes g l (rested w.last.rest start c (w.inside.whole ss ∷ fs) [] w.inside.now) behind 1 (rested (past_token (place k) w.last.rest (kinds.Mark close) 1) start c those [] n) =
+      (ready_turns g l r (lexeme_at before.rest (kinds.Mark m) [] 1) (Mark' m) refl inner
+      ∙ open_turns (under g l) (spot_at (before.rest.used + 1) start c) fs ss octets m opens (omega arith)) room
+      (opened_stays start c fs ss m) (is_open_left m) (open_found m (place_in fs nows.Ready) before.rest octets opens more (ap is_name here ∙ value))
+      (inl tt)) in
+      let last : Passes g l (rested w.last.rest start c (w.inside.whole ss ∷ fs) [] w.inside.now) behind 1
+      (rested (past_token (place k) w.last.rest (kinds.Mark close) 1) start c those [] n) =
       token_passes g l k refl shut.1 w.last.rest behind (kinds.Mark close) [] 1 (Mark' close) e (mark_says close)
       (shut.0 ∙ (w.inside.closed (under g l) (spot_at (w.last.rest.used + 1) start c) ss fs ∙ does)) (omega arith)
       (ended_stays (under g l) (spot_at (w.last.rest.used + 1) start c) e fs (annotated ss w.inside.payload) inner does) false found (inr refl) in
@@ -281,8 +322,10 @@ module _ (p : Place) (m : Mark) (level : ℕ) (octets : List ℕ) (count : ℕ) 
       let total : 1 + (w.behind + 1) ≡ count = let t = w.total in omega arith in
       subst (λ j. Passes g l (rested before.rest start c fs ss nows.Ready) octets j (rested after.rest start c those [] n)) total
       (subst (λ x. Passes g l (rested before.rest start c fs ss nows.Ready) octets (1 + (w.behind + 1)) (rested x start c those [] n)) (sym there)
-      (passes_on g l (rested before.rest start c fs ss nows.Ready) (rested first start c (opened m ss ∷ fs) [] (first_now m)) (rested (past_token (place k) w.last.rest (kinds.Mark close) 1) start c those [] n) octets 1 (w.behind + 1) one
-      (passes_on g l (rested first start c (opened m ss ∷ fs) [] (first_now m)) (rested w.last.rest start c (w.inside.whole ss ∷ fs) [] w.inside.now) (rested (past_token (place k) w.last.rest (kinds.Mark close) 1) start c those [] n) (drop 1 octets) w.behind 1
+      (passes_on g l (rested before.rest start c fs ss nows.Ready) (rested first start c (opened m ss ∷ fs) [] (first_now m))
+      (rested (past_token (place k) w.last.rest (kinds.Mark close) 1) start c those [] n) octets 1 (w.behind + 1) one
+      (passes_on g l (rested first start c (opened m ss ∷ fs) [] (first_now m)) (rested w.last.rest start c (w.inside.whole ss ∷ fs) [] w.inside.now)
+      (rested (past_token (place k) w.last.rest (kinds.Mark close) 1) start c those [] n) (drop 1 octets) w.behind 1
       (up_to_close g l start c ss fs deep room) last)))
 
   -- what is noted of it
@@ -329,7 +372,8 @@ pub record Gone (m : Mark) (level : ℕ) (octets : List ℕ) (at : ℕ) (before 
   pub left : now.level ≡ min before.level (level - deepest)
   pub counted : min now.nodes most ≡ min (before.nodes + many) most
 
-pub gone_none : (m : Mark) (level : ℕ) (octets : List ℕ) (before : Tally) → before.level ≤ level → Gone m level octets 0 before before (opened m) (first_now m) 0 0
+pub gone_none : (m : Mark) (level : ℕ) (octets : List ℕ) (before : Tally) → before.level ≤ level
+    → Gone m level octets 0 before before (opened m) (first_now m) 0 0
 gone_none m level octets before low = record {
   leads = λ g l start c ss fs deep room. passes_none g l (rested before.rest start c (opened m ss ∷ fs) [] (first_now m)) octets;
   within = omega arith;
@@ -339,7 +383,8 @@ gone_none m level octets before low = record {
   counted = omega arith;
 }
 
-module _ (m : Mark) (level : ℕ) (octets rest : List ℕ) (at : ℕ) (before now : Tally) (h : Symbols → Frame) (n : Now) (deepest many : ℕ) (x : Gone m level octets at before now h n deepest many) (is : rest ≡ drop at octets) where
+module _ (m : Mark) (level : ℕ) (octets rest : List ℕ) (at : ℕ) (before now : Tally) (h : Symbols → Frame) (n : Now) (deepest many : ℕ)
+    (x : Gone m level octets at before now h n deepest many) (is : rest ≡ drop at octets) where
   pub gone_length : length rest ≡ length octets - at
   gone_length = ap (λ (w : List ℕ). length w) is ∙ length-drop at octets
 
@@ -349,7 +394,8 @@ module _ (m : Mark) (level : ℕ) (octets rest : List ℕ) (at : ℕ) (before no
   pub gone_room : before.rest.used + length octets < 2 ^ 63 → now.rest.used + length rest < 2 ^ 63
   gone_room room = let size = gone_length in let within = x.within in let used = x.used in omega arith
 
-  pub gone_on : (next : Tally) (k : Symbols → Frame) (o : Now) (j deeper more d e : ℕ) → Leads level now.rest rest j next.rest h n k o → j ≤ length rest → next.rest.used ≡ now.rest.used + j → deeper ≤ level → next.level ≡ min now.level (level - deeper)
+  pub gone_on : (next : Tally) (k : Symbols → Frame) (o : Now) (j deeper more d e : ℕ) → Leads level now.rest rest j next.rest h n k o → j ≤ length rest
+      → next.rest.used ≡ now.rest.used + j → deeper ≤ level → next.level ≡ min now.level (level - deeper)
       → min next.nodes most ≡ min (now.nodes + more) most → d ≡ max deepest deeper → e ≡ many + more → Gone m level octets (at + j) before next k o d e
   gone_on next k o j deeper more d e leads within used few left counted ed ee =
       let size = gone_length in
@@ -370,11 +416,14 @@ module _ (m : Mark) (level : ℕ) (octets rest : List ℕ) (at : ℕ) (before no
       }
 
   -- over a blank
-  pub gone_blank : (next : Tally) (j : ℕ) → IsPassed rest j → j ≤ length rest → IsStill n → next ≡ record { kind = now.kind; level = now.level; nodes = now.nodes; rest = past_blank now.rest j } → Gone m level octets (at + j) before next h n deepest many
+  pub gone_blank : (next : Tally) (j : ℕ) → IsPassed rest j → j ≤ length rest → IsStill n
+      → next ≡ record { kind = now.kind; level = now.level; nodes = now.nodes; rest = past_blank now.rest j }
+      → Gone m level octets (at + j) before next h n deepest many
   gone_blank next j passed within still e =
       let low = gone_low in
       let used = blank_used now.rest j in
-      rw e (gone_on (record { kind = now.kind; level = now.level; nodes = now.nodes; rest = past_blank now.rest j }) h n j 0 0 deepest many (blank_leads level now.rest rest j h n passed within still) within used (omega arith) (omega arith) (omega arith) (omega arith) (omega arith))
+      rw e (gone_on (record { kind = now.kind; level = now.level; nodes = now.nodes; rest = past_blank now.rest j }) h n j 0 0 deepest many
+      (blank_leads level now.rest rest j h n passed within still) within used (omega arith) (omega arith) (omega arith) (omega arith) (omega arith))
 
 -- Elements of a list, and fields of a struct.
 
@@ -406,13 +455,15 @@ abbrev pub field_nodes : Field → ℕ
 field_nodes m = suc (nodes m.value)
 
 abbrev pub ListGone : ℕ → List ℕ → ℕ → Tally → Tally → List Value → Bool → Type 0
-ListGone level octets at before now vs b = Gone marks.ListOpen level octets at before now (λ ss. frames.List ss vs) (element_now b) (depths vs) (sum (map nodes vs))
+ListGone level octets at before now vs b = Gone marks.ListOpen level octets at before now (λ ss. frames.List ss vs) (element_now b) (depths vs)
+    (sum (map nodes vs))
 
 abbrev pub SexpGone : ℕ → List ℕ → ℕ → Tally → Tally → List Value → Type 0
 SexpGone level octets at before now vs = Gone marks.SexpOpen level octets at before now (λ ss. frames.Sexp ss vs) nows.Ready (depths vs) (sum (map nodes vs))
 
 abbrev pub FieldsGone : ℕ → List ℕ → ℕ → Tally → Tally → List Field → Bool → Type 0
-FieldsGone level octets at before now ms b = Gone marks.FieldsOpen level octets at before now (λ ss. frames.Fields ss ms) (field_now b) (field_depths ms) (sum (map field_nodes ms))
+FieldsGone level octets at before now ms b = Gone marks.FieldsOpen level octets at before now (λ ss. frames.Fields ss ms) (field_now b) (field_depths ms)
+    (sum (map field_nodes ms))
 
 fields-more : (ms : List Field) (m : Field) → sum (map field_nodes (ms ++ m ∷ [])) ≡ sum (map field_nodes ms) + field_nodes m
 fields-more ms m =
@@ -424,48 +475,71 @@ fields-more ms m =
     omega arith
 
 module _ (level : ℕ) (octets rest : List ℕ) (at : ℕ) (before now next : Tally) (is : rest ≡ drop at octets) where
-  pub list_value_on : (vs : List Value) (x : ListGone level octets at before now vs false) (j : ℕ) (w : Walked places.List level rest j now next) → ListGone level octets (at + j) before next (vs ++ bare w.payload ∷ []) true
+  pub list_value_on : (vs : List Value) (x : ListGone level octets at before now vs false) (j : ℕ) (w : Walked places.List level rest j now next)
+      → ListGone level octets (at + j) before next (vs ++ bare w.payload ∷ []) true
   list_value_on vs x j w =
-      gone_on marks.ListOpen level octets rest at before now (λ ss. frames.List ss vs) nows.Ready (depths vs) (sum (map nodes vs)) x is next (λ ss. frames.List ss (vs ++ bare w.payload ∷ [])) nows.After j (depth (bare w.payload)) (nodes (bare w.payload)) _ _
-      (list_value level rest j now next w vs) w.within w.used w.deep w.noted.left w.noted.counted (deepest-more vs (bare w.payload)) (nodes-more vs (bare w.payload))
+      gone_on marks.ListOpen level octets rest at before now (λ ss. frames.List ss vs) nows.Ready (depths vs) (sum (map nodes vs)) x is next
+      (λ ss. frames.List ss (vs ++ bare w.payload ∷ [])) nows.After j (depth (bare w.payload)) (nodes (bare w.payload)) _ _
+      (list_value level rest j now next w vs) w.within w.used w.deep w.noted.left w.noted.counted (deepest-more vs (bare w.payload))
+      (nodes-more vs (bare w.payload))
 
-  pub sexp_value_on : (vs : List Value) (x : SexpGone level octets at before now vs) (j : ℕ) (w : Walked places.Sexp level rest j now next) → SexpGone level octets (at + j) before next (vs ++ bare w.payload ∷ [])
+  pub sexp_value_on : (vs : List Value) (x : SexpGone level octets at before now vs) (j : ℕ) (w : Walked places.Sexp level rest j now next)
+      → SexpGone level octets (at + j) before next (vs ++ bare w.payload ∷ [])
   sexp_value_on vs x j w =
-      gone_on marks.SexpOpen level octets rest at before now (λ ss. frames.Sexp ss vs) nows.Ready (depths vs) (sum (map nodes vs)) x is next (λ ss. frames.Sexp ss (vs ++ bare w.payload ∷ [])) nows.Ready j (depth (bare w.payload)) (nodes (bare w.payload)) _ _
-      (sexp_value level rest j now next w vs) w.within w.used w.deep w.noted.left w.noted.counted (deepest-more vs (bare w.payload)) (nodes-more vs (bare w.payload))
+      gone_on marks.SexpOpen level octets rest at before now (λ ss. frames.Sexp ss vs) nows.Ready (depths vs) (sum (map nodes vs)) x is next
+      (λ ss. frames.Sexp ss (vs ++ bare w.payload ∷ [])) nows.Ready j (depth (bare w.payload)) (nodes (bare w.payload)) _ _
+      (sexp_value level rest j now next w vs) w.within w.used w.deep w.noted.left w.noted.counted (deepest-more vs (bare w.payload))
+      (nodes-more vs (bare w.payload))
 
-  pub list_comma_on : (vs : List Value) (x : ListGone level octets at before now vs true) → 0 < length rest → get_or rest 0 0 ≡ 44 → next ≡ record { kind = now.kind; level = now.level; nodes = now.nodes; rest = past_token places.List now.rest (kinds.Mark marks.Comma) 1 }
+  pub list_comma_on : (vs : List Value) (x : ListGone level octets at before now vs true) → 0 < length rest → get_or rest 0 0 ≡ 44
+      → next ≡ record { kind = now.kind; level = now.level; nodes = now.nodes; rest = past_token places.List now.rest (kinds.Mark marks.Comma) 1 }
       → ListGone level octets (at + 1) before next vs false
   list_comma_on vs x some first e =
       let low = gone_low marks.ListOpen level octets rest at before now (λ ss. frames.List ss vs) nows.After (depths vs) (sum (map nodes vs)) x is in
       let mid : Tally = record { kind = now.kind; level = now.level; nodes = now.nodes; rest = past_token places.List now.rest (kinds.Mark marks.Comma) 1 } in
-      rw e (gone_on marks.ListOpen level octets rest at before now (λ ss. frames.List ss vs) nows.After (depths vs) (sum (map nodes vs)) x is mid (λ ss. frames.List ss vs) nows.Ready 1 0 0 (depths vs) (sum (map nodes vs))
+      rw e (gone_on marks.ListOpen level octets rest at before now (λ ss. frames.List ss vs) nows.After (depths vs) (sum (map nodes vs)) x is mid
+      (λ ss. frames.List ss vs) nows.Ready 1 0 0 (depths vs) (sum (map nodes vs))
       (list_comma level now.rest rest vs some first) (omega arith) refl (omega arith) (omega arith) (omega arith) (omega arith) (omega arith))
 
-  pub field_comma_on : (ms : List Field) (x : FieldsGone level octets at before now ms true) → 0 < length rest → get_or rest 0 0 ≡ 44 → next ≡ record { kind = now.kind; level = now.level; nodes = now.nodes; rest = past_token places.FieldValue now.rest (kinds.Mark marks.Comma) 1 }
+  pub field_comma_on : (ms : List Field) (x : FieldsGone level octets at before now ms true) → 0 < length rest → get_or rest 0 0 ≡ 44
+      → next ≡ record { kind = now.kind; level = now.level; nodes = now.nodes; rest = past_token places.FieldValue now.rest (kinds.Mark marks.Comma) 1 }
       → FieldsGone level octets (at + 1) before next ms false
   field_comma_on ms x some first e =
-      let low = gone_low marks.FieldsOpen level octets rest at before now (λ ss. frames.Fields ss ms) nows.After (field_depths ms) (sum (map field_nodes ms)) x is in
-      let mid : Tally = record { kind = now.kind; level = now.level; nodes = now.nodes; rest = past_token places.FieldValue now.rest (kinds.Mark marks.Comma) 1 } in
-      rw e (gone_on marks.FieldsOpen level octets rest at before now (λ ss. frames.Fields ss ms) nows.After (field_depths ms) (sum (map field_nodes ms)) x is mid (λ ss. frames.Fields ss ms) nows.Name 1 0 0 (field_depths ms) (sum (map field_nodes ms))
+      let low = gone_low marks.FieldsOpen level octets rest at before now (λ ss. frames.Fields ss ms) nows.After (field_depths ms) (sum (map field_nodes ms)) x
+      is in
+      let mid : Tally = record {
+        kind = now.kind;
+        level = now.level;
+        nodes = now.nodes;
+        rest =
+            past_token places.FieldValue now.rest (kinds.Mark marks.Comma) 1;
+      } in
+      rw e (gone_on marks.FieldsOpen level octets rest at before now (λ ss. frames.Fields ss ms) nows.After (field_depths ms) (sum (map field_nodes ms)) x is
+      mid (λ ss. frames.Fields ss ms) nows.Name 1 0 0 (field_depths ms) (sum (map field_nodes ms))
       (field_comma level now.rest rest ms some first) (omega arith) refl (omega arith) (omega arith) (omega arith) (omega arith) (omega arith))
 
   -- a field's name
   pub name_on : (ms : List Field) (x : FieldsGone level octets at before now ms false) (j : ℕ) (w : WalkedName rest j now next)
       → Gone marks.FieldsOpen level octets (at + j) before next (λ ss. frames.Named ss ms w.name) nows.Ready (field_depths ms) (sum (map field_nodes ms) + 1)
   name_on ms x j w =
-      let low = gone_low marks.FieldsOpen level octets rest at before now (λ ss. frames.Fields ss ms) nows.Name (field_depths ms) (sum (map field_nodes ms)) x is in
+      let low = gone_low marks.FieldsOpen level octets rest at before now (λ ss. frames.Fields ss ms) nows.Name (field_depths ms) (sum (map field_nodes ms)) x
+      is in
       let left = w.left in
-      gone_on marks.FieldsOpen level octets rest at before now (λ ss. frames.Fields ss ms) nows.Name (field_depths ms) (sum (map field_nodes ms)) x is next (λ ss. frames.Named ss ms w.name) nows.Ready j 0 1 (field_depths ms) (sum (map field_nodes ms) + 1)
+      gone_on marks.FieldsOpen level octets rest at before now (λ ss. frames.Fields ss ms) nows.Name (field_depths ms) (sum (map field_nodes ms)) x is next
+      (λ ss. frames.Named ss ms w.name) nows.Ready j 0 1 (field_depths ms) (sum (map field_nodes ms) + 1)
       (w.leads level ms) w.within w.used (omega arith) (omega arith) w.counted (omega arith) refl
 
   -- and its value
-  pub field_value_on : (ms : List Field) (name : Option (List ℕ)) (x : Gone marks.FieldsOpen level octets at before now (λ ss. frames.Named ss ms name) nows.Ready (field_depths ms) (sum (map field_nodes ms) + 1)) (j : ℕ) (w : Walked places.FieldValue level rest j now next)
+  pub field_value_on : (ms : List Field) (name : Option (List ℕ))
+      (x : Gone marks.FieldsOpen level octets at before now (λ ss. frames.Named ss ms name) nows.Ready (field_depths ms) (sum (map field_nodes ms) + 1)) (j : ℕ)
+      (w : Walked places.FieldValue level rest j now next)
       → FieldsGone level octets (at + j) before next (ms ++ field_of name (bare w.payload) ∷ []) true
   field_value_on ms name x j w =
       let more = fields-more ms (field_of name (bare w.payload)) in
-      gone_on marks.FieldsOpen level octets rest at before now (λ ss. frames.Named ss ms name) nows.Ready (field_depths ms) (sum (map field_nodes ms) + 1) x is next (λ ss. frames.Fields ss (ms ++ field_of name (bare w.payload) ∷ [])) nows.After j (depth (bare w.payload)) (nodes (bare w.payload)) _ _
-      (field_value level rest j now next w ms name) w.within w.used w.deep w.noted.left w.noted.counted (field_deepest-more ms (field_of name (bare w.payload))) (omega arith)
+      gone_on marks.FieldsOpen level octets rest at before now (λ ss. frames.Named ss ms name) nows.Ready (field_depths ms) (sum (map field_nodes ms) + 1) x is
+      next (λ ss. frames.Fields ss (ms ++ field_of name (bare w.payload) ∷ [])) nows.After j (depth (bare w.payload)) (nodes (bare w.payload)) _ _
+      (field_value level rest j now next w ms name) w.within w.used w.deep w.noted.left w.noted.counted (field_deepest-more ms (field_of name (bare w.payload)))
+      (omega arith)
 
 -- up to the close
 module _ (level : ℕ) (octets rest : List ℕ) (at : ℕ) (before now : Tally) (is : rest ≡ drop at octets) (some : 0 < length rest) where
@@ -475,7 +549,8 @@ module _ (level : ℕ) (octets rest : List ℕ) (at : ℕ) (before now : Tally) 
   pub inside : at < length octets
   inside = let size : length rest ≡ length octets - at = ap (λ (w : List ℕ). length w) is ∙ length-drop at octets in omega arith
 
-  unfoldable pub list_inside : (vs : List Value) (b : Bool) → ListGone level octets at before now vs b → get_or rest 0 0 ≡ 93 → WalkedInside marks.ListOpen level octets at before now
+  unfoldable pub list_inside : (vs : List Value) (b : Bool) → ListGone level octets at before now vs b → get_or rest 0 0 ≡ 93
+      → WalkedInside marks.ListOpen level octets at before now
   list_inside vs b x e =
       let deep = depth-list [] vs in
       let many = nodes-bare (payloads.List vs) _ (views.outs-List vs) in
@@ -499,7 +574,8 @@ module _ (level : ℕ) (octets rest : List ℕ) (at : ℕ) (before now : Tally) 
         counted = omega arith;
       }
 
-  unfoldable pub sexp_inside : (vs : List Value) → SexpGone level octets at before now vs → get_or rest 0 0 ≡ 41 → WalkedInside marks.SexpOpen level octets at before now
+  unfoldable pub sexp_inside : (vs : List Value) → SexpGone level octets at before now vs → get_or rest 0 0 ≡ 41
+      → WalkedInside marks.SexpOpen level octets at before now
   sexp_inside vs x e =
       let deep = depth-sexp [] vs in
       let many = nodes-bare (payloads.Sexp vs) _ (views.outs-Sexp vs) in
@@ -523,7 +599,8 @@ module _ (level : ℕ) (octets rest : List ℕ) (at : ℕ) (before now : Tally) 
         counted = omega arith;
       }
 
-  unfoldable pub fields_inside : (ms : List Field) (b : Bool) → FieldsGone level octets at before now ms b → get_or rest 0 0 ≡ 125 → WalkedInside marks.FieldsOpen level octets at before now
+  unfoldable pub fields_inside : (ms : List Field) (b : Bool) → FieldsGone level octets at before now ms b → get_or rest 0 0 ≡ 125
+      → WalkedInside marks.FieldsOpen level octets at before now
   fields_inside ms b x e =
       let deep = depth-struct [] ms in
       let many = nodes-bare (payloads.Fields ms) _ (views.outs-Fields ms) in

@@ -65,10 +65,12 @@ module _ (w : List ℕ) where
   pub word_true : bytes_eq w (codes "null") ≡ false → bytes_eq w (codes "true") ≡ true → held_payload (held_word w) ≡ Ok (payloads.Truth true)
   word_true n e = ap held_payload (cond-false _ _ _ n ∙ cond-true _ _ _ e)
 
-  pub word_false : bytes_eq w (codes "null") ≡ false → bytes_eq w (codes "true") ≡ false → bytes_eq w (codes "false") ≡ true → held_payload (held_word w) ≡ Ok (payloads.Truth false)
+  pub word_false : bytes_eq w (codes "null") ≡ false → bytes_eq w (codes "true") ≡ false → bytes_eq w (codes "false") ≡ true → held_payload (held_word w)
+      ≡ Ok (payloads.Truth false)
   word_false n t e = ap held_payload (cond-false _ _ _ n ∙ (cond-false _ _ _ t ∙ cond-true _ _ _ e))
 
-  pub word_symbol : bytes_eq w (codes "null") ≡ false → bytes_eq w (codes "true") ≡ false → bytes_eq w (codes "false") ≡ false → bytes_eq w (codes "nan") ≡ false → held_payload (held_word w) ≡ Ok (payloads.Symbol (Some w))
+  pub word_symbol : bytes_eq w (codes "null") ≡ false → bytes_eq w (codes "true") ≡ false → bytes_eq w (codes "false") ≡ false → bytes_eq w (codes "nan")
+      ≡ false → held_payload (held_word w) ≡ Ok (payloads.Symbol (Some w))
   word_symbol n t f a = ap held_payload (cond-false _ _ _ n ∙ (cond-false _ _ _ t ∙ (cond-false _ _ _ f ∙ cond-false _ _ _ a))) ∙ by (is_version w)
     where
       by : (b : Bool) → held_payload (if b then helds.Version (bytes_eq w the_marker) (Some w) else helds.Symbol (Some w)) ≡ Ok (payloads.Symbol (Some w))

@@ -13,12 +13,23 @@ use Rattle.ion_text.specs.Writing.{IsWritingFault}
 write_fault : (failed : Bool) (fault : Fault) → (fault ≡ Write) × (failed ≡ true) → IsWritingFault failed fault
 write_fault failed fault h = rw h.0 h.1
 
-pub wrote_value : {W : Type 0} (O : Outlet W) (old new : Option Fault) (before now : W) (v : Value) (w : List ℕ) → old ≡ None → w ≡ adds v → (r answer : Result (Unit {0}) Fault) → answer ≡ r → OnOk r (Took O.took O.written before now w)
-    → OnErr r (TookFront O.took O.written before now w) → IfErr r (λ fault. (fault ≡ Write) × (O.has_failed now ≡ true)) → OnOk answer (new ≡ None) → IfErr answer (λ fault. new ≡ Some fault)
+pub wrote_value : {W : Type 0} (O : Outlet W) (old new : Option Fault) (before now : W) (v : Value) (w : List ℕ) → old ≡ None → w ≡ adds v
+    → (r answer : Result (Unit {0}) Fault) → answer ≡ r → OnOk r (Took O.took O.written before now w)
+    → OnErr r (TookFront O.took O.written before now w) → IfErr r (λ fault. (fault ≡ Write) × (O.has_failed now ≡ true)) → OnOk answer (new ≡ None)
+    → IfErr answer (λ fault. new ≡ Some fault)
     → WritesValue O old new before now v answer
-wrote_value O old new before now v w fine is (Ok x) (Ok y) same ok front cause kept failed = record { fine = fine; ok = subst (λ w. Took O.took O.written before now w) is ok; goes_on = kept; front = tt; cause = tt; failed = tt }
+wrote_value O old new before now v w fine is (Ok x) (Ok y) same ok front cause kept failed =
+    record { fine = fine; ok = subst (λ w. Took O.took O.written before now w) is ok; goes_on = kept; front = tt; cause = tt; failed = tt }
 wrote_value O old new before now v w fine is (Err x) (Err y) same ok front cause kept failed =
     let one : y ≡ x = cc in
-    record { fine = fine; ok = tt; goes_on = tt; front = subst (λ w. TookFront O.took O.written before now w) is front; cause = subst (λ f. IsWritingFault (O.has_failed now) f) (sym one) (write_fault (O.has_failed now) x cause); failed = failed }
+    record {
+      fine = fine;
+      ok = tt;
+      goes_on = tt;
+      front = subst (λ w. TookFront O.took O.written before now w) is front;
+      cause =
+          subst (λ f. IsWritingFault (O.has_failed now) f) (sym one) (write_fault (O.has_failed now) x cause);
+      failed = failed;
+    }
 wrote_value O old new before now v w fine is (Ok x) (Err y) same ok front cause kept failed = absurd cc
 wrote_value O old new before now v w fine is (Err x) (Ok y) same ok front cause kept failed = absurd cc

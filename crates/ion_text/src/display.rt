@@ -15,8 +15,8 @@ pub struct SymbolText<'a> {
     symbol: &'a Symbol,
 }
 
-/// The symbol as what prints as its spelling, as in `println!(rt; "{}", spelling_of(&name))`: that of `symbol_text`. Takes
-/// no memory.
+/// The symbol as what prints as its spelling, as in `println!(rt; "{}", spelling_of(&name))`: that
+/// of `symbol_text`. Takes no memory.
 pub fn spelling_of(symbol: &Symbol) -> SymbolText<'_>
     ensures { result.symbol.now ≡ symbol.now }
 {

@@ -1,5 +1,6 @@
-//! Texts and octets of clobs between quotes (Ion 1.0, "Ion Text Encoding", strings, symbols and clobs). Each
-//! function appends to `out`, and its only fault is `Memory`, on which some of the octets may stand there.
+//! Texts and octets of clobs between quotes (Ion 1.0, "Ion Text Encoding", strings, symbols and
+//! clobs). Each function appends to `out`, and its only fault is `Memory`, on which some of the
+//! octets may stand there.
 ghost use Rattle.std.specs.Prelude.{◌≡◌, ◌<◌, ◌++◌, OnOk, IsOkUnless, length, map, not, if◌then◌else◌};
 ghost use Rattle.std.specs.List.{take_while};
 ghost use Rattle.std.specs.Simd.Lanes.{mask_l};
@@ -88,7 +89,8 @@ fn greatest_raw(ascii: bool) -> u8
     if ascii { 127 } else { 255 }
 }
 
-/// Which of sixteen octets don't stand for themselves, as the bits of a number, the first octet's lowest.
+/// Which of sixteen octets don't stand for themselves, as the bits of a number, the first octet's
+/// lowest.
 #[inline(always)]
 fn escaped_lanes(quotes: Quotes, octets: u8x16) -> u64
     ensures { result ≡ mask_l (map (λ o. not (is_raw quotes o)) octets) }

@@ -1,6 +1,6 @@
-//! Laws of text documents. Each stands on an empty function: its contract is the law. What they say of
-//! reading is said of the definitions of `specs/machine/Run.antt`, which read octet by octet; `TextReader` is
-//! proved to answer what they say.
+//! Laws of text documents. Each stands on an empty function: its contract is the law. What they say
+//! of reading is said of the definitions of `specs/machine/Run.antt`, which read octet by octet;
+//! `TextReader` is proved to answer what they say.
 ghost use Rattle.std.specs.Prelude.{◌≡◌, ◌↔◌, ◌≤◌, ◌++◌, ◌⊎◌, ℕ, Bool, List, [], ◌∷◌, length, take, codes, Some, None, Ok, Err};
 ghost use Rattle.ion_model.specs.declared.value.Value.{Value};
 ghost use Rattle.ion_atoms.specs.declared.refusal.Reason.{Reason};
@@ -37,8 +37,8 @@ pub fn round_trip()
         AreTextTables g → Document g l u s → FitsIn m s → Document h m (text_of s) s }
 {}
 
-/// The values of a document are such as the types keep, where the catalog's texts are UTF-8, and none
-/// of them is a local symbol table.
+/// The values of a document are such as the types keep, where the catalog's texts are UTF-8, and
+/// none of them is a local symbol table.
 pub fn document_values()
     ensures kept { (g : List Table) (l : Limits) (u : List ℕ) (s : List Value) →
         AreTextTables g → Document g l u s → AreKept s }
@@ -46,16 +46,17 @@ pub fn document_values()
         Document g l u s → NoTables s }
 {}
 
-/// What is written of worked values: a symbol with the text of a version marker, the sign of a zero, a year,
-/// an unknown symbol, a control character, the symbol of no text, annotations, lists, operators, fields, lobs.
+/// What is written of worked values: a symbol with the text of a version marker, the sign of a
+/// zero, a year, an unknown symbol, a control character, the symbol of no text, annotations, lists,
+/// operators, fields, lobs.
 pub fn worked_text()
     ensures { text_of worked ≡
         codes "'$ion_1_0'\n-0d0\n2007T\n$0\n\"a'\\x07\"\n''\na::[null.int,('+' b)]\n"
         ++ codes "{a:15d-1}\n{{\"\\x00\\\"\\xc8\"}}\n{{AQIDBA==}}\n" }
 {}
 
-/// Octets are a document with these values exactly where the reading of them, octet by octet, ends well and
-/// gives these values.
+/// Octets are a document with these values exactly where the reading of them, octet by octet, ends
+/// well and gives these values.
 pub fn reading_is_exact()
     ensures { (g : List Table) (l : Limits) (u : List ℕ) (s : List Value) →
         Streams (trace g l u) s ↔ Document g l u s }
@@ -73,9 +74,9 @@ pub fn reading_grows()
         Grows (trace g l u) (trace g l (u ++ w)) }
 {}
 
-/// Where an octet is refused, no document begins with the octets up to it, they show the values given, and
-/// the end repeats the refusal; a refusal at the end alone counts all octets; neither is for want of memory
-/// or a fault of the catalog, and the first is not for want of more octets.
+/// Where an octet is refused, no document begins with the octets up to it, they show the values
+/// given, and the end repeats the refusal; a refusal at the end alone counts all octets; neither is
+/// for want of memory or a fault of the catalog, and the first is not for want of more octets.
 pub fn reading_refuses()
     ensures whole { (g : List Table) (l : Limits) (u : List ℕ) (r : Refusal) →
         (trace g l u).refused ≡ Some r → Refuses (Document g l) (Whole g l) u (trace g l u) r }
@@ -89,14 +90,15 @@ pub fn reading_gives_no_table()
     ensures { (g : List Table) (l : Limits) (u : List ℕ) → GivesNoTable (trace g l u) }
 {}
 
-/// A value that the reading gives has at most as many nodes as octets were read since the value before it
-/// came, and at most as many as the limit on items allows octets.
+/// A value that the reading gives has at most as many nodes as octets were read since the value
+/// before it came, and at most as many as the limit on items allows octets.
 pub fn reading_is_small()
     ensures { (g : List Table) (l : Limits) (u : List ℕ) → IsSmall l.item u (trace g l u) }
 {}
 
-/// A value comes with its last octet, or before the one that shows its end: where the end of the octets would
-/// give a value, the first that the next octet gives is that value, and came before that octet.
+/// A value comes with its last octet, or before the one that shows its end: where the end of the
+/// octets would give a value, the first that the next octet gives is that value, and came before
+/// that octet.
 pub fn reading_ends_values()
     ensures { (g : List Table) (l : Limits) (u : List ℕ) → EndsValues (trace g l) u }
 {}
@@ -107,32 +109,33 @@ pub fn one_shown()
         Shown (Whole g l) u s → Shown (Whole g l) u t → s ≡ t }
 {}
 
-/// Of the values of whole pieces at the front of octets, the octets show all, or all but the last one.
+/// Of the values of whole pieces at the front of octets, the octets show all, or all but the last
+/// one.
 pub fn all_but_the_last()
     ensures { (g : List Table) (l : Limits) (front rest : List ℕ) (s t : List Value) →
         Whole g l front rest s → Shown (Whole g l) (front ++ rest) t →
         ((more : List Value) × (t ≡ s ++ more)) ⊎ ((v : Value) × (s ≡ t ++ v ∷ [])) }
 {}
 
-/// Where the reading refuses no octet, the octets show the values given: those of the longest list of whole
-/// pieces at their front that remain pieces whatever follows. What is left of them is at most one open item,
-/// within the limit on items, and what may stand open behind it.
+/// Where the reading refuses no octet, the octets show the values given: those of the longest list
+/// of whole pieces at their front that remain pieces whatever follows. What is left of them is at
+/// most one open item, within the limit on items, and what may stand open behind it.
 pub fn reading_has_pieces()
     ensures shown { (g : List Table) (l : Limits) (u : List ℕ) →
         (trace g l u).refused ≡ None →
         Shows (Whole g l) (λ front rest. OpenRest l rest) u (plain (trace g l u).given) }
 {}
 
-/// A value has at most as many nodes as its tokens span octets, from the first octet of the first of them
-/// to the last of the last.
+/// A value has at most as many nodes as its tokens span octets, from the first octet of the first
+/// of them to the last of the last.
 pub fn values_are_small()
     ensures { (c : List Slot) (p : Place) (ts : List Placed) (v : Value)
         (colon : Bool) (before : ℕ) (octets : List ℕ) (after : Bool) (end : ℕ) (rest : List ℕ) →
         Means c p ts v → LexesTo colon before octets ts after end rest → nodes v ≤ span ts }
 {}
 
-/// A document is whole pieces with its values, and behind them at most a comment that its end ends. Whole
-/// pieces are a document by themselves, whatever octets follow them where they stand.
+/// A document is whole pieces with its values, and behind them at most a comment that its end ends.
+/// Whole pieces are a document by themselves, whatever octets follow them where they stand.
 pub fn whole_pieces()
     ensures documents { (g : List Table) (l : Limits) (u : List ℕ) (s : List Value) →
         Document g l u s → HasPieces (Whole g l) (λ front rest. OpenRest l rest) u s }
@@ -140,43 +143,49 @@ pub fn whole_pieces()
         Whole g l u following s → Document g l u s }
 {}
 
-/// A refusal names the octet that decides: the octets up to it are refused so by themselves, and no shorter
-/// front of them is refused by an octet.
+/// A refusal names the octet that decides: the octets up to it are refused so by themselves, and no
+/// shorter front of them is refused by an octet.
 pub fn first_refused()
     ensures { (g : List Table) (l : Limits) (u : List ℕ) (r : Refusal) →
         (trace g l u).refused ≡ Some r → IsFirst (trace g l) u r }
 {}
 
-/// Where an octet is refused for a symbol, a symbol table, a version or a level, the octets up to it are such as
-/// the table of the format names for that reason, and the last of them shows it (`octet`). Where the end refuses
-/// for one of these reasons, they are all the octets, and the end shows it (`end`). Octets begin with such as the
-/// table names up to one octet at most, and for one reason (`one_octet`). That octet is refused for it, or for a
-/// reason that has no row here, which may also refuse an octet before it (`refuses`). Where all are such as the end
-/// shows, it refuses for that reason, or one that has no row here refuses there or before (`ends`). No document
-/// begins with octets of a row (`no_document`), and none is octets of which the end shows one (`none_ends`).
+/// Where an octet is refused for a symbol, a symbol table, a version or a level, the octets up to
+/// it are such as the table of the format names for that reason, and the last of them shows it
+/// (`octet`). Where the end refuses for one of these reasons, they are all the octets, and the end
+/// shows it (`end`). Octets begin with such as the table names up to one octet at most, and for one
+/// reason (`one_octet`). That octet is refused for it, or for a reason that has no row here, which
+/// may also refuse an octet before it (`refuses`). Where all are such as the end shows, it refuses
+/// for that reason, or one that has no row here refuses there or before (`ends`). No document
+/// begins with octets of a row (`no_document`), and none is octets of which the end shows one
+/// (`none_ends`).
 pub fn deciding()
     ensures octet { (g : List Table) (l : Limits) (u : List ℕ) (r : Refusal) →
         (trace g l u).refused ≡ Some r → HasRow r.reason → Decides g l (take r.offset u) r.reason }
-    ensures end { (g : List Table) (l : Limits) (u : List ℕ) (r : Refusal) → (trace g l u).refused ≡ None →
+    ensures end { (g : List Table) (l : Limits) (u : List ℕ) (r : Refusal) → (trace g l u).refused
+        ≡ None →
         (trace g l u).ends ≡ Err r → HasRow r.reason → EndDecides g l u r.reason }
     ensures one_octet { (g : List Table) (l : Limits) (u : List ℕ) (j k : ℕ) (e f : Reason) →
         j ≤ length u → k ≤ length u → Decides g l (take j u) e → Decides g l (take k u) f →
         (j ≡ k) × (e ≡ f) }
-    ensures refuses { (g : List Table) (l : Limits) (u : List ℕ) (k : ℕ) (e : Reason) → k ≤ length u →
-        Decides g l (take k u) e → (r : Refusal) × ((trace g l u).refused ≡ Some r) × (r.offset ≤ k) ×
+    ensures refuses { (g : List Table) (l : Limits) (u : List ℕ) (k : ℕ) (e : Reason) → k ≤ length u
+        →
+        Decides g l (take k u) e → (r : Refusal) × ((trace g l u).refused ≡ Some r) × (r.offset ≤ k)
+        ×
         (HasRow r.reason → (r.offset ≡ k) × (r.reason ≡ e)) }
     ensures ends { (g : List Table) (l : Limits) (u : List ℕ) (e : Reason) →
         EndDecides g l u e → (r : Refusal) × ((trace g l u).ends ≡ Err r) ×
         (HasRow r.reason → (r.offset ≡ length u) × (r.reason ≡ e)) }
-    ensures no_document { (g : List Table) (l : Limits) (u : List ℕ) (k : ℕ) (e : Reason) (s : List Value) →
+    ensures no_document { (g : List Table) (l : Limits) (u : List ℕ) (k : ℕ) (e : Reason)
+        (s : List Value) →
         k ≤ length u → Decides g l (take k u) e → Document g l u s → ⊥ }
     ensures none_ends { (g : List Table) (l : Limits) (u : List ℕ) (e : Reason) (s : List Value) →
         EndDecides g l u e → Document g l u s → ⊥ }
 {}
 
-/// Worked documents denote their streams, under every catalog and all limits of at least two levels and items
-/// of 100 octets: a long string in segments, operators, comments behind an annotation, a symbol table that
-/// another one appends to.
+/// Worked documents denote their streams, under every catalog and all limits of at least two levels
+/// and items of 100 octets: a long string in segments, operators, comments behind an annotation, a
+/// symbol table that another one appends to.
 pub fn worked_documents()
     ensures { (g : List Table) (l : Limits) → 2 ≤ l.depth → 100 ≤ l.item →
         AreDocuments g l worked_documents }
@@ -188,8 +197,8 @@ pub fn wider_limits()
         (u : List ℕ) (s : List Value) → Document g l u s → Document g m u s }
 {}
 
-/// Where `put` was called with each value of a stream in turn, and then `finish`, and all answered `Ok`, the
-/// device took the document of the stream.
+/// Where `put` was called with each value of a stream in turn, and then `finish`, and all answered
+/// `Ok`, the device took the document of the stream.
 pub fn written<W: Outlet>()
     ensures { (s : List Value) (old new : W) → WritesEach W.Outlet old s new →
         Took W.took W.written old new (text_of s) }

@@ -13,31 +13,32 @@ use std::alloc::Global;
 use std::fmt::{self, Debug, Formatter};
 use std::mem;
 
+mod advance;
 mod alike;
-mod escaped_tokens;
+mod annotation_or_value;
+mod blanks_while_waiting;
 mod containers;
 mod end_of_input;
+mod escaped_tokens;
 mod finders;
 mod items;
-mod blanks_while_waiting;
 mod nested_containers;
 mod octets;
+mod on_token;
 mod passing;
-mod advance;
-mod to_next_token;
 mod structs;
 mod symbols;
-pub(crate) mod top_values;
-mod on_token;
-mod visiting;
-mod annotation_or_value;
-pub(crate) mod walks;
+mod to_next_token;
 mod tokens_at_once;
+pub(crate) mod top_values;
+mod visiting;
+pub(crate) mod walks;
 
 /// A reader of a text document that comes in pieces (Ion 1.0, "Ion Text Encoding").
 ///
-/// It keeps the open containers, and the octets of the token that is open. Local symbol tables change
-/// what symbol ids stand for and aren't given; a version marker sets that back to the system symbols.
+/// It keeps the open containers, and the octets of the token that is open. Local symbol tables
+/// change what symbol ids stand for and aren't given; a version marker sets that back to the system
+/// symbols.
 #[derive(Drop)]
 pub struct TextReader<'a> {
     alloc: Global,
@@ -205,7 +206,8 @@ impl TextReader<'_> {
         }
     }
 
-    /// Gives a value of the top level. A local symbol table isn't given: it changes the context (Ion
+    /// Gives a value of the top level. A local symbol table isn't given: it changes the context
+    /// (Ion
     /// 1.0, "Symbols", "Local Symbol Tables").
     fn give(&mut self, value: Value, end: u64) -> Result<Effect, Reason>
         requires top { open_frames self.old ≡ [] }

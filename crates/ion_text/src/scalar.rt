@@ -1,5 +1,5 @@
-//! The values of one token (Ion 1.0, "Ion Text Encoding"). Each function appends to `out`, and its only fault
-//! is `Memory`, on which some of the octets may stand there.
+//! The values of one token (Ion 1.0, "Ion Text Encoding"). Each function appends to `out`, and its
+//! only fault is `Memory`, on which some of the octets may stand there.
 ghost use Rattle.std.specs.Prelude.{◌≡◌, ◌++◌, OnOk, IsOkUnless, IsUtf8, MatchResult, string_bytes};
 ghost use Rattle.std.specs.List.{list_all};
 ghost use Rattle.ion_atoms.specs.declared.refusal.Reason.TheVariants as reasons;
@@ -83,9 +83,9 @@ pub fn put_known(text: &str, out: &mut Vec<u8>) -> Result<(), Fault>
     Ok(())
 }
 
-/// The spelling of a symbol wherever it stands in a text document (Ion 1.0, "Ion Text Encoding", symbols):
-/// `$0` where its text is unknown; without quotes where that is a letter or `_`, then letters, `_`, `$` and
-/// digits, and neither `null`, `true`, `false` nor `nan`; else between `'`.
+/// The spelling of a symbol wherever it stands in a text document (Ion 1.0, "Ion Text Encoding",
+/// symbols): `$0` where its text is unknown; without quotes where that is a letter or `_`, then
+/// letters, `_`, `$` and digits, and neither `null`, `true`, `false` nor `nan`; else between `'`.
 ///
 /// The only refusal is `Memory`.
 pub fn symbol_text(alloc: Global, symbol: &Symbol) -> Result<String, Reason>

@@ -7,8 +7,9 @@ use crate::spelling::put_value;
 use ion_model::{Reason, Value};
 use std::alloc::Global;
 
-/// The text of a value (Ion 1.0, "Ion Text Encoding"): the spelling in which the text writer puts it on a line,
-/// without the LF. A local symbol table isn't a value: at the top level its text would be read as a table.
+/// The text of a value (Ion 1.0, "Ion Text Encoding"): the spelling in which the text writer puts
+/// it on a line, without the LF. A local symbol table isn't a value: at the top level its text
+/// would be read as a table.
 ///
 /// The only refusal is `Memory`.
 pub fn text_of(alloc: Global, value: &Value) -> Result<String, Reason>

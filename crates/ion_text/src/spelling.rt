@@ -1,6 +1,6 @@
-//! Values as text (Ion 1.0, "Ion Text Encoding"). Each function appends to `out`, and its only fault is
-//! `Memory`, on which some of the octets may stand there. What is written was a value that the types keep:
-//! its texts are UTF-8, its numbers in range, its lobs octets.
+//! Values as text (Ion 1.0, "Ion Text Encoding"). Each function appends to `out`, and its only
+//! fault is `Memory`, on which some of the octets may stand there. What is written was a value that
+//! the types keep: its texts are UTF-8, its numbers in range, its lobs octets.
 ghost use Rattle.std.specs.Prelude.{◌≡◌, ◌++◌, ◌∷◌, [], codes, map, OnOk, IsOkUnless};
 ghost use Rattle.std.specs.List.{flat_map};
 ghost use Rattle.ion_model.specs.declared.value.Payload.TheViews.{out-Payload};
@@ -75,7 +75,8 @@ fn put_items(
     items: &[Value],
     out: &mut Vec<u8>,
 ) -> Result<(), Fault>
-    ensures ok { let all = enclosed (first ∷ []) (between ∷ []) (last ∷ []) (map value_text items.now) in
+    ensures ok { let all = enclosed (first ∷ []) (between ∷ []) (last ∷ [])
+        (map value_text items.now) in
         OnOk result (out.new.items ≡ out.old.items ++ all) }
     ensures kept { OnOk result (KeptItems items.now) }
     ensures memory { IsOkUnless result faults.Memory }

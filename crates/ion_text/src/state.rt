@@ -1,7 +1,8 @@
 //! What a reader holds between two tokens.
 use ion_model::{Field, Kind, Reason, Sequence, Symbol, Text, Value};
 
-/// A word, an id, a quoted symbol or a typed null, of which it isn't known yet whether `::` follows.
+/// A word, an id, a quoted symbol or a typed null, of which it isn't known yet whether `::`
+/// follows.
 #[derive(Drop)]
 pub enum Held {
     Symbol(Symbol),
@@ -59,8 +60,8 @@ pub enum Effect {
 pub enum Taken {
     /// They are used, and ended no value.
     Uses,
-    /// They are used, and the last one ended a value of the top level, which the reader holds until it
-    /// is taken.
+    /// They are used, and the last one ended a value of the top level, which the reader holds until
+    /// it is taken.
     Tells,
     /// The octet behind them showed the end of a value of the top level, and isn't used.
     Leaves,
@@ -77,7 +78,7 @@ pub enum Met {
     Leaves,
     /// The last one showed the end of a token, and comes again.
     Again,
-    /// So it did, and is refused for the reason, unless it is refused for a smaller one where it comes
-    /// again.
+    /// So it did, and is refused for the reason, unless it is refused for a smaller one where it
+    /// comes again.
     Late(Reason),
 }

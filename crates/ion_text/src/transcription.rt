@@ -1,5 +1,5 @@
-//! Values whose octets lie whole in memory, and that are written as text again, in the writer's spelling. They are
-//! judged as they are gone over, and not built.
+//! Values whose octets lie whole in memory, and that are written as text again, in the writer's
+//! spelling. They are judged as they are gone over, and not built.
 ghost use Rattle.std.specs.Prelude.{◌≡◌, ◌+◌, ◌≤◌, ◌<◌, ◌^◌, ◌++◌, true, None, length, OnOk, IfSome, IsOkUnless, option_to_list};
 ghost use Rattle.std.specs.Str.{IsUtf8};
 ghost use Rattle.ion_model.specs.Kept.{IsKept, KeptPayload};
@@ -147,8 +147,9 @@ impl TextVisitor for Transcription {
     }
 }
 
-/// Appends the value of the item of the top level at the front of octets, of at most so many levels: how many octets the item
-/// has. `None` where it isn't whole or isn't gone over, and where memory runs out; then some octets may stand there.
+/// Appends the value of the item of the top level at the front of octets, of at most so many
+/// levels: how many octets the item has. `None` where it isn't whole or isn't gone over, and where
+/// memory runs out; then some octets may stand there.
 pub(crate) fn transcribe(
     alloc: Global,
     tokens: &mut TokenReader,

@@ -20,8 +20,8 @@ use std::alloc::Global;
 use std::fmt::{self, Debug, Formatter};
 use std::marker::Model;
 
-/// Writes values, one after another, as one text document: each value on a line of its own (Ion 1.0, "Ion
-/// Text Encoding"). Contracts see the fault that each call answers, if there is one.
+/// Writes values, one after another, as one text document: each value on a line of its own (Ion
+/// 1.0, "Ion Text Encoding"). Contracts see the fault that each call answers, if there is one.
 #[derive(Drop)]
 pub struct TextWriter {
     alloc: Global,
@@ -64,12 +64,12 @@ impl TextWriter {
         }
     }
 
-    /// Writes a value and LF, in one write where the device takes all octets at once. A local symbol table
-    /// isn't a value: it would be written as it stands and read as a table. What is written is a value that
-    /// the types keep.
+    /// Writes a value and LF, in one write where the device takes all octets at once. A local
+    /// symbol table isn't a value: it would be written as it stands and read as a table. What is
+    /// written is a value that the types keep.
     ///
-    /// `Memory`, on which nothing went out; `Write` where the device failed, on which some first octets of the
-    /// line may be out. After a fault each later call answers the same.
+    /// `Memory`, on which nothing went out; `Write` where the device failed, on which some first
+    /// octets of the line may be out. After a fault each later call answers the same.
     pub fn put<W: Outlet>(&mut self, out: &mut W, value: &Value) -> Result<(), Fault>
         ensures ok { OnOk result (Took W.took W.written out.old out.new (adds value.now)) }
         ensures kept { OnOk result (IsKept value.now) }
@@ -88,11 +88,12 @@ impl TextWriter {
         self.note_fault(answer)
     }
 
-    /// Writes the value of the item of the top level at the front of octets, of at most so many levels, without building it: how
-    /// many octets the item has, and the answer of `put`.
+    /// Writes the value of the item of the top level at the front of octets, of at most so many
+    /// levels, without building it: how many octets the item has, and the answer of `put`.
     ///
-    /// `None`, with nothing written, where the item isn't whole or isn't gone over, where memory runs out, and where the
-    /// writer has answered a fault. Where that was so of several in a row, few are tried.
+    /// `None`, with nothing written, where the item isn't whole or isn't gone over, where memory
+    /// runs out, and where the writer has answered a fault. Where that was so of several in a row,
+    /// few are tried.
     pub(crate) fn put_octets<W: Outlet>(
         &mut self,
         out: &mut W,
@@ -102,7 +103,8 @@ impl TextWriter {
     ) -> Option<(usize, Result<(), Fault>)>
         requires low { tally.old.level ≤ level }
         requires room { tally.old.rest.used + length octets.now < 2 ^ 63 }
-        ensures writes { IfSome result (λ put. (top : WalkedTop level octets.now put.0 tally.old tally.new)
+        ensures writes { IfSome result (λ put.
+            (top : WalkedTop level octets.now put.0 tally.old tally.new)
             × IsKept top.value
             × WritesValue W.Outlet self.old self.new out.old out.new top.value put.1) }
         ensures stays { IsNone result → (self.new ≡ self.old) × (out.new ≡ out.old) }

@@ -1,4 +1,5 @@
-//! Values that are gone over part by part, in whatever encoding they are read: what a visitor takes of them.
+//! Values that are gone over part by part, in whatever encoding they are read: what a visitor takes
+//! of them.
 #![tactic(auto)]
 
 mod bracket;

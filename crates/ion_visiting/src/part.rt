@@ -57,8 +57,8 @@ pub fn number_kept(number: &Number)
     }
 }
 
-/// Octets are whole numbers below 256. Does nothing: a proof knows an octet to be one once it is read, and
-/// the compiled loop is empty.
+/// Octets are whole numbers below 256. Does nothing: a proof knows an octet to be one once it is
+/// read, and the compiled loop is empty.
 #[inline(always)]
 fn are_octets(octets: &[u8])
     ensures { AreOctets octets.now }

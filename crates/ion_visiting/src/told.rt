@@ -1,5 +1,5 @@
-//! What is made of a value whose symbols are told by their texts: a visitor takes its parts in order, and the walk
-//! knows nothing of what it does with them.
+//! What is made of a value whose symbols are told by their texts: a visitor takes its parts in
+//! order, and the walk knows nothing of what it does with them.
 ghost use Rattle.std.specs.Prelude.{◌≡◌, true, IfSome, Some};
 ghost use Rattle.ion_visiting.specs.Parts.{number_payload, payload_of};
 ghost use Rattle.ion_visiting.specs.Visits.{Visits, part, annotation, name};
@@ -8,8 +8,8 @@ use crate::bracket::Bracket;
 use crate::part::Part;
 use ion_scalar::Number;
 
-/// What takes the parts of a value in order, symbols by their texts. It answers `false` or `None` where it
-/// can't go on, and its state means nothing then.
+/// What takes the parts of a value in order, symbols by their texts. It answers `false` or `None`
+/// where it can't go on, and its state means nothing then.
 pub trait TextVisitor {
     /// What it keeps of a container until its close.
     type Mark: Drop;

@@ -10,13 +10,16 @@ pub trait Visitable {
     /// How many octets it has taken up.
     ghost taken: { Self → ℕ };
 
-    /// From one state to the other it took up so many octets of a piece, the last of which ended this value.
+    /// From one state to the other it took up so many octets of a piece, the last of which ended
+    /// this value.
     ghost took_up: { Self → Self → List ℕ → ℕ → Value → Type 0 };
 
-    /// Takes up the value at the front of a piece, and tells its parts to a visitor: how many octets were taken up.
+    /// Takes up the value at the front of a piece, and tells its parts to a visitor: how many
+    /// octets were taken up.
     ///
-    /// `None`, with nothing taken up, where the value isn't whole in the piece, where the reader doesn't go over
-    /// values of its form or has refused, and where the visitor can't go on; its state means nothing then.
+    /// `None`, with nothing taken up, where the value isn't whole in the piece, where the reader
+    /// doesn't go over values of its form or has refused, and where the visitor can't go on; its
+    /// state means nothing then.
     fn visit<T: TextVisitor>(&mut self, piece: &[u8], visitor: &mut T) -> Option<usize>
         requires room { taken self.old + length piece.now < 2 ^ 63 }
         ensures value { IfSome result (λ used. (v : Value)
@@ -25,8 +28,8 @@ pub trait Visitable {
         ensures stays { IsNone result → self.new ≡ self.old };
 }
 
-/// Whether a value is gone over that would be the last of so many in a row that couldn't be: what was gone over
-/// in vain is gone over again, so behind two of them one of 64 is tried.
+/// Whether a value is gone over that would be the last of so many in a row that couldn't be: what
+/// was gone over in vain is gone over again, so behind two of them one of 64 is tried.
 #[inline(always)]
 pub fn is_tried(misses: u32) -> bool {
     misses <= 2 || misses % 64 == 0

@@ -17,7 +17,8 @@ module _ (g : Catalog) (l : Limits) where
   body_goes spot fs t n came [] h =
       let i : spot.used ≡ spot.used + 0 = omega arith in
       let j : n ≡ n - 0 = omega arith in
-      ap (λ k. led (in_body (moved spot k) fs t n came)) i ∙ (ap (λ k. led (in_body (moved spot (spot.used + 0)) fs t k came)) j ∙ ap (λ x. led (in_body (moved spot (spot.used + 0)) fs t (n - 0) x)) (sym (append-nil came)))
+      ap (λ k. led (in_body (moved spot k) fs t n came)) i ∙ (ap (λ k. led (in_body (moved spot (spot.used + 0)) fs t k came)) j
+      ∙ ap (λ x. led (in_body (moved spot (spot.used + 0)) fs t (n - 0) x)) (sym (append-nil came)))
   body_goes spot fs t zero came (b ∷ bs) h = absurd (omega arith)
   body_goes spot fs t (suc n) came (b ∷ bs) h =
       let i : spot.used + 1 + length bs ≡ spot.used + length (b ∷ bs) = omega arith in

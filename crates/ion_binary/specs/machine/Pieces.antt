@@ -47,10 +47,12 @@ module _ (g : Catalog) (l : Limits) where
   run-append to mid [] w e m = ap (λ k. run g l k m w) (let i : to ≡ mid = omega arith in i)
   run-append to mid (b ∷ bs) w e m = on_outcome (to + 1) mid bs w (run-append (to + 1) mid bs w (omega arith)) (feed (under g l) m b)
 
-  pub run_via : (to mid : ℕ) (m n : Machine) (r : Run) (u w : List ℕ) → mid ≡ to + length u → run g l to m u ≡ led n → run g l mid n w ≡ r → run g l to m (u ++ w) ≡ r
+  pub run_via : (to mid : ℕ) (m n : Machine) (r : Run) (u w : List ℕ) → mid ≡ to + length u → run g l to m u ≡ led n → run g l mid n w ≡ r
+      → run g l to m (u ++ w) ≡ r
   run_via to mid m n r u w e h k = run-append to mid u w e m ∙ (ap (λ x. then_run x (λ n. run g l mid n w)) h ∙ k)
 
-  pub run_step : (to mid : ℕ) (m n : Machine) (r : Run) (u : List ℕ) (b : ℕ) → mid ≡ to + length u → run g l to m u ≡ led n → run_after (mid + 1) (feed (under g l) n b) ≡ r → run g l to m (u ++ b ∷ []) ≡ r
+  pub run_step : (to mid : ℕ) (m n : Machine) (r : Run) (u : List ℕ) (b : ℕ) → mid ≡ to + length u → run g l to m u ≡ led n
+      → run_after (mid + 1) (feed (under g l) n b) ≡ r → run g l to m (u ++ b ∷ []) ≡ r
   run_step to mid m n r u b e h k = run_via to mid m n r u (b ∷ []) e h k
 
 pub length-one : (u : List ℕ) (b : ℕ) → length (u ++ b ∷ []) ≡ length u + 1

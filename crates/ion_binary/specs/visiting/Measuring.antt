@@ -35,4 +35,12 @@ counts a (annotation s) b = b ≡ counted_name a
 counts a (name s) b = b ≡ counted_name a
 
 abbrev pub measuring : Visits Measure ⊤
-measuring = record { takes = counts; opens = λ a b k c. c ≡ opened a; closes = λ a b k c. c ≡ closed b a; opens_wrapper = λ a k b. b ≡ a; ends_annotations = λ a k b. b ≡ a; closes_wrapper = λ a k b. b ≡ a }
+measuring = record {
+  takes = counts;
+  opens = λ a b k c. c ≡ opened a;
+  closes = λ a b k c. c ≡ closed b a;
+  opens_wrapper = λ a k b. b ≡ a;
+  ends_annotations =
+      λ a k b. b ≡ a;
+  closes_wrapper = λ a k b. b ≡ a;
+}

@@ -70,7 +70,8 @@ place_either s x rest false e h later =
     let n : 1 + position_or_len (symbol_same s) rest ≡ suc (position_or_len (symbol_same s) rest) = omega arith in
     rw n (later h)
 
-at_place : (s : Option (List ℕ)) (names : Names) → IsAmong names s → slice_get (map local_slot names) (position_or_len (symbol_same s) names) ≡ Some (local_slot s)
+at_place : (s : Option (List ℕ)) (names : Names) → IsAmong names s → slice_get (map local_slot names) (position_or_len (symbol_same s) names)
+    ≡ Some (local_slot s)
 at_place s [] h = cc
 at_place s (x ∷ rest) h = place_either s x rest (symbol_same s x) refl h (at_place s rest)
 
@@ -94,7 +95,8 @@ pub resolve_name : (names : Names) (s : Option (List ℕ)) → Starts names → 
 resolve_name [] s b h = absurd b
 resolve_name (Some t ∷ names) s b h = absurd b
 resolve_name (None ∷ names) None b h = resolve_zero (map local_slot names)
-resolve_name (None ∷ names) (Some t) b h = resolve_behind (map local_slot names) (position_or_len (symbol_same (Some t)) names) (Some t) (at_place (Some t) names h)
+resolve_name (None ∷ names) (Some t) b h = resolve_behind (map local_slot names) (position_or_len (symbol_same (Some t)) names) (Some t)
+    (at_place (Some t) names h)
 
 pub id_few : (names : Names) (s : Option (List ℕ)) → id_of names s ≤ length names
 id_few names s = prefix_len-le-length (λ x. not (symbol_same s x)) names
@@ -151,15 +153,22 @@ pub record Grown (names ss later : Names) : Type 0 where
   pub among : AreAmong later ss
   pub known : AreKnown more
 
-known_one : (s : Option (List ℕ)) (names more : Names) → IsAmong names None → list_any (symbol_same s) names ≡ false → IsText s → AreKnown more → AreKnown (s ∷ more)
+known_one : (s : Option (List ℕ)) (names more : Names) → IsAmong names None → list_any (symbol_same s) names ≡ false → IsText s → AreKnown more
+    → AreKnown (s ∷ more)
 known_one None names more n e t k = cc
 known_one (Some s) names more n e t k = (t, k)
 
 grown_either : (names : Names) (s : Option (List ℕ)) (ss : Names) (b : Bool) → IsAmong names None → IsText s → list_any (symbol_same s) names ≡ b
-    → ((before : Names) → IsAmong before None → Grown before ss (with_names before ss)) → Grown names (s ∷ ss) (fold with_name (if b then names else names ++ s ∷ []) ss)
+    → ((before : Names) → IsAmong before None → Grown before ss (with_names before ss))
+    → Grown names (s ∷ ss) (fold with_name (if b then names else names ++ s ∷ []) ss)
 grown_either names s ss true n t e later =
     let g = later names n in
-    record { more = g.more; whole = g.whole; among = (subst (λ (x : Names). IsAmong x s) (sym g.whole) (among_more names g.more s e), g.among); known = g.known }
+    record {
+      more = g.more;
+      whole = g.whole;
+      among = (subst (λ (x : Names). IsAmong x s) (sym g.whole) (among_more names g.more s e), g.among);
+      known = g.known;
+    }
 grown_either names s ss false n t e later =
     let g = later (names ++ s ∷ []) (among_more names (s ∷ []) None n) in
     record {

@@ -8,10 +8,10 @@ ghost use Rattle.ion_binary.specs.machine.Views.{setting_of, spot_of, run_of, ma
 ghost use Rattle.ion_binary.specs.declared.state.Phase.TheVariants as phases;
 
 use super::BinaryReader;
+use crate::build::{blank, extent};
 use crate::form::Scalar;
 use crate::scalar::{judge, judge_lent};
 use crate::state::{Effect, Phase};
-use crate::build::{blank, extent};
 use ion_model::Reason;
 
 impl BinaryReader<'_> {
@@ -26,8 +26,8 @@ impl BinaryReader<'_> {
         }
     }
 
-    /// Takes up octets at the front of a piece: how many, and what the last of them did. Where they are
-    /// refused, `used` counts the octet that decided, and nothing else is known of the machine.
+    /// Takes up octets at the front of a piece: how many, and what the last of them did. Where they
+    /// are refused, `used` counts the octet that decided, and nothing else is known of the machine.
     pub(super) fn take_up(&mut self, piece: &[u8]) -> Result<(usize, Effect), Reason>
         requires room { self.old.used + length piece.now < 2 ^ 63 }
         requires some { 0 < length piece.now }
@@ -72,13 +72,15 @@ impl BinaryReader<'_> {
         }
     }
 
-    /// Takes up the last octets of a scalar's body. A body without earlier octets is judged where it
-    /// stands.
+    /// Takes up the last octets of a scalar's body. A body without earlier octets is judged where
+    /// it stands.
     fn take_end(&mut self, scalar: Scalar, octets: &[u8]) -> Result<Effect, Reason>
         requires room { self.old.used + length octets.now < 2 ^ 63 }
         ensures does { Does
-            (judged (setting_of self.old) (moved (spot_of self.old) (self.old.used + length octets.now))
-            (open_frames self.old) (judge self.old.context scalar (self.old.body.items ++ octets.now)))
+            (judged (setting_of self.old) (moved (spot_of self.old)
+            (self.old.used + length octets.now))
+            (open_frames self.old) (judge self.old.context scalar
+            (self.old.body.items ++ octets.now)))
             result self.new }
         ensures used { self.new.used ≡ self.old.used + length octets.now }
         ensures setting { SameSetting self.old self.new }

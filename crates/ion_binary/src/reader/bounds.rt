@@ -67,8 +67,8 @@ impl BinaryReader<'_> {
         }
     }
 
-    /// Why a form may not stand here: a wrapper holds neither a pad nor a wrapper (Ion 1.0, "Ion Binary
-    /// Encoding", "14: Annotations").
+    /// Why a form may not stand here: a wrapper holds neither a pad nor a wrapper (Ion 1.0, "Ion
+    /// Binary Encoding", "14: Annotations").
     pub(super) fn stray(&self, form: Form) -> Option<Reason>
         ensures { result ≡ stray (open_frames self.now) form }
     {
@@ -80,8 +80,8 @@ impl BinaryReader<'_> {
         }
     }
 
-    /// Why a value may not stand behind its field name: the id of the name has no symbol. A name before
-    /// a pad isn't looked at.
+    /// Why a value may not stand behind its field name: the id of the name has no symbol. A name
+    /// before a pad isn't looked at.
     pub(super) fn nameless(&self, form: Form) -> Option<Reason>
         ensures { result ≡ nameless (open_frames self.now) form }
     {
@@ -96,7 +96,8 @@ impl BinaryReader<'_> {
         }
     }
 
-    /// Why a header that isn't whole may not go on: no octet is left of its container, or of the limit.
+    /// Why a header that isn't whole may not go on: no octet is left of its container, or of the
+    /// limit.
     pub(super) fn unending(&self, form: Form) -> Option<Reason>
         ensures { result ≡ unending self.now.limits.item self.now.start (open_frames self.now)
             form self.now.used }

@@ -5,9 +5,9 @@ ghost use Rattle.ion_binary.specs.machine.Views.{run_of, delivers, Does, SameSet
 ghost use Rattle.ion_binary.specs.declared.state.Phase.TheVariants as phases;
 
 use super::BinaryReader;
+use crate::build::whole_value;
 use crate::form::Form;
 use crate::state::{Effect, Phase};
-use crate::build::whole_value;
 use ion_model::{Reason, Value};
 
 impl BinaryReader<'_> {
@@ -21,8 +21,8 @@ impl BinaryReader<'_> {
         }
     }
 
-    /// Writes the value at the front of a piece into a slot: how many octets it has. `None` where it
-    /// isn't whole, may not stand here or is in any way unusual.
+    /// Writes the value at the front of a piece into a slot: how many octets it has. `None` where
+    /// it isn't whole, may not stand here or is in any way unusual.
     pub(super) fn whole(&self, piece: &[u8], slot: &mut Value) -> Option<usize>
         requires room { self.now.used + length piece.now < 2 ^ 63 }
         requires ready { self.now.phase ≡ phases.Ready }
@@ -30,7 +30,8 @@ impl BinaryReader<'_> {
         ensures within { IfSome result (λ count. count ≤ length piece.now) }
         ensures some { IfSome result (λ count. 0 < count) }
         ensures runs { IfSome result (λ count. run_of self.now (take count piece.now)
-            ≡ run_after (self.now.used + count) (delivers self.now (self.now.used + count) slot.new)) }
+            ≡ run_after (self.now.used + count)
+            (delivers self.now (self.now.used + count) slot.new)) }
     {
         if self.stray(Form::Wrapper).is_some() {
             return None;

@@ -5,14 +5,15 @@ ghost use Rattle.ion_binary.specs.machine.EachOctet.{deliver, proceed};
 ghost use Rattle.ion_binary.specs.machine.Views.{setting_of, spot_of, open_frames, Does, Puts, SameSetting};
 
 use super::BinaryReader;
-use crate::form::Listing;
-use crate::build_scalars::put;
-use crate::state::{Effect, Frame, Phase, Purpose};
 use crate::build::listed;
+use crate::build_scalars::put;
+use crate::form::Listing;
+use crate::state::{Effect, Frame, Phase, Purpose};
 use ion_model::{Field, Payload, Reason, Sequence, Symbol, Value};
 
 impl BinaryReader<'_> {
-    /// Hands a whole value to the innermost container, and closes the containers that are whole then.
+    /// Hands a whole value to the innermost container, and closes the containers that are whole
+    /// then.
     pub(super) fn deliver(&mut self, value: Value) -> Result<Effect, Reason>
         ensures does { Does
             (deliver (setting_of self.old) (spot_of self.old) (open_frames self.old) value)
@@ -31,7 +32,8 @@ impl BinaryReader<'_> {
         self.give(value)
     }
 
-    /// Gives a value of the top level. A local symbol table isn't given: it changes the context (Ion
+    /// Gives a value of the top level. A local symbol table isn't given: it changes the context
+    /// (Ion
     /// 1.0, "Symbols", "Local Symbol Tables").
     fn give(&mut self, value: Value) -> Result<Effect, Reason>
         requires top { open_frames self.old ≡ [] }

@@ -11,8 +11,8 @@ use ion_symtab::{Catalog, Context, Items, Limits, Passed, Step};
 use std::alloc::Global;
 
 impl<'a> BinaryReader<'a> {
-    /// A reader of no octets yet, for a document within these limits that may import the shared tables
-    /// of `catalog`. The only refusal is `Memory`.
+    /// A reader of no octets yet, for a document within these limits that may import the shared
+    /// tables of `catalog`. The only refusal is `Memory`.
     pub fn new(
         alloc: Global,
         catalog: &'a Catalog,
@@ -56,8 +56,8 @@ impl BinaryReader<'_> {
         }
     }
 
-    /// Takes up the octets of a piece up to the next value. A refusal's offset counts the octet that
-    /// decided; `Memory` has the octets of earlier steps.
+    /// Takes up the octets of a piece up to the next value. A refusal's offset counts the octet
+    /// that decided; `Memory` has the octets of earlier steps.
     fn advance(&mut self, piece: &[u8]) -> Result<Step, Refusal>
         requires room { self.old.used + length piece.now < 2 ^ 63 }
         ensures does { Advances self.old.used (run_of self.old) piece.now

@@ -48,8 +48,8 @@ impl BinaryReader<'_> {
         Ok(Effect::Goes)
     }
 
-    /// Takes up an octet of a VarUInt (Ion 1.0, "Ion Binary Encoding", "VarUInt and VarInt Fields");
-    /// `TooLarge` from 2^63 on.
+    /// Takes up an octet of a VarUInt (Ion 1.0, "Ion Binary Encoding", "VarUInt and VarInt
+    /// Fields"); `TooLarge` from 2^63 on.
     pub(super) fn on_number(
         &mut self,
         purpose: Purpose,
@@ -92,8 +92,8 @@ impl BinaryReader<'_> {
         }
     }
 
-    /// Takes the id of a field name, behind which an octet has to be left of the struct. Whether the id
-    /// has a symbol counts only if a value follows.
+    /// Takes the id of a field name, behind which an octet has to be left of the struct. Whether
+    /// the id has a symbol counts only if a value follows.
     fn name_came(&mut self, id: u64) -> Result<Effect, Reason>
         ensures does { Does
             (name_came (spot_of self.old) (open_frames self.old) id)
@@ -137,8 +137,8 @@ impl BinaryReader<'_> {
         Ok(Effect::Goes)
     }
 
-    /// Takes the number of the octets of a wrapper's annotations: there is one at least, and one behind
-    /// them.
+    /// Takes the number of the octets of a wrapper's annotations: there is one at least, and one
+    /// behind them.
     fn count_came(&mut self, count: u64) -> Result<Effect, Reason>
         requires used { self.old.used < 2 ^ 63 }
         requires count { count < 2 ^ 63 }

@@ -11,9 +11,9 @@ ghost use Rattle.ion_binary.specs.Carrying.{WritesValue};
 
 use super::BinaryReader;
 use crate::alike::alike_value;
+use crate::build::extent;
 use crate::measure::Measure;
 use crate::walk::walk_value;
-use crate::build::extent;
 use crate::writer::BinaryWriter;
 use ion_model::Outline;
 use ion_symtab::{Fault, Items, Outlet};
@@ -36,9 +36,9 @@ impl BinaryReader<'_> {
         self.is_ready() && self.frames.is_empty() && self.used >= self.walked
     }
 
-    /// Takes up the octets of the value at the front of a piece without building it: how many it has, and
-    /// its outline. `None`, with nothing taken up, where a container is open, or the value isn't whole,
-    /// may not stand here or is in any way unusual.
+    /// Takes up the octets of the value at the front of a piece without building it: how many it
+    /// has, and its outline. `None`, with nothing taken up, where a container is open, or the value
+    /// isn't whole, may not stand here or is in any way unusual.
     pub(super) fn walk(&mut self, piece: &[u8]) -> Option<(usize, Outline)>
         requires room { self.old.used + length piece.now < 2 ^ 63 }
         ensures gives { IfSome result (λ found. (v : Value) × (outline_of v ≡ found.1)
@@ -63,9 +63,10 @@ impl BinaryReader<'_> {
         Some((count, measure.outline()))
     }
 
-    /// Takes up the octets of the value at the front of a piece and at the front of another reader's,
-    /// where it is the same in both, without building it: how many octets of each. `None`, with nothing
-    /// taken up, where `walk` of either would answer so, or the two are not seen to be the same.
+    /// Takes up the octets of the value at the front of a piece and at the front of another
+    /// reader's, where it is the same in both, without building it: how many octets of each.
+    /// `None`, with nothing taken up, where `walk` of either would answer so, or the two are not
+    /// seen to be the same.
     fn walk_alike(
         &mut self,
         piece: &[u8],
@@ -110,12 +111,12 @@ impl BinaryReader<'_> {
 }
 
 impl<'a> BinaryReader<'a> {
-    /// Takes up the octets of the value at the front of a piece and at the front of another reader's
-    /// piece, where it lies whole in both and is seen to be the same: how many octets of each. The
-    /// value isn't handed out, and needn't have the same octets, nor the same symbol ids.
+    /// Takes up the octets of the value at the front of a piece and at the front of another
+    /// reader's piece, where it lies whole in both and is seen to be the same: how many octets of
+    /// each. The value isn't handed out, and needn't have the same octets, nor the same symbol ids.
     ///
-    /// `None`, with both readers as they were, where that isn't so or isn't seen, and where either of
-    /// them has refused.
+    /// `None`, with both readers as they were, where that isn't so or isn't seen, and where either
+    /// of them has refused.
     pub fn pass_alike(
         &mut self,
         piece: &[u8],
@@ -123,7 +124,8 @@ impl<'a> BinaryReader<'a> {
         beside: &[u8],
     ) -> Option<(usize, usize)>
         requires room { ⟦<BinaryReader<'a> as Items>⟧.taken self.old + length piece.now < 2 ^ 63 }
-        requires other_room { ⟦<BinaryReader<'a> as Items>⟧.taken other.old + length beside.now < 2 ^ 63 }
+        requires other_room { ⟦<BinaryReader<'a> as Items>⟧.taken other.old + length beside.now < 2
+            ^ 63 }
         ensures alike { IfSome result (λ used. (value : Value)
             × TookUp ⟦<BinaryReader<'a> as Items>⟧ self.old self.new piece.now used.0 value
             × TookUp ⟦<BinaryReader<'a> as Items>⟧ other.old other.new beside.now used.1 value) }
@@ -138,9 +140,9 @@ impl<'a> BinaryReader<'a> {
     /// Takes up the octets of the value at the front of a piece, and writes it by a writer, without
     /// building it. The answer is that of `BinaryWriter::put`.
     ///
-    /// `None`, with nothing taken up and nothing written, where a container is open, or the value isn't
-    /// whole, may not stand here, has a symbol that the writer didn't write yet, or is in any way
-    /// unusual, and where the reader or the writer has failed.
+    /// `None`, with nothing taken up and nothing written, where a container is open, or the value
+    /// isn't whole, may not stand here, has a symbol that the writer didn't write yet, or is in any
+    /// way unusual, and where the reader or the writer has failed.
     pub fn carry<S: BuildHasher + Drop, W: Outlet>(
         &mut self,
         piece: &[u8],

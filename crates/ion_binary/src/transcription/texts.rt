@@ -12,8 +12,8 @@ use crate::writer::framing::{
     put_decimal_value, put_framed, put_id, put_null, put_symbol, put_timestamp_value, put_truth,
     put_whole,
 };
-use crate::writer::recent_ids::Guesses;
 use crate::writer::names::Names;
+use crate::writer::recent_ids::Guesses;
 use ion_scalar::Number;
 use ion_visiting::{Bracket, Part, TextVisitor, Visitable, number_kept, part_kept, text_kept};
 use std::hash::BuildHasher;
@@ -140,8 +140,9 @@ impl<S: BuildHasher + Drop> TextVisitor for Transcription<'_, S> {
     }
 }
 
-/// Appends the value at the front of a piece of what can be gone over: how many octets were taken up. `None`, with
-/// nothing taken up, where no value is gone over there, or it has a symbol without an id, and where memory runs out.
+/// Appends the value at the front of a piece of what can be gone over: how many octets were taken
+/// up. `None`, with nothing taken up, where no value is gone over there, or it has a symbol without
+/// an id, and where memory runs out.
 pub(crate) fn transcribe_visited<S: BuildHasher + Drop, V: Visitable>(
     names: &Names<S>,
     places: &mut Crossings,

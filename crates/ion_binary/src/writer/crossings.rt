@@ -5,9 +5,9 @@ use std::alloc::Global;
 /// How many ids are kept at most.
 const KEPT: u64 = 65536;
 
-/// By the ids of a document that is read, or by numbers that its texts make, the ids that their symbols had last in the one that
-/// is written.
-/// Whoever takes a guess compares the symbol, so no clause speaks of what is kept here.
+/// By the ids of a document that is read, or by numbers that its texts make, the ids that their
+/// symbols had last in the one that is written. Whoever takes a guess compares the symbol, so no
+/// clause speaks of what is kept here.
 #[derive(Drop)]
 pub(crate) struct Crossings {
     ids: Vec<usize>,

@@ -1,10 +1,11 @@
-//! Values as octets (Ion 1.0, "Ion Binary Encoding"), in which each symbol gets an id where it is first used:
-//! the annotations first, then the payload, a field's name before its value. Each function appends to `out`.
-//! What is written was a value that the types keep: its texts are UTF-8, its numbers in range. The ids stay
-//! what they are, so the octets are right under whatever names are later.
+//! Values as octets (Ion 1.0, "Ion Binary Encoding"), in which each symbol gets an id where it is
+//! first used: the annotations first, then the payload, a field's name before its value. Each
+//! function appends to `out`. What is written was a value that the types keep: its texts are UTF-8,
+//! its numbers in range. The ids stay what they are, so the octets are right under whatever names
+//! are later.
 //!
-//! Faults are `Memory`, and `TooLarge` where an id would be above 2^31-1. Some of the octets may stand there
-//! then, and some of the symbols have ids.
+//! Faults are `Memory`, and `TooLarge` where an id would be above 2^31-1. Some of the octets may
+//! stand there then, and some of the symbols have ids.
 ghost use Rattle.std.specs.Prelude.{◌≡◌, ◌<◌, ◌++◌, IfErr, OnOk};
 ghost use Rattle.std.specs.List.{flat_map};
 ghost use Rattle.ion_model.specs.declared.value.Payload.TheViews.{out-Payload};
@@ -18,8 +19,8 @@ use super::framing::{
     frame, insert_length, put_decimal_value, put_framed, put_id, put_null, put_symbol,
     put_timestamp_value, put_truth, put_whole,
 };
-use super::recent_ids::Guesses;
 use super::names::Names;
+use super::recent_ids::Guesses;
 use ion_model::{Field, Payload, Symbol, Value};
 use ion_symtab::Fault;
 use std::hash::BuildHasher;

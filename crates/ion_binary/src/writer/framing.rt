@@ -1,6 +1,6 @@
-//! Octets with their descriptor and length in front, and the values that hold no others (Ion 1.0, "Ion
-//! Binary Encoding"). Each function appends to `out`, and its only fault is `Memory`, on which some of the
-//! octets may stand there.
+//! Octets with their descriptor and length in front, and the values that hold no others (Ion 1.0,
+//! "Ion Binary Encoding"). Each function appends to `out`, and its only fault is `Memory`, on which
+//! some of the octets may stand there.
 ghost use Rattle.std.specs.Prelude.{◌≡◌, ◌<◌, ◌≤◌, ◌*◌, ◌^◌, ◌+◌, ◌++◌, ◌∷◌, [], take, drop, vec_len, OnOk, IsOkUnless};
 ghost use Rattle.ion_symtab.specs.declared.fault.Fault.TheVariants as faults;
 ghost use Rattle.ion_scalar.specs.binary.Spellings.{var_uint_octets, uint_octets, decimal_octets};
@@ -28,8 +28,8 @@ pub(crate) fn put_framed(code: u8, body: &[u8], out: &mut Vec<u8>) -> Result<(),
     Ok(())
 }
 
-/// Makes a body of what stands behind a place: sets the descriptor of its type code and length there, and
-/// moves the body up by the octets of a longer length.
+/// Makes a body of what stands behind a place: sets the descriptor of its type code and length
+/// there, and moves the body up by the octets of a longer length.
 pub(crate) fn frame(code: u8, place: usize, out: &mut Vec<u8>) -> Result<(), Fault>
     requires code { code < 16 }
     requires place { place < vec_len out.old }
@@ -52,7 +52,8 @@ pub(crate) fn insert_length(place: usize, length: usize, out: &mut Vec<u8>) -> R
     requires place { place ≤ vec_len out.old }
     requires length { length < 2 ^ 63 }
     ensures ok { let behind = drop place out.old.items in
-        OnOk result (out.new.items ≡ take place out.old.items ++ (var_uint_octets length ++ behind)) }
+        OnOk result (out.new.items ≡ take place out.old.items
+        ++ (var_uint_octets length ++ behind)) }
     ensures memory { IsOkUnless result faults.Memory }
 {
     // The last digit first, and each in front of those that stand.
@@ -129,7 +130,8 @@ pub(crate) fn put_truth(truth: bool, out: &mut Vec<u8>) -> Result<(), Fault>
 fn put_magnitude(code: u8, magnitude: u128, out: &mut Vec<u8>) -> Result<(), Fault>
     requires code { code < 16 }
     requires magnitude { magnitude < 2 ^ 127 }
-    ensures ok { OnOk result (out.new.items ≡ out.old.items ++ framed code (uint_octets magnitude)) }
+    ensures ok { OnOk result (out.new.items ≡ out.old.items
+        ++ framed code (uint_octets magnitude)) }
     ensures memory { IsOkUnless result faults.Memory }
 {
     let place = out.len();
@@ -164,7 +166,8 @@ pub(crate) fn put_decimal_value(decimal: Decimal, out: &mut Vec<u8>) -> Result<(
 /// Appends a timestamp.
 #[inline(never)]
 pub(crate) fn put_timestamp_value(timestamp: Timestamp, out: &mut Vec<u8>) -> Result<(), Fault>
-    ensures ok { OnOk result (out.new.items ≡ out.old.items ++ framed 6 (timestamp_octets timestamp)) }
+    ensures ok { OnOk result (out.new.items ≡ out.old.items
+        ++ framed 6 (timestamp_octets timestamp)) }
     ensures memory { IsOkUnless result faults.Memory }
 {
     let place = out.len();

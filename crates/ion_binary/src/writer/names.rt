@@ -16,8 +16,8 @@ use std::alloc::Global;
 use std::hash::BuildHasher;
 use std::marker::Model;
 
-/// Symbols by their ids, found by a hash of their texts. The symbol of unknown text has the id 0, and a
-/// text has one id, whatever the hasher.
+/// Symbols by their ids, found by a hash of their texts. The symbol of unknown text has the id 0,
+/// and a text has one id, whatever the hasher.
 #[derive(Drop)]
 pub(crate) struct Names<S: BuildHasher> {
     symbols: IndexSet<Symbol, S>,
@@ -52,7 +52,8 @@ impl<S: BuildHasher + Drop> Names<S> {
     // Gives each of the texts the next id, if it has none. The only fault is `Memory`.
     fn insert_texts(&mut self, alloc: Global, texts: &[&str]) -> Result<(), Fault>
         requires room { length self.old + length texts.now ≤ suc greatest_id }
-        ensures { MatchResult result (λ _. self.new ≡ with_names self.old (map (λ t. Some t.now) texts.now)) (λ f. f ≡ faults.Memory) }
+        ensures { MatchResult result (λ _. self.new
+            ≡ with_names self.old (map (λ t. Some t.now) texts.now)) (λ f. f ≡ faults.Memory) }
     {
         for text in texts {
             let symbol = Symbol::known(alloc, text).map_err(|_| Fault::Memory)?;
@@ -132,7 +133,8 @@ impl<S: BuildHasher + Drop> Names<S> {
     // Gives the symbol the next id, if it has none, and answers its id. The only fault is `Memory`.
     fn insert(&mut self, key: Symbol) -> Result<usize, Fault>
         requires room { length (with_name self.old key) ≤ suc greatest_id }
-        ensures ok { MatchResult result (λ _. self.new ≡ with_name self.old key) (λ f. f ≡ faults.Memory) }
+        ensures ok { MatchResult result (λ _. self.new ≡ with_name self.old key)
+            (λ f. f ≡ faults.Memory) }
         ensures id { IfOk result (λ id. id ≡ id_of self.new key) }
         ensures small { IfOk result (λ id. id < 2 ^ 63) }
     {
@@ -160,10 +162,12 @@ impl<S: BuildHasher + Drop> Names<S> {
         self.known_id(&key)
     }
 
-    /// The id of a text, or how many symbols there are, where it has none. The only fault is `Memory`.
+    /// The id of a text, or how many symbols there are, where it has none. The only fault is
+    /// `Memory`.
     #[inline(never)]
     pub(crate) fn id_of_text(&self, alloc: Global, text: &str) -> Result<u64, Fault>
-        ensures id { MatchResult result (λ id. id ≡ id_of self.now (Some text.now)) (λ f. f ≡ faults.Memory) }
+        ensures id { MatchResult result (λ id. id ≡ id_of self.now (Some text.now))
+            (λ f. f ≡ faults.Memory) }
         ensures small { IfOk result (λ id. id < 2 ^ 63) }
     {
         let key = Symbol::known(alloc, text).map_err(|_| Fault::Memory)?;

@@ -7,8 +7,9 @@ use std::alloc::Global;
 /// How many ids are kept at most.
 const KEPT: usize = 4096;
 
-/// The ids of symbols that were looked up lately, each at a place that a cheap hash of the text tells. Whoever takes a guess
-/// compares the symbol, so no clause speaks of what is kept here: texts that share a place cost a look by the text.
+/// The ids of symbols that were looked up lately, each at a place that a cheap hash of the text
+/// tells. Whoever takes a guess compares the symbol, so no clause speaks of what is kept here:
+/// texts that share a place cost a look by the text.
 #[derive(Drop)]
 pub(crate) struct Guesses {
     ids: Vec<usize>,

@@ -1,5 +1,6 @@
-//! Local symbol tables that append to the context (Ion 1.0, "Symbols", "Local Symbol Tables"). Each function
-//! appends to `out`, and its only fault is `Memory`, on which some of the octets may stand there.
+//! Local symbol tables that append to the context (Ion 1.0, "Symbols", "Local Symbol Tables"). Each
+//! function appends to `out`, and its only fault is `Memory`, on which some of the octets may stand
+//! there.
 ghost use Rattle.std.specs.Prelude.{◌≡◌, ◌≤◌, ◌<◌, ◌^◌, ◌++◌, Some, codes, drop, length, OnOk, IsOkUnless};
 ghost use Rattle.std.specs.List.{flat_map};
 ghost use Rattle.ion_scalar.specs.binary.Spellings.{uint_octets, var_uint_octets};

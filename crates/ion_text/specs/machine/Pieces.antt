@@ -36,24 +36,29 @@ on_now-more v given (Ok m) rest = refl
 on_now-more v given (Err refusal) rest = refl
 
 module _ (g : Catalog) (l : Limits) where
-  more : (to : ℕ) (f h : State → Run) (rest : State → Run) → ((n : State) → f n ≡ then_run (h n) rest) → (x : Effect) → once_more to f x ≡ then_run (once_more to h x) rest
+  more : (to : ℕ) (f h : State → Run) (rest : State → Run) → ((n : State) → f n ≡ then_run (h n) rest) → (x : Effect)
+      → once_more to f x ≡ then_run (once_more to h x) rest
   more to f h rest e (uses m) = e m
   more to f h rest e (tells v m) = let r = h m in ap (with_value v (to + 1)) (e m) ∙ on_now-more (v, to + 1) r.given r.now rest
   more to f h rest e (leaves v m) = refl
   more to f h rest e (fails reason) = refl
 
-  on_effect : (to : ℕ) (again : State → Effect) (f h : State → Run) (rest : State → Run) → ((n : State) → f n ≡ then_run (h n) rest) → (x : Effect) → run_on to again f x ≡ then_run (run_on to again h x) rest
+  on_effect : (to : ℕ) (again : State → Effect) (f h : State → Run) (rest : State → Run) → ((n : State) → f n ≡ then_run (h n) rest) → (x : Effect)
+      → run_on to again f x ≡ then_run (run_on to again h x) rest
   on_effect to again f h rest e (uses m) = e m
   on_effect to again f h rest e (tells v m) = let r = h m in ap (with_value v (to + 1)) (e m) ∙ on_now-more (v, to + 1) r.given r.now rest
-  on_effect to again f h rest e (leaves v m) = let r = once_more to h (again m) in ap (with_value v to) (more to f h rest e (again m)) ∙ on_now-more (v, to) r.given r.now rest
+  on_effect to again f h rest e (leaves v m) = let r = once_more to h (again m) in ap (with_value v to) (more to f h rest e (again m))
+      ∙ on_now-more (v, to) r.given r.now rest
   on_effect to again f h rest e (fails reason) = refl
 
   -- a run over octets in two pieces is one run after the other
   pub run-append : (to mid : ℕ) (u w : List ℕ) → mid ≡ to + length u → (m : State) → run g l to m (u ++ w) ≡ then_run (run g l to m u) (λ n. run g l mid n w)
   run-append to mid [] w e m = ap (λ k. run g l k m w) (let i : to ≡ mid = omega arith in i)
-  run-append to mid (b ∷ bs) w e m = on_effect to (λ n. eats g l n b) (λ n. run g l (to + 1) n (bs ++ w)) (λ n. run g l (to + 1) n bs) (λ n. run g l mid n w) (run-append (to + 1) mid bs w (omega arith)) (eats g l m b)
+  run-append to mid (b ∷ bs) w e m = on_effect to (λ n. eats g l n b) (λ n. run g l (to + 1) n (bs ++ w)) (λ n. run g l (to + 1) n bs) (λ n. run g l mid n w)
+      (run-append (to + 1) mid bs w (omega arith)) (eats g l m b)
 
-  grows_on : (given : List (Value × ℕ)) (now : Result State Refusal) (rest : State → Run) → Grows (trace_of g l (record { given = given; now = now })) (trace_of g l (on_now given now rest))
+  grows_on : (given : List (Value × ℕ)) (now : Result State Refusal) (rest : State → Run)
+      → Grows (trace_of g l (record { given = given; now = now })) (trace_of g l (on_now given now rest))
   grows_on given (Ok m) rest = record { given = ((rest m).given, refl); refused = λ never. cc }
   grows_on given (Err refusal) rest = record { given = ([], sym (append-nil given)); refused = λ _. refl }
 
@@ -77,12 +82,14 @@ module _ (g : Catalog) (l : Limits) where
   abbrev pub Stays : Reading → Place → Known → List ℕ → Type 0
   Stays r p s os = (settle g l r ≡ goes r) ⊎ Waiting r p s os
 
-  pub go_on : (again : State → Effect) (r : Reading) (s : Known) (x : Outcome) (b : Bool) → (b ≡ true) ⊎ (settle g l r ≡ goes r) → (if b then on_scan g l again r x else on_settled g l again s x (settle g l r)) ≡ on_scan g l again r x
+  pub go_on : (again : State → Effect) (r : Reading) (s : Known) (x : Outcome) (b : Bool) → (b ≡ true) ⊎ (settle g l r ≡ goes r)
+      → (if b then on_scan g l again r x else on_settled g l again s x (settle g l r)) ≡ on_scan g l again r x
   go_on again r s x true h = refl
   go_on again r s x false (inl e) = absurd cc
   go_on again r s x false (inr e) = ap (on_settled g l again s x) e
 
-  first_stays : (r : Reading) (p : Place) (s : Known) (o : ℕ) (os : List ℕ) → Stays r p s (o ∷ os) → (unsettled s r (feed p s o) ≡ true) ⊎ (settle g l r ≡ goes r)
+  first_stays : (r : Reading) (p : Place) (s : Known) (o : ℕ) (os : List ℕ) → Stays r p s (o ∷ os) → (unsettled s r (feed p s o) ≡ true)
+      ⊎ (settle g l r ≡ goes r)
   first_stays r p s o os (inl e) = inr e
   first_stays r p s o os (inr w) = inl (ap (λ b. b || in_segment r.now s) w.0)
 
@@ -91,7 +98,8 @@ module _ (g : Catalog) (l : Limits) where
   rest_stays r p s t o os e (inr w) = inr (subst (λ x. OnNext x (λ t. Waiting r p t os)) e w.1)
 
   -- While the scanner goes on, the reader of tokens stays as it is.
-  pub drive : (os : List ℕ) (to : ℕ) (r : Reading) (s t : Known) → scanning.run (place r) os s ≡ Next t → Quiet r (place r) s os → Stays r (place r) s os → run g l to (with_scan s r) os ≡ led (with_scan t r)
+  pub drive : (os : List ℕ) (to : ℕ) (r : Reading) (s t : Known) → scanning.run (place r) os s ≡ Next t → Quiet r (place r) s os → Stays r (place r) s os
+      → run g l to (with_scan s r) os ≡ led (with_scan t r)
   drive [] to r s t e q w = ap (λ (x : Outcome). led (with_scan (state_of x) r)) e
     where
       state_of : Outcome → Known
@@ -101,5 +109,6 @@ module _ (g : Catalog) (l : Limits) where
       let f = followed (feed (place r) s o) (λ k. scanning.run (place r) os k) t e in
       let quiet = subst (λ x. OnNext x (λ t. (noticed l r t ≡ uses (with_scan t r)) × Quiet r (place r) t os)) f.1 q in
       let now : eats g l (with_scan s r) o ≡ uses (with_scan f.0 r) =
-      go_on (λ k. takes g l 2 k o) r s (feed (place r) s o) (unsettled s r (feed (place r) s o)) (first_stays r (place r) s o os w) ∙ (ap (on_scan g l (λ k. takes g l 2 k o) r) f.1 ∙ quiet.0) in
+      go_on (λ k. takes g l 2 k o) r s (feed (place r) s o) (unsettled s r (feed (place r) s o)) (first_stays r (place r) s o os w)
+      ∙ (ap (on_scan g l (λ k. takes g l 2 k o) r) f.1 ∙ quiet.0) in
       ap (run_on to (λ n. eats g l n o) (λ n. run g l (to + 1) n os)) now ∙ drive os (to + 1) r f.0 t f.2 quiet.1 (rest_stays r (place r) s f.0 o os f.1 w)

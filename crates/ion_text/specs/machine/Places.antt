@@ -96,7 +96,8 @@ module _ (g : Catalog) (l : Limits) where
   abbrev pub SamePlace : List Frame → Now → Turn → Type 0
   SamePlace fs now t = Leading (λ r. (place r ≡ place_in fs now) × (is_top r.frames ≡ is_top fs)) t
 
-  within_same : (item start end : ℕ) (fs : List Frame) (now : Now) (t : Turn) → SamePlace fs now t → SamePlace fs now (if nat_le end (start + item) then t else refuses reasons.ItemTooLong)
+  within_same : (item start end : ℕ) (fs : List Frame) (now : Now) (t : Turn) → SamePlace fs now t
+      → SamePlace fs now (if nat_le end (start + item) then t else refuses reasons.ItemTooLong)
   within_same item start end fs now t h = go (nat_le end (start + item))
     where
       go : (b : Bool) → SamePlace fs now (if b then t else refuses reasons.ItemTooLong)
@@ -122,7 +123,8 @@ module _ (g : Catalog) (l : Limits) where
   ended_same spot (frames.Named ss ms s ∷ fs) now v h = (refl, refl)
   ended_same spot (frames.Fields ss ms ∷ fs) now v h = tt
 
-  paid_same : (spot : Spot) (fs : List Frame) (ss : Symbols) (now : Now) (q : Result Payload Reason) → IsValueNow now → SamePlace fs now (paid (under g l) spot fs ss q)
+  paid_same : (spot : Spot) (fs : List Frame) (ss : Symbols) (now : Now) (q : Result Payload Reason) → IsValueNow now
+      → SamePlace fs now (paid (under g l) spot fs ss q)
   paid_same spot fs ss now (Ok q) h = ended_same spot fs now _ h
   paid_same spot fs ss now (Err e) h = tt
 
@@ -164,7 +166,8 @@ module _ (g : Catalog) (l : Limits) where
       go true = h
       go false = tt
 
-  top_still : (item start end : ℕ) (c : List Slot) (v : Value) (d : Result (List Slot) Reason) (b : Bool) → SettlesStill (if b then turned item start end d else within item start end (gives v (fresh c)))
+  top_still : (item start end : ℕ) (c : List Slot) (v : Value) (d : Result (List Slot) Reason) (b : Bool)
+      → SettlesStill (if b then turned item start end d else within item start end (gives v (fresh c)))
   top_still item start end c v (Ok d) true = within_still item start end (goes (fresh d)) refl
   top_still item start end c v (Err e) true = tt
   top_still item start end c v d false = within_still item start end (gives v (fresh c)) refl

@@ -97,11 +97,14 @@ module _ (g : Catalog) (l : Limits) where
   turn_then (late x r) f k h e = refl
 
   token_then : (r : Reading) (t : Token) (f k h : Reading → Walk) → ((r : Reading) → f r ≡ then_walk (k r) h) → (b : Bool)
-      → (if b then on_turn (turn g l r t) f else on_turn (settle g l r) (λ n. on_turn (turn g l n t) f)) ≡ then_walk (if b then on_turn (turn g l r t) k else on_turn (settle g l r) (λ n. on_turn (turn g l n t) k)) h
+      → (if b then on_turn (turn g l r t) f else on_turn (settle g l r) (λ n. on_turn (turn g l n t) f))
+      ≡ then_walk (if b then on_turn (turn g l r t) k else on_turn (settle g l r) (λ n. on_turn (turn g l n t) k)) h
   token_then r t f k h e true = turn_then (turn g l r t) f k h e
-  token_then r t f k h e false = turn_then (settle g l r) (λ n. on_turn (turn g l n t) f) (λ n. on_turn (turn g l n t) k) h (λ n. turn_then (turn g l n t) f k h e)
+  token_then r t f k h e false = turn_then (settle g l r) (λ n. on_turn (turn g l n t) f) (λ n. on_turn (turn g l n t) k) h
+      (λ n. turn_then (turn g l n t) f k h e)
 
-  judged_then : (r : Reading) (t : Placed) (c : Result Content Reason) (f k h : Reading → Walk) → ((r : Reading) → f r ≡ then_walk (k r) h) → on_judged r t c f ≡ then_walk (on_judged r t c k) h
+  judged_then : (r : Reading) (t : Placed) (c : Result Content Reason) (f k h : Reading → Walk) → ((r : Reading) → f r ≡ then_walk (k r) h)
+      → on_judged r t c f ≡ then_walk (on_judged r t c k) h
   judged_then r t (Ok c) f k h e = token_then r (token_of t.lexeme c) f k h e (continues r (token_of t.lexeme c))
   judged_then r t (Err x) f k h e = refl
 
@@ -113,13 +116,15 @@ module _ (g : Catalog) (l : Limits) where
   pub reads-append : (ts us : List Placed) (r : Reading) → reads r (ts ++ us) ≡ then_walk (reads r ts) (λ k. reads k us)
   reads-append [] us r = sym (adds_none (reads r us))
   reads-append (t ∷ ts) us r =
-      placed_then (same_place t.place (place r)) (on_judged r t (said t.lexeme.kind t.lexeme.octets) (λ k. reads k (ts ++ us))) (on_judged r t (said t.lexeme.kind t.lexeme.octets) (λ k. reads k ts)) (λ k. reads k us)
+      placed_then (same_place t.place (place r)) (on_judged r t (said t.lexeme.kind t.lexeme.octets) (λ k. reads k (ts ++ us)))
+      (on_judged r t (said t.lexeme.kind t.lexeme.octets) (λ k. reads k ts)) (λ k. reads k us)
       (judged_then r t (said t.lexeme.kind t.lexeme.octets) (λ k. reads k (ts ++ us)) (λ k. reads k ts) (λ k. reads k us) (reads-append ts us))
 
   pub said_ok : (p : Place) (t : Placed) (c : Content) → Says p t c → said t.lexeme.kind t.lexeme.octets ≡ Ok c
   said_ok p t c h = one_body t.lexeme.kind t.lexeme.octets (said t.lexeme.kind t.lexeme.octets) (Ok c) (says t.lexeme.kind t.lexeme.octets) h.body
 
-  at_token : (r : Reading) (t : Token) (f : Reading → Walk) (b : Bool) → (b ≡ true) ⊎ (settle g l r ≡ goes r) → (if b then on_turn (turn g l r t) f else on_turn (settle g l r) (λ k. on_turn (turn g l k t) f)) ≡ on_turn (turn g l r t) f
+  at_token : (r : Reading) (t : Token) (f : Reading → Walk) (b : Bool) → (b ≡ true) ⊎ (settle g l r ≡ goes r)
+      → (if b then on_turn (turn g l r t) f else on_turn (settle g l r) (λ k. on_turn (turn g l k t) f)) ≡ on_turn (turn g l r t) f
   at_token r t f true h = refl
   at_token r t f false (inl e) = absurd cc
   at_token r t f false (inr e) = ap (λ x. on_turn x (λ k. on_turn (turn g l k t) f)) e
@@ -129,15 +134,21 @@ module _ (g : Catalog) (l : Limits) where
   in_place p r t c w h here = ap (λ q. on_placed (same_place q (place r)) w) (h.place ∙ here) ∙ ap (λ b. on_placed b w) (same_itself (place r))
 
   settled_place : (r n : Reading) → settle g l r ≡ goes n → place n ≡ place r
-  settled_place r n e = let h = subst (Leading g l (λ m. (place m ≡ place r) × (is_top m.frames ≡ is_top r.frames))) e (settle_same g l r.start r.context r.frames r.notes r.now) in h.0
+  settled_place r n e = let h = subst (Leading g l (λ m. (place m ≡ place r) × (is_top m.frames ≡ is_top r.frames))) e
+      (settle_same g l r.start r.context r.frames r.notes r.now) in h.0
 
   -- the token is one with which what waits goes on, or nothing waits
-  pub first_token : (p : Place) (r : Reading) (t : Placed) (c : Content) (ts : List Placed) → Says p t c → p ≡ place r → (continues r (token_of t.lexeme c) ≡ true) ⊎ (settle g l r ≡ goes r) → reads r (t ∷ ts) ≡ on_turn (turn g l r (token_of t.lexeme c)) (λ k. reads k ts)
-  first_token p r t c ts h here w = in_place p r t c (on_judged r t (said t.lexeme.kind t.lexeme.octets) (λ k. reads k ts)) h here ∙ ap (λ x. on_judged r t x (λ k. reads k ts)) (said_ok p t c h) ∙ at_token r (token_of t.lexeme c) (λ k. reads k ts) (continues r (token_of t.lexeme c)) w
+  pub first_token : (p : Place) (r : Reading) (t : Placed) (c : Content) (ts : List Placed) → Says p t c → p ≡ place r
+      → (continues r (token_of t.lexeme c) ≡ true) ⊎ (settle g l r ≡ goes r) → reads r (t ∷ ts) ≡ on_turn (turn g l r (token_of t.lexeme c)) (λ k. reads k ts)
+  first_token p r t c ts h here w = in_place p r t c (on_judged r t (said t.lexeme.kind t.lexeme.octets) (λ k. reads k ts)) h here
+      ∙ ap (λ x. on_judged r t x (λ k. reads k ts)) (said_ok p t c h) ∙ at_token r (token_of t.lexeme c) (λ k. reads k ts) (continues r (token_of t.lexeme c)) w
 
   -- the token shows that what waited is whole
-  pub behind_waiting : (p : Place) (r n : Reading) (t : Placed) (c : Content) (ts : List Placed) → Says p t c → p ≡ place n → continues r (token_of t.lexeme c) ≡ false → settle g l r ≡ goes n → reads r (t ∷ ts) ≡ on_turn (turn g l n (token_of t.lexeme c)) (λ k. reads k ts)
+  pub behind_waiting : (p : Place) (r n : Reading) (t : Placed) (c : Content) (ts : List Placed) → Says p t c → p ≡ place n → continues r (token_of t.lexeme c)
+      ≡ false → settle g l r ≡ goes n → reads r (t ∷ ts) ≡ on_turn (turn g l n (token_of t.lexeme c)) (λ k. reads k ts)
   behind_waiting p r n t c ts h here w e =
-      in_place p r t c (on_judged r t (said t.lexeme.kind t.lexeme.octets) (λ k. reads k ts)) h (here ∙ settled_place r n e) ∙ (ap (λ x. on_judged r t x (λ k. reads k ts)) (said_ok p t c h)
-      ∙ (ap (λ (b : Bool). if b then on_turn (turn g l r (token_of t.lexeme c)) (λ k. reads k ts) else on_turn (settle g l r) (λ k. on_turn (turn g l k (token_of t.lexeme c)) (λ k. reads k ts))) w
+      in_place p r t c (on_judged r t (said t.lexeme.kind t.lexeme.octets) (λ k. reads k ts)) h (here ∙ settled_place r n e)
+      ∙ (ap (λ x. on_judged r t x (λ k. reads k ts)) (said_ok p t c h)
+      ∙ (ap (λ (b : Bool). if b then on_turn (turn g l r (token_of t.lexeme c)) (λ k. reads k ts) else on_turn (settle g l r)
+      (λ k. on_turn (turn g l k (token_of t.lexeme c)) (λ k. reads k ts))) w
       ∙ ap (λ x. on_turn x (λ k. on_turn (turn g l k (token_of t.lexeme c)) (λ k. reads k ts))) e))

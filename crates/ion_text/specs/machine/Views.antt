@@ -175,7 +175,8 @@ pub record DidWhatCame (g : Catalog) (l : Limits) (r : Reading) (x : Outcome) (m
 -- unless memory ran out
 abbrev pub MeetsWith : Catalog → Limits → Reading → Outcome → Result (ℕ × Met) Refusal → TextReader → Type 0
 MeetsWith g l r x (Ok m) new = DidWhatCame g l r x m.1 new
-MeetsWith g l r x (Err refusal) new = refusal.reason ≢ Memory → (refusal.offset ≡ decided x) × ((again : State → Effect) → on_scan g l again r x ≡ fails refusal.reason)
+MeetsWith g l r x (Err refusal) new = refusal.reason ≢ Memory → (refusal.offset ≡ decided x)
+    × ((again : State → Effect) → on_scan g l again r x ≡ fails refusal.reason)
 
 -- the reason for which an octet is refused that was refused already, and comes again
 abbrev pub worse : Reason → Result Taken Reason → Reason
@@ -221,4 +222,19 @@ pub record IsLull (l : Limits) (r : Reading) (s : Known) (count : ℕ) : Type 0 
 
 -- beside the scanner nothing counts
 abbrev pub with_beside : TextReader → TokenReader → TextReader
-with_beside r b = record { alloc = r.alloc; catalog = r.catalog; limits = r.limits; scanner = r.scanner; beside = b; start = r.start; context = r.context; frames = r.frames; notes = r.notes; stage = r.stage; given = r.given; awaited = r.awaited; failed = r.failed }
+with_beside r b = record {
+  alloc = r.alloc;
+  catalog = r.catalog;
+  limits = r.limits;
+  scanner = r.scanner;
+  beside = b;
+  start = r.start;
+  context =
+      r.context;
+  frames = r.frames;
+  notes = r.notes;
+  stage = r.stage;
+  given = r.given;
+  awaited = r.awaited;
+  failed = r.failed;
+}

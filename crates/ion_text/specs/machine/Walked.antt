@@ -57,7 +57,8 @@ pub record IsFlat (payload : Payload) (kind : Kind) : Type 0 where
 
 -- what is said is this value at once
 abbrev pub EndsAtOnce : Content → Payload → Type 0
-EndsAtOnce c payload = (setting : Setting) (spot : Spot) (fs : List Frame) (ss : Symbols) → on_ready setting spot fs ss c ≡ ended setting spot fs (annotated ss payload)
+EndsAtOnce c payload = (setting : Setting) (spot : Spot) (fs : List Frame) (ss : Symbols) → on_ready setting spot fs ss c
+    ≡ ended setting spot fs (annotated ss payload)
 
 -- what is said is this value; where it waits, unless `::` follows
 abbrev pub IsValue : Bool → Content → Payload → Type 0

@@ -68,9 +68,9 @@ impl TextReader<'_> {
         }
     }
 
-    /// Takes up the octets of a piece up to the next value. A refusal's offset counts the octet that
-    /// decided; `Memory` has the octets of earlier steps. An octet that showed the end of a value before
-    /// shows the end of no second one.
+    /// Takes up the octets of a piece up to the next value. A refusal's offset counts the octet
+    /// that decided; `Memory` has the octets of earlier steps. An octet that showed the end of a
+    /// value before shows the end of no second one.
     pub(super) fn advance(&mut self, piece: &[u8]) -> Result<Step, Refusal>
         requires fine { IsFine self.old }
         requires room { (scanned self.old.scanner).used + length piece.now < 2 ^ 63 }

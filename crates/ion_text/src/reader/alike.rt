@@ -1,6 +1,6 @@
-//! Items of the top level that lie whole in two pieces with the same octets: they are gone over on both
-//! sides, compared as they stand, and not built. What is cut, refused, unusual or spelled in different ways
-//! isn't told here: the readers take it up.
+//! Items of the top level that lie whole in two pieces with the same octets: they are gone over on
+//! both sides, compared as they stand, and not built. What is cut, refused, unusual or spelled in
+//! different ways isn't told here: the readers take it up.
 ghost use Rattle.std.specs.Prelude.{◌≡◌, ◌+◌, ◌-◌, ◌≤◌, ◌<◌, ◌^◌, true, length, take, drop, min, IfSome, IsNone, None, Ok, Some};
 ghost use Rattle.std.specs.Option.{is_some};
 ghost use Rattle.ion_model.specs.declared.value.Value.{Value};
@@ -23,7 +23,8 @@ use std::simd::prelude::*;
 /// How many octets of a line are compared at most before an item is gone over.
 const LINE: usize = 1024;
 
-/// The front of a piece where an item may begin: a blank of so many octets, and where the scanner rests behind it.
+/// The front of a piece where an item may begin: a blank of so many octets, and where the scanner
+/// rests behind it.
 #[derive(Clone, Copy)]
 struct Front {
     blank: usize,
@@ -59,8 +60,9 @@ fn line_ends_alike(octets: &[u8], other: &[u8]) -> bool {
     true
 }
 
-/// Whether an item may be gone over at both fronts: they are the same up to the end of the line, or as far as
-/// is compared. An item that differs mostly does so in its first line, and then isn't gone over in vain.
+/// Whether an item may be gone over at both fronts: they are the same up to the end of the line, or
+/// as far as is compared. An item that differs mostly does so in its first line, and then isn't
+/// gone over in vain.
 fn may_be_alike(octets: &[u8], other: &[u8]) -> bool {
     let most = octets.len().min(other.len()).min(LINE);
     may_begin(octets) && lines_alike(&octets[..most], &other[..most])
@@ -158,9 +160,10 @@ impl TextReader<'_> {
         Some((top, other_top))
     }
 
-    /// Takes up a blank and the item behind it at the front of a piece and at the front of another reader's,
-    /// where it has the same octets in both, without building it: how many octets of each. `None`, with
-    /// nothing taken up, where `walk` of either would answer so, or the octets aren't the same.
+    /// Takes up a blank and the item behind it at the front of a piece and at the front of another
+    /// reader's, where it has the same octets in both, without building it: how many octets of
+    /// each. `None`, with nothing taken up, where `walk` of either would answer so, or the octets
+    /// aren't the same.
     fn walk_alike(
         &mut self,
         piece: &[u8],
@@ -175,7 +178,8 @@ impl TextReader<'_> {
             (Ok (record { used = used.0; value = Some v })) self.new.awaited (state_of self.new)
             × Advances other.old.catalog.now other.old.limits (is_some other.old.awaited)
             (scanned other.old.scanner).used (state_of other.old) beside.now
-            (Ok (record { used = used.1; value = Some v })) other.new.awaited (state_of other.new)) }
+            (Ok (record { used = used.1; value = Some v })) other.new.awaited
+            (state_of other.new)) }
         ensures used { IfSome result (λ used.
             (scanned self.new.scanner).used ≡ (scanned self.old.scanner).used + used.0) }
         ensures other_used { IfSome result (λ used.
@@ -217,11 +221,11 @@ impl TextReader<'_> {
 
 impl<'a> TextReader<'a> {
     /// Takes up a blank and the item behind it at the front of a piece and at the front of another
-    /// reader's piece, where it lies whole in both and has the same octets: how many octets of each. The
-    /// value isn't handed out, and the blanks needn't be the same.
+    /// reader's piece, where it lies whole in both and has the same octets: how many octets of
+    /// each. The value isn't handed out, and the blanks needn't be the same.
     ///
-    /// `None`, with both readers as they were, where that isn't so or isn't seen, and where either of
-    /// them has refused.
+    /// `None`, with both readers as they were, where that isn't so or isn't seen, and where either
+    /// of them has refused.
     pub fn pass_alike(
         &mut self,
         piece: &[u8],
@@ -229,7 +233,8 @@ impl<'a> TextReader<'a> {
         beside: &[u8],
     ) -> Option<(usize, usize)>
         requires room { ⟦<TextReader<'a> as Items>⟧.taken self.old + length piece.now < 2 ^ 63 }
-        requires other_room { ⟦<TextReader<'a> as Items>⟧.taken other.old + length beside.now < 2 ^ 63 }
+        requires other_room { ⟦<TextReader<'a> as Items>⟧.taken other.old + length beside.now < 2 ^
+            63 }
         ensures alike { IfSome result (λ used. (value : Value)
             × TookUp ⟦<TextReader<'a> as Items>⟧ self.old self.new piece.now used.0 value
             × TookUp ⟦<TextReader<'a> as Items>⟧ other.old other.new beside.now used.1 value) }

@@ -34,8 +34,8 @@ impl TextReader<'_> {
         }
     }
 
-    /// No `::` follows what was held, whose token ended at `end`. A version marker stands at the top
-    /// level without annotations (Ion 1.0, "Symbols", "Ion Version Markers").
+    /// No `::` follows what was held, whose token ended at `end`. A version marker stands at the
+    /// top level without annotations (Ion 1.0, "Symbols", "Ion Version Markers").
     fn release(&mut self, held: Held, end: u64) -> Result<Effect, Reason>
         requires stage { self.old.stage ≡ nows.Ready }
         ensures does { Does

@@ -1,5 +1,5 @@
-//! Octets that are handed to the scanner at once while something waits, or a mark is awaited: those of a blank or
-//! a comment, and of a further segment of a long string.
+//! Octets that are handed to the scanner at once while something waits, or a mark is awaited: those
+//! of a blank or a comment, and of a further segment of a long string.
 ghost use Rattle.std.specs.Prelude.{◌≡◌, ◌+◌, ◌<◌, ◌≤◌, ◌^◌, length, take, OnOk, IfErr};
 ghost use Rattle.ion_atoms.specs.declared.refusal.Reason.TheVariants.{Memory};
 ghost use Rattle.ion_tokens.specs.machine.AtOnce.{GoesOver};
@@ -41,7 +41,8 @@ impl TextReader<'_> {
         }
     }
 
-    /// How many octets at the front of a piece it waits over: no more than the limit on items leaves.
+    /// How many octets at the front of a piece it waits over: no more than the limit on items
+    /// leaves.
     pub(super) fn lull(&self, piece: &[u8]) -> usize
         ensures within { result ≤ length piece.now }
         ensures over { GoesOver (scanned self.now.scanner).mode (take result piece.now) }

@@ -51,7 +51,8 @@ impl TextReader<'_> {
         Ok(Effect::Goes)
     }
 
-    /// Behind `{`. The octet behind it shows that it is no `{{`, and may be refused for a smaller reason.
+    /// Behind `{`. The octet behind it shows that it is no `{{`, and may be refused for a smaller
+    /// reason.
     pub(super) fn open_struct(&mut self) -> Result<Effect, Reason>
         ensures does { Does
             (deeper self.old.limits.depth (open_frames self.old)

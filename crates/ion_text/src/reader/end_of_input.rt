@@ -62,8 +62,8 @@ impl TextReader<'_> {
         }
     }
 
-    /// What waited is decided by the end even where a comment or a colon behind it is open, if it is
-    /// refused.
+    /// What waited is decided by the end even where a comment or a colon behind it is open, if it
+    /// is refused.
     fn end_waiting(
         &mut self,
         token: Result<Option<Token<'_>>, Refusal>,

@@ -1,5 +1,5 @@
-//! Tokens that lie whole in a piece and are not plain, where a container is open: texts with escapes, typed
-//! nulls, operators, clobs and blobs.
+//! Tokens that lie whole in a piece and are not plain, where a container is open: texts with
+//! escapes, typed nulls, operators, clobs and blobs.
 ghost use Rattle.std.specs.Prelude.{◌≡◌, [], length, Some, IfOk, IfErr, IfSome};
 ghost use Rattle.ion_atoms.specs.declared.refusal.Reason.TheVariants.{Memory};
 ghost use Rattle.ion_tokens.specs.Bodies.{content};

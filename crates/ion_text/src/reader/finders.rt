@@ -1,5 +1,5 @@
-//! Tokens at the front of octets that are a value or a field's name, with what they say. Of a token that isn't
-//! whole, isn't plain or may be a symbol's id nothing is found.
+//! Tokens at the front of octets that are a value or a field's name, with what they say. Of a token
+//! that isn't whole, isn't plain or may be a symbol's id nothing is found.
 ghost use Rattle.std.specs.Prelude.{◌≡◌, false, IfSome, Ok, Some};
 ghost use Rattle.ion_tokens.specs.Bodies.{content};
 ghost use Rattle.ion_tokens.specs.Places.{is_name};
@@ -159,8 +159,8 @@ pub(super) fn number_at(octets: &[u8]) -> Option<(FoundToken, Number)>
     Some((token, read))
 }
 
-/// What a token that isn't plain is as a value: its kind, and whether it would be an annotation if `::`
-/// followed.
+/// What a token that isn't plain is as a value: its kind, and whether it would be an annotation if
+/// `::` followed.
 pub(super) fn rare_part<'b>(body: &'b Body<'_>) -> Option<(Kind, bool, Part<'b>)>
     ensures { IfSome result (λ found. IsValue found.1 (content body.now) (payload_of found.2)
         × IsFlat (payload_of found.2) found.0) }

@@ -14,8 +14,8 @@ use ion_tokens::{Scanner, TokenReader};
 use std::alloc::Global;
 
 impl<'a> TextReader<'a> {
-    /// A reader of no octets yet, for a document within these limits that may import the shared tables
-    /// of `catalog`. The only refusal is `Memory`.
+    /// A reader of no octets yet, for a document within these limits that may import the shared
+    /// tables of `catalog`. The only refusal is `Memory`.
     pub fn new(
         alloc: Global,
         catalog: &'a Catalog,
@@ -65,7 +65,8 @@ impl TextReader<'_> {
         requires { IsNone self.old.awaited }
         ensures ends { (u : List ℕ) (s : List (AnyValue × ℕ)) → Stands self.old u s →
             Finishes (trace self.old.catalog.now self.old.limits) u result }
-        ensures memory { IfErr result (λ refusal. refusal.reason ≡ Memory → IsNone (failed self.old) →
+        ensures memory { IfErr result (λ refusal. refusal.reason ≡ Memory → IsNone (failed self.old)
+            →
             refusal.offset ≡ octets_used self.old) }
         ensures again { IfSome (failed self.old) (λ refusal. result ≡ Err refusal) }
     {

@@ -1,5 +1,5 @@
-//! Containers that open and close inside another one, where their marks lie whole in a piece. What opens beyond the
-//! limit on depth is left to the octets.
+//! Containers that open and close inside another one, where their marks lie whole in a piece. What
+//! opens beyond the limit on depth is left to the octets.
 ghost use Rattle.std.specs.Prelude.{◌≡◌, ◌<◌, [], length, false, Ok, IfOk, IfErr, IfSome};
 ghost use Rattle.ion_atoms.specs.declared.refusal.Reason.TheVariants.{Memory};
 ghost use Rattle.ion_tokens.specs.machine.Views.{scanned};
@@ -63,7 +63,8 @@ impl TextReader<'_> {
         }
     }
 
-    /// The mark that the octet is, if it closes the innermost container, and another stands around that.
+    /// The mark that the octet is, if it closes the innermost container, and another stands around
+    /// that.
     fn close_mark(&self, octet: u8) -> Option<Mark>
         ensures { IfSome result (λ mark. ClosesAt (reading_of self.now) octet mark) }
     {

@@ -79,8 +79,8 @@ impl TextReader<'_> {
         }
     }
 
-    /// Octets were used and ended no value. A token that begins where none may is refused with its first
-    /// octet, and an item that is too long with the first octet too many.
+    /// Octets were used and ended no value. A token that begins where none may is refused with its
+    /// first octet, and an item that is too long with the first octet too many.
     fn notice(&self) -> Result<(), Reason>
         ensures { Notices (noticed self.now.limits (reading_of self.now) (scanned self.now.scanner))
             result (state_of self.now) }
@@ -180,8 +180,8 @@ impl TextReader<'_> {
         Refusal { offset, reason }
     }
 
-    /// Hands octets to the scanner, up to the next token, which is looked for at `place`: how many are
-    /// used, and what they did.
+    /// Hands octets to the scanner, up to the next token, which is looked for at `place`: how many
+    /// are used, and what they did.
     pub(super) fn meet(&mut self, place: Place, piece: &[u8]) -> Result<(usize, Met), Refusal>
         requires room { (scanned self.old.scanner).used + length piece.now < 2 ^ 63 }
         ensures met { IsFine self.old → MeetsWith self.old.catalog.now self.old.limits

@@ -252,7 +252,8 @@ impl TextReader<'_> {
         Ok(Effect::Goes)
     }
 
-    /// A word that is a field's name. The octet behind a keyword may be refused for a smaller reason.
+    /// A word that is a field's name. The octet behind a keyword may be refused for a smaller
+    /// reason.
     fn word_named(&mut self, word: &str) -> Result<Effect, Reason>
         requires notes { self.old.notes ≡ [] }
         ensures does { Does

@@ -49,12 +49,14 @@ impl TextReader<'_> {
         self.scanner.rest()
     }
 
-    /// What may be an item at the front of a piece: how many octets of a blank stand before it, its octets up to
-    /// the limit on items, and what is noted of it yet. `None` if an item is open or an octet is awaited.
+    /// What may be an item at the front of a piece: how many octets of a blank stand before it, its
+    /// octets up to the limit on items, and what is noted of it yet. `None` if an item is open or
+    /// an octet is awaited.
     #[inline(always)]
     pub(super) fn item_ahead<'p>(&self, piece: &'p [u8]) -> Option<(usize, &'p [u8], Tally)>
         requires room { (scanned self.now.scanner).used + length piece.now < 2 ^ 63 }
-        ensures { IfSome result (λ ahead. ItemAhead self.now piece.now ahead.0 ahead.1.now ahead.2) }
+        ensures { IfSome result (λ ahead. ItemAhead self.now piece.now ahead.0 ahead.1.now
+            ahead.2) }
     {
         let rest = self.fresh_rest()?;
         let before = blanks(up_to(piece, self.limits.item));
@@ -63,10 +65,10 @@ impl TextReader<'_> {
         Some((before, item, tally))
     }
 
-    /// Takes up a blank and the item behind it at the front of a piece without building that: how many
-    /// octets they have, and the outline of its value. `None`, with nothing taken up, where an item is
-    /// open, or the value isn't whole, ends before the octet behind it, may be a local symbol table, may
-    /// not stand here or is in any way unusual.
+    /// Takes up a blank and the item behind it at the front of a piece without building that: how
+    /// many octets they have, and the outline of its value. `None`, with nothing taken up, where an
+    /// item is open, or the value isn't whole, ends before the octet behind it, may be a local
+    /// symbol table, may not stand here or is in any way unusual.
     pub(super) fn walk(&mut self, piece: &[u8]) -> Option<(usize, Outline)>
         requires room { (scanned self.old.scanner).used + length piece.now < 2 ^ 63 }
         ensures gives { IfSome result (λ found. (v : Value) × (outline_of v ≡ found.1)
@@ -89,8 +91,8 @@ impl TextReader<'_> {
         Some((before + count, tally.outline(depth)))
     }
 
-    /// The same, where a writer puts the value: how many octets the blank and the item have, and the answer
-    /// of the writer.
+    /// The same, where a writer puts the value: how many octets the blank and the item have, and
+    /// the answer of the writer.
     fn walk_into<W: Outlet>(
         &mut self,
         piece: &[u8],
@@ -105,7 +107,8 @@ impl TextReader<'_> {
             × WritesValue W.Outlet writer.old writer.new out.old out.new v carried.1) }
         ensures used { IfSome result (λ carried.
             (scanned self.new.scanner).used ≡ (scanned self.old.scanner).used + carried.0) }
-        ensures awaits { IfSome result (λ _. (self.old.awaited ≡ None) × (self.new.awaited ≡ None)) }
+        ensures awaits { IfSome result (λ _. (self.old.awaited ≡ None)
+            × (self.new.awaited ≡ None)) }
         ensures stays { IsNone result →
             (self.new ≡ self.old) × (writer.new ≡ writer.old) × (out.new ≡ out.old) }
         ensures fine { IsFine self.old → IsFine self.new }
@@ -122,12 +125,13 @@ impl TextReader<'_> {
 }
 
 impl<'a> TextReader<'a> {
-    /// Takes up a blank and the item behind it at the front of a piece, and writes its value by a writer, without
-    /// building it: how many octets they have, and the answer of `TextWriter::put`.
+    /// Takes up a blank and the item behind it at the front of a piece, and writes its value by a
+    /// writer, without building it: how many octets they have, and the answer of `TextWriter::put`.
     ///
-    /// `None`, with nothing taken up and nothing written, where an item is open, or the value isn't whole, ends before the octet
-    /// behind it, may be a local symbol table, may not stand here or is in any way unusual, and where the reader or
-    /// the writer has failed or memory runs out. Where that was so of several in a row, few are tried.
+    /// `None`, with nothing taken up and nothing written, where an item is open, or the value isn't
+    /// whole, ends before the octet behind it, may be a local symbol table, may not stand here or
+    /// is in any way unusual, and where the reader or the writer has failed or memory runs out.
+    /// Where that was so of several in a row, few are tried.
     pub fn carry<W: Outlet>(
         &mut self,
         piece: &[u8],

@@ -45,8 +45,8 @@ impl TextReader<'_> {
         }
     }
 
-    /// Takes up the tokens behind the first octet of a piece that lie whole in it: how many octets they have
-    /// with that one.
+    /// Takes up the tokens behind the first octet of a piece that lie whole in it: how many octets
+    /// they have with that one.
     fn take_fields(&mut self, piece: &[u8]) -> Result<usize, Reason>
         requires inner { is_top (open_frames self.old) ≡ false }
         requires fine { IsFine self.old }
@@ -66,8 +66,8 @@ impl TextReader<'_> {
         Ok(1 + count)
     }
 
-    /// Takes up a struct's open, the tokens behind it that lie whole in the piece, and the octet behind
-    /// those.
+    /// Takes up a struct's open, the tokens behind it that lie whole in the piece, and the octet
+    /// behind those.
     pub(super) fn take_struct(
         &mut self,
         rest: Rest,

@@ -20,14 +20,16 @@ use ion_tokens::{
 };
 use std::alloc::Global;
 
-// Whether an octet shows that no `::` follows a symbol: it is no blank, and begins no colon and no comment.
+// Whether an octet shows that no `::` follows a symbol: it is no blank, and begins no colon and no
+// comment.
 fn ends_symbol(octet: u8) -> bool
     ensures { result ≡ ends_symbol octet }
 {
     b' ' < octet && !(octet == b':' || octet == b'/')
 }
 
-// How many octets of a blank stand behind a symbol of so many, if the octet behind them shows that no `::` follows.
+// How many octets of a blank stand behind a symbol of so many, if the octet behind them shows that
+// no `::` follows.
 pub(super) fn behind_symbol(octets: &[u8], count: usize) -> Option<usize>
     ensures passed { IfSome result (λ between. IsPassed (drop count octets.now) between) }
     ensures within { IfSome result (λ between. count + between < length octets.now) }
@@ -45,7 +47,8 @@ pub(super) fn behind_symbol(octets: &[u8], count: usize) -> Option<usize>
     Some(between)
 }
 
-// How many octets of a blank stand behind a field's name of so many, if one colon alone stands behind them.
+// How many octets of a blank stand behind a field's name of so many, if one colon alone stands
+// behind them.
 pub(super) fn behind_name(octets: &[u8], count: usize) -> Option<usize>
     ensures passed { IfSome result (λ between. IsPassed (drop count octets.now) between) }
     ensures within { IfSome result (λ between. count + between + 1 < length octets.now) }
@@ -63,7 +66,8 @@ pub(super) fn behind_name(octets: &[u8], count: usize) -> Option<usize>
     Some(between)
 }
 
-// How many octets of a blank stand behind an annotation of so many, if `::` and one octet more stand behind them.
+// How many octets of a blank stand behind an annotation of so many, if `::` and one octet more
+// stand behind them.
 pub(super) fn behind_annotation(octets: &[u8], count: usize) -> Option<usize>
     ensures passed { IfSome result (λ between. IsPassed (drop count octets.now) between) }
     ensures within { IfSome result (λ between. count + between + 2 < length octets.now) }
@@ -185,7 +189,8 @@ impl TextReader<'_> {
         self.take_symbol(here, rest, octets, token, Payload::Symbol(symbol))
     }
 
-    /// Takes up what is an annotation if `::` follows, and else a value, where the octets show which.
+    /// Takes up what is an annotation if `::` follows, and else a value, where the octets show
+    /// which.
     pub(super) fn take_symbol(
         &mut self,
         here: Place,

@@ -1,5 +1,5 @@
-//! Octets that are handed to the scanner at once: up to the next token, where nothing has to be looked at
-//! before it.
+//! Octets that are handed to the scanner at once: up to the next token, where nothing has to be
+//! looked at before it.
 ghost use Rattle.std.specs.Prelude.{◌≡◌, ◌+◌, ◌<◌, ◌≤◌, ◌^◌, length, IfOk};
 ghost use Rattle.ion_tokens.specs.machine.Views.{scanned};
 ghost use Rattle.ion_text.specs.machine.Views.{open_frames, state_of, floor, base, IsCalm, IsFine, SameReader};
@@ -23,8 +23,8 @@ impl TextReader<'_> {
         }
     }
 
-    /// How many octets at the front go to the scanner together: all, or the blank before what may be a
-    /// struct of the top level, which is taken up at once behind it.
+    /// How many octets at the front go to the scanner together: all, or the blank before what may
+    /// be a struct of the top level, which is taken up at once behind it.
     fn up_to_struct(&self, octets: &[u8]) -> usize
         ensures { result ≤ length octets.now }
     {
@@ -39,8 +39,8 @@ impl TextReader<'_> {
         }
     }
 
-    /// How many octets at the front of a piece may be handed to the scanner at once: none where something
-    /// waits or no token may begin, and no more than the limit on items leaves.
+    /// How many octets at the front of a piece may be handed to the scanner at once: none where
+    /// something waits or no token may begin, and no more than the limit on items leaves.
     pub(super) fn stride(&self, piece: &[u8]) -> usize
         ensures within { result ≤ length piece.now }
         ensures calm { 0 < result → IsCalm self.now.stage }

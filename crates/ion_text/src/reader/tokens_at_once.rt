@@ -1,6 +1,6 @@
-//! Tokens that lie whole in a piece, where a container is open. What is cut, refused or unusual is left to
-//! the octets. Where a container is open a value only goes on; another answer couldn't come, and is told as
-//! memory that ran out, which says nothing of the octets.
+//! Tokens that lie whole in a piece, where a container is open. What is cut, refused or unusual is
+//! left to the octets. Where a container is open a value only goes on; another answer couldn't
+//! come, and is told as memory that ran out, which says nothing of the octets.
 ghost use Rattle.std.specs.Prelude.{◌≡◌, ◌+◌, ◌<◌, ◌≤◌, ◌^◌, [], length, true, false, not, IfOk, IfErr};
 ghost use Rattle.ion_atoms.specs.declared.refusal.Reason.TheVariants.{Memory};
 ghost use Rattle.ion_tokens.specs.machine.Views.{scanned};
@@ -28,8 +28,8 @@ fn may_be_value(place: Place) -> bool
 }
 
 impl TextReader<'_> {
-    /// How many of so many octets may be looked at where a container is open: no more than the limit on
-    /// items leaves.
+    /// How many of so many octets may be looked at where a container is open: no more than the
+    /// limit on items leaves.
     pub(super) fn span(&self, length: usize) -> usize
         ensures within { result ≤ length }
         ensures inner { 0 < result → is_top (open_frames self.now) ≡ false }
@@ -76,8 +76,8 @@ impl TextReader<'_> {
         Ok(at)
     }
 
-    /// Takes up the token at the front of octets, or the blank there but for their last octet: how many
-    /// octets those are, or none.
+    /// Takes up the token at the front of octets, or the blank there but for their last octet: how
+    /// many octets those are, or none.
     fn take_token(&mut self, octets: &[u8]) -> Result<usize, Reason>
         requires inside { Inside self.old octets.now }
         ensures strides { IfOk result (λ count. Strides self.old self.new octets.now count) }

@@ -1,6 +1,6 @@
-//! Items of the top level that lie whole in a piece, which a visitor takes: their annotations, and a value
-//! that ends with its own last octet. A symbol, a number or a long string ends before the octet behind it,
-//! so that the reader takes it up token by token.
+//! Items of the top level that lie whole in a piece, which a visitor takes: their annotations, and
+//! a value that ends with its own last octet. A symbol, a number or a long string ends before the
+//! octet behind it, so that the reader takes it up token by token.
 ghost use Rattle.std.specs.Prelude.{◌≡◌, ◌+◌, ◌-◌, ◌≤◌, ◌<◌, ◌^◌, min, length, Some, IfSome};
 ghost use Rattle.ion_visiting.specs.Visits.{annotation};
 ghost use Rattle.ion_text.specs.machine.Walked.{behind_note};
@@ -16,7 +16,8 @@ use ion_tokens::{FoundToken, Mark, Place, TokenKind, TokenReader, quoted_symbol,
 use ion_visiting::TextVisitor;
 
 impl Tally {
-    /// Notes an annotation, and rests behind its token, a blank and `::`: how many octets they have.
+    /// Notes an annotation, and rests behind its token, a blank and `::`: how many octets they
+    /// have.
     #[inline(always)]
     fn pass_note(&mut self, token: FoundToken, blank: usize) -> usize
         requires room { self.old.rest.used + token.count + blank + 2 < 2 ^ 63 }
@@ -45,8 +46,8 @@ pub(super) struct Note<'a> {
     between: usize,
 }
 
-// The word there, if it is an annotation where `::` follows. One that begins with `$` may be a symbol's id,
-// or name local symbol tables.
+// The word there, if it is an annotation where `::` follows. One that begins with `$` may be a
+// symbol's id, or name local symbol tables.
 fn word_note(octets: &[u8]) -> Option<(FoundToken, &str)>
     ensures { IfSome result (λ found. (note : FoundNote octets.now found.0)
         × (note.name ≡ Some found.1.now)) }
@@ -215,8 +216,8 @@ fn walk_annotated<T: TextVisitor>(
     Some(notes + count)
 }
 
-/// Goes over the item of the top level at the front of octets, whose value has at most so many levels: how
-/// many octets it has.
+/// Goes over the item of the top level at the front of octets, whose value has at most so many
+/// levels: how many octets it has.
 pub(crate) fn walk_top<T: TextVisitor>(
     beside: &mut TokenReader,
     octets: &[u8],

@@ -14,8 +14,8 @@ use ion_tokens::TokenReader;
 use ion_visiting::{TextVisitor, Visitable};
 
 impl TextReader<'_> {
-    /// Takes up a blank and the item behind it at the front of a piece, and tells the parts of its value to a visitor: how
-    /// many octets they have.
+    /// Takes up a blank and the item behind it at the front of a piece, and tells the parts of its
+    /// value to a visitor: how many octets they have.
     fn walk_by<T: TextVisitor>(&mut self, piece: &[u8], visitor: &mut T) -> Option<usize>
         requires room { (scanned self.old.scanner).used + length piece.now < 2 ^ 63 }
         ensures gives { IfSome result (λ used. (v : Value)
@@ -25,7 +25,8 @@ impl TextReader<'_> {
             (Ok (record { used = used; value = Some v })) self.new.awaited (state_of self.new)) }
         ensures used { IfSome result (λ used.
             (scanned self.new.scanner).used ≡ (scanned self.old.scanner).used + used) }
-        ensures awaits { IfSome result (λ _. (self.old.awaited ≡ None) × (self.new.awaited ≡ None)) }
+        ensures awaits { IfSome result (λ _. (self.old.awaited ≡ None)
+            × (self.new.awaited ≡ None)) }
         ensures stays { IsNone result → self.new ≡ self.old }
         ensures fine { IsFine self.old → IsFine self.new }
         ensures steady { StaysSteady self.old self.new }

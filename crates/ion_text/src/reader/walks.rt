@@ -1,5 +1,5 @@
-//! Values that lie whole in a piece: they are judged and not built, and a visitor takes them. What is
-//! cut, refused or unusual isn't told here: the reader takes it up token by token.
+//! Values that lie whole in a piece: they are judged and not built, and a visitor takes them. What
+//! is cut, refused or unusual isn't told here: the reader takes it up token by token.
 ghost use Rattle.std.specs.Prelude.{◌≡◌, ◌+◌, ◌-◌, ◌≤◌, ◌<◌, ◌^◌, min, true, false, length, get_or, IfSome, Some};
 ghost use Rattle.ion_atoms.specs.declared.kind.Kind.TheVariants as kinds;
 ghost use Rattle.ion_tokens.specs.Places.{is_name};
@@ -425,8 +425,8 @@ fn walk_comma(here: Place, octets: &[u8], tally: &mut Tally) -> Option<usize>
     Some(1)
 }
 
-/// Goes over the value at the front of octets, of at most so many levels: how many octets it has, with the
-/// blank behind it where that has to be seen.
+/// Goes over the value at the front of octets, of at most so many levels: how many octets it has,
+/// with the blank behind it where that has to be seen.
 #[cycle(walk)]
 fn walk_value<T: TextVisitor>(
     beside: &mut TokenReader,

@@ -11,5 +11,7 @@ returns-in-Sized-Pad-default-clause-pad c =
     let octets = c.args.octets.now in
     let some : 0 < length octets = grind (arith, c.is_empty.ensures, c.if-is_empty.false) in
     let body = take c.in_ok-used.count (drop c.in_ok-used.used (take (length octets - 1) (drop 1 octets))) in
-    headed octets (take (length octets - 1) (drop 1 octets)) body forms.Pad c.in-Sized-Pad-default.size c.in_ok-used.used c.in_ok-used.count some (sym c.opening_of.ensures ∙ (c.in-Sized-Pad-default.is ∙ ap (λ f. Sized f c.in-Sized-Pad-default.size) c.in-Sized-Pad-default.field-0-is)) (whole_rest octets 1)
+    headed octets (take (length octets - 1) (drop 1 octets)) body forms.Pad c.in-Sized-Pad-default.size c.in_ok-used.used c.in_ok-used.count some
+    (sym c.opening_of.ensures ∙ (c.in-Sized-Pad-default.is ∙ ap (λ f. Sized f c.in-Sized-Pad-default.size) c.in-Sized-Pad-default.field-0-is))
+    (whole_rest octets 1)
     c.in_ok-used.ensures.within c.in_ok-used.ensures.header refl IsPad (λ h d. skipped h body d)

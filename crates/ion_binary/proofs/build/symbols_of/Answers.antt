@@ -5,7 +5,8 @@ use Rattle.ion_binary.proofs.Wholes.{ids_more, within_more, take_whole}
 use Rattle.ion_binary.proofs.build.symbols_of.Goals as goal
 
 pub loop-init : goal.loop-init
-loop-init c = subst (λ ss. record { within : 0 ≤ length c.args.ids.now; so_far : Ids c.args.context.now [] ss }) (sym c.new-symbols.ensures.items) (record { within = omega arith; so_far = no_ids })
+loop-init c = subst (λ ss. record { within : 0 ≤ length c.args.ids.now; so_far : Ids c.args.context.now [] ss }) (sym c.new-symbols.ensures.items)
+    (record { within = omega arith; so_far = no_ids })
 
 pub loop-preserved : goal.loop-preserved
 loop-preserved c =
@@ -15,7 +16,9 @@ loop-preserved c =
     let pushed : c.push.new.self.items ≡ c.loop.symbols.items ++ c.in-Ok.symbol ∷ [] = search rules in
     record {
       within = within_more ids at used c.loop.invariant.within c.in_ok-id.ensures.within;
-      so_far = subst (λ ss. Ids c.args.context.now (take (at + used) ids) ss) (sym pushed) (ids_more c.args.context.now ids (take (length ids - at) (drop at ids)) at used c.in_ok-id.id c.in-Ok.symbol c.loop.symbols.items (whole_rest ids at) c.loop.invariant.so_far c.in_ok-id.ensures.is c.in-Ok.ensures);
+      so_far = subst (λ ss. Ids c.args.context.now (take (at + used) ids) ss) (sym pushed)
+          (ids_more c.args.context.now ids (take (length ids - at) (drop at ids)) at used c.in_ok-id.id c.in-Ok.symbol c.loop.symbols.items (whole_rest ids at)
+          c.loop.invariant.so_far c.in_ok-id.ensures.is c.in-Ok.ensures);
     }
 
 pub returns : goal.returns

@@ -5,4 +5,6 @@ use Rattle.ion_binary.proofs.Slotted.{text_scalar}
 use Rattle.ion_binary.proofs.build_scalars.put_text.Goals as goal
 
 pub returns : goal.returns
-returns c = λ _ k. subst (λ p. IsScalar k c.args.body.now scalars.Str p) (sym c.put.ensures) (text_scalar k _ _ (c.if-not-is_utf8.ensures.0 refl) (c.from_string.ensures ∙ (ap (λ v. v.items) c.from_utf8_unchecked-text.ensures.value ∙ c.in-Ok.ensures.items)))
+returns c = λ _ k. subst (λ p. IsScalar k c.args.body.now scalars.Str p) (sym c.put.ensures)
+    (text_scalar k _ _ (c.if-not-is_utf8.ensures.0 refl) (c.from_string.ensures
+    ∙ (ap (λ v. v.items) c.from_utf8_unchecked-text.ensures.value ∙ c.in-Ok.ensures.items)))

@@ -21,7 +21,8 @@ loop-preserved g c =
     record {
       within = within_more ids at used before.within c.in-Some.ensures.within;
       symbols = before.symbols ++ c.in-Ok.symbol.now ∷ [];
-      so_far = ids_more c.args.context.now ids (take (length ids - at) (drop at ids)) at used c.in-Some.id c.in-Ok.symbol.now before.symbols (whole_rest ids at) before.so_far c.in-Some.ensures.is c.in-Ok.ensures;
+      so_far = ids_more c.args.context.now ids (take (length ids - at) (drop at ids)) at used c.in-Some.id c.in-Ok.symbol.now before.symbols (whole_rest ids at)
+          before.so_far c.in-Some.ensures.is c.in-Ok.ensures;
       given = no_table_more before.symbols c.in-Ok.symbol.now before.given other;
       visited = one_annotation before.symbols c.in-Ok.symbol.now _ _ _ before.visited (c.annotation.ensures c.if-not-annotation.false);
     }

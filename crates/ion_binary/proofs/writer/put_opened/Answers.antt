@@ -6,7 +6,8 @@ use Rattle.ion_binary.proofs.writer.put_opened.Goals as goal
 pub returns-in_err-write_whole-clause-front : goal.returns-in_err-write_whole-clause-front
 returns-in_err-write_whole-clause-front g c =
     rw c.if-begun.false (on_err c.from_residual.result
-    (front_first g.W.Outlet.took g.W.Outlet.written the_marker [] c.args.octets.now the_marker refl c.args.out.now c.write_whole-2.new.writer c.in_err-write_whole.ensures.front))
+    (front_first g.W.Outlet.took g.W.Outlet.written the_marker [] c.args.octets.now the_marker refl c.args.out.now c.write_whole-2.new.writer
+    c.in_err-write_whole.ensures.front))
 
 pub returns-clause-front : goal.returns-clause-front
 returns-clause-front g c =

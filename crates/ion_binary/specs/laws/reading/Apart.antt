@@ -71,11 +71,23 @@ unfolding opening_of descriptor_of
 marker_opens = refl
 
 marker_piece : IsPiece the_marker
-marker_piece = record { descriptor = 0xE0; rest = 1 ∷ 0 ∷ 0xEA ∷ []; whole = refl; sized = subst (λ o. IsSizedBy o (1 ∷ 0 ∷ 0xEA ∷ [])) (sym marker_opens) refl }
+marker_piece = record {
+  descriptor = 0xE0;
+  rest = 1 ∷ 0 ∷ 0xEA ∷ [];
+  whole = refl;
+  sized =
+      subst (λ o. IsSizedBy o (1 ∷ 0 ∷ 0xEA ∷ [])) (sym marker_opens) refl;
+}
 
 headed : (form : Form) (n : ℕ) (h body : List ℕ) → n ≡ length body → Header form n h → IsPiece (h ++ body)
 headed form n _ body e (short b o) = record { descriptor = b; rest = body; whole = refl; sized = subst (λ x. IsSizedBy x body) (sym o) (sym e) }
-headed form n _ body e (long b w o v) = record { descriptor = b; rest = w ++ body; whole = refl; sized = subst (λ x. IsSizedBy x (w ++ body)) (sym o) (w, body, refl, subst (VarUInt w) e v) }
+headed form n _ body e (long b w o v) = record {
+  descriptor = b;
+  rest = w ++ body;
+  whole = refl;
+  sized =
+      subst (λ x. IsSizedBy x (w ++ body)) (sym o) (w, body, refl, subst (VarUInt w) e v);
+}
 
 plain_piece : (c : List Slot) (w : List ℕ) (p : Payload) → Plain c w p → IsPiece w
 plain_piece c _ _ (is_null b k o) = record { descriptor = b; rest = []; whole = refl; sized = subst (λ x. IsSizedBy x []) (sym o) refl }
@@ -99,7 +111,8 @@ data ArePieces : List ℕ → Type 0 where
   one_more : (u p : List ℕ) → ArePieces u → IsPiece p → ArePieces (u ++ p)
 
 -- no pieces end within a piece: those that end behind its first octet end with its last, or later
-cut_nowhere : (most : ℕ) (inner front p rest : List ℕ) → length inner ≤ most → ArePieces inner → ArePieces front → IsPiece p → inner ++ rest ≡ front ++ p → length front < length inner → length inner ≡ length (front ++ p)
+cut_nowhere : (most : ℕ) (inner front p rest : List ℕ) → length inner ≤ most → ArePieces inner → ArePieces front → IsPiece p → inner ++ rest ≡ front ++ p
+    → length front < length inner → length inner ≡ length (front ++ p)
 cut_nowhere most _ front p rest few none f i e h = absurd (omega arith)
 cut_nowhere zero _ front p rest few (one_more u q us j) f i e h = absurd (omega (arith, piece_some q j, length-append u q))
 cut_nowhere (suc most) _ front p rest few (one_more u q us j) f i e h =
@@ -190,7 +203,8 @@ module _ (g : Catalog) (l : Limits) where
         nothing [] h = refl
         nothing (o ∷ os) h = absurd (omega arith)
 
-    further : (w : List ℕ) (t : List Value) (c : List Slot) → Pieces g l w t c → t ≡ before ++ v ∷ [] → (span : List ℕ) → w ≡ front ++ span → nodes v ≤ length span
+    further : (w : List ℕ) (t : List Value) (c : List Slot) → Pieces g l w t c → t ≡ before ++ v ∷ [] → (span : List ℕ) → w ≡ front ++ span
+        → nodes v ≤ length span
     further _ _ _ begins e span h = absurd (omega (arith, ap length e, length-append before (v ∷ [])))
     further _ _ _ (marked u s c d) e span h = not_last u the_marker c (subst (λ x. Pieces g l u x c) e d) (further u s c d e) span h
     further _ _ _ (skips u w s c d p) e span h = not_last u w c (subst (λ x. Pieces g l u x c) e d) (further u s c d e) span h
@@ -200,7 +214,8 @@ module _ (g : Catalog) (l : Limits) where
         last_one u w s c d (subst (Binary c w) same b) (subst (Whole g l (u ++ w)) e (document (u ++ w) (s ++ x ∷ []) c (holds u w s c x d b t p q))) span h
 
   -- between whole pieces with the values before a value and whole pieces with it stand at least as many octets as it has nodes
-  pub nodes_between : (front span : List ℕ) (before : List Value) (v : Value) → Whole g l front before → Whole g l (front ++ span) (before ++ v ∷ []) → nodes v ≤ length span
+  pub nodes_between : (front span : List ℕ) (before : List Value) (v : Value) → Whole g l front before → Whole g l (front ++ span) (before ++ v ∷ [])
+      → nodes v ≤ length span
   nodes_between front span before v a b = by (front ++ span) (before ++ v ∷ []) b refl refl
     where
       by : (w : List ℕ) (t : List Value) → Whole g l w t → t ≡ before ++ v ∷ [] → w ≡ front ++ span → nodes v ≤ length span

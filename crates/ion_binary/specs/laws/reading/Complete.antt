@@ -85,7 +85,8 @@ room_less : (l : Limits) (start : ℕ) (fs : List Frame) (form : Form) (a b : �
 room_less l start [] form a b h r = top_less l.item start form a b h r
 room_less l start (f ∷ fs) form a b h r = omega arith
 
-unending_none : (l : Limits) (start : ℕ) (fs : List Frame) (form : Form) (used : ℕ) → HasRoom l start fs form (used + 1) → unending l.item start fs form used ≡ None
+unending_none : (l : Limits) (start : ℕ) (fs : List Frame) (form : Form) (used : ℕ) → HasRoom l start fs form (used + 1) → unending l.item start fs form used
+    ≡ None
 unending_none l start [] form used h = too_long_none l.item start form used (top_less l.item start form used (used + 1) (omega arith) h)
 unending_none l start (f ∷ fs) form used h = cond-true _ _ _ (lt-ltb used (end_of f) (omega arith))
 
@@ -144,9 +145,11 @@ ends_as l start (frames.Named end ms name ∷ fs) form to r = r
 or_none : (a b : Option Reason) → a ≡ None → b ≡ None → or_else a b ≡ None
 or_none a b h k = ap (λ x. or_else x b) h ∙ k
 
-unfit_none : (l : Limits) (start : ℕ) (fs : List Frame) (form : Form) (to : ℕ) → Admits fs form → BodyMayEnd l start fs form to → unfit l.item start fs form to ≡ None
+unfit_none : (l : Limits) (start : ℕ) (fs : List Frame) (form : Form) (to : ℕ) → Admits fs form → BodyMayEnd l start fs form to → unfit l.item start fs form to
+    ≡ None
 unfit_none l start fs form to a h =
-    or_none (stray fs form) (or_else (misfits l.item start fs form to) (nameless fs form)) a.fitting (or_none (misfits l.item start fs form to) (nameless fs form) (misfits_none l start fs form to h) a.named)
+    or_none (stray fs form) (or_else (misfits l.item start fs form to) (nameless fs form)) a.fitting
+    (or_none (misfits l.item start fs form to) (nameless fs form) (misfits_none l start fs form to h) a.named)
 
 -- numbers
 
@@ -195,33 +198,43 @@ pad_some _ (skipped h body d) = joined_some h body (header_some _ _ h d)
 
 module _ (g : Catalog) (l : Limits) where
   -- where there is room, the header's end begins the body
-  sized_begins : (spot : Spot) (fs : List Frame) (form : Form) (n : ℕ) → hollow form n ≡ None → Admits fs form → BodyMayEnd l spot.start fs form (spot.used + n) → sized (under g l) spot fs form n ≡ begin (under g l) spot fs form n
-  sized_begins spot fs form n hol a r = ap (λ o. unless o (unless (unfit l.item spot.start fs form (spot.used + n)) (begin (under g l) spot fs form n))) hol ∙ ap (λ o. unless o (begin (under g l) spot fs form n)) (unfit_none l spot.start fs form (spot.used + n) a r)
+  sized_begins : (spot : Spot) (fs : List Frame) (form : Form) (n : ℕ) → hollow form n ≡ None → Admits fs form → BodyMayEnd l spot.start fs form (spot.used + n)
+      → sized (under g l) spot fs form n ≡ begin (under g l) spot fs form n
+  sized_begins spot fs form n hol a r = ap (λ o. unless o (unless (unfit l.item spot.start fs form (spot.used + n)) (begin (under g l) spot fs form n))) hol
+      ∙ ap (λ o. unless o (begin (under g l) spot fs form n)) (unfit_none l spot.start fs form (spot.used + n) a r)
 
-  unsized_goes : (spot : Spot) (fs : List Frame) (form : Form) → Admits fs form → HasRoom l spot.start fs form (spot.used + 1) → unsized (under g l) spot fs form ≡ Outcome.goes (at spot fs (InNumber (purposes.Length form) 0))
+  unsized_goes : (spot : Spot) (fs : List Frame) (form : Form) → Admits fs form → HasRoom l spot.start fs form (spot.used + 1)
+      → unsized (under g l) spot fs form ≡ Outcome.goes (at spot fs (InNumber (purposes.Length form) 0))
   unsized_goes spot fs form a r =
-      ap (λ o. unless o (unless (unending l.item spot.start fs form spot.used) (unless (nameless fs form) (Outcome.goes (at spot fs (InNumber (purposes.Length form) 0)))))) a.fitting
-      ∙ (ap (λ o. unless o (unless (nameless fs form) (Outcome.goes (at spot fs (InNumber (purposes.Length form) 0))))) (unending_none l spot.start fs form spot.used r)
+      ap (λ o. unless o (unless (unending l.item spot.start fs form spot.used)
+      (unless (nameless fs form) (Outcome.goes (at spot fs (InNumber (purposes.Length form) 0)))))) a.fitting
+      ∙ (ap (λ o. unless o (unless (nameless fs form) (Outcome.goes (at spot fs (InNumber (purposes.Length form) 0)))))
+      (unending_none l spot.start fs form spot.used r)
       ∙ ap (λ o. unless o (Outcome.goes (at spot fs (InNumber (purposes.Length form) 0)))) a.named)
 
-  longer_goes : (spot : Spot) (fs : List Frame) (p : Purpose) (a : ℕ) → NumberRoom l spot.start fs p (spot.used + 1) → longer (under g l) spot fs p a ≡ Outcome.goes (at spot fs (InNumber p a))
+  longer_goes : (spot : Spot) (fs : List Frame) (p : Purpose) (a : ℕ) → NumberRoom l spot.start fs p (spot.used + 1) → longer (under g l) spot fs p a
+      ≡ Outcome.goes (at spot fs (InNumber p a))
   longer_goes spot fs p a r = ap (λ o. unless o (Outcome.goes (at spot fs (InNumber p a)))) (past_none l spot.start fs p spot.used r)
 
   -- one more digit
-  digit_step : (spot : Spot) (fs : List Frame) (p : Purpose) (a d to n : ℕ) → d < 128 → n ≡ 128 * a + d → n < 2 ^ 63 → to ≡ spot.used + 1 → NumberRoom l spot.start fs p (to + 1)
+  digit_step : (spot : Spot) (fs : List Frame) (p : Purpose) (a d to n : ℕ) → d < 128 → n ≡ 128 * a + d → n < 2 ^ 63 → to ≡ spot.used + 1
+      → NumberRoom l spot.start fs p (to + 1)
       → feed (under g l) (at spot fs (InNumber p a)) d ≡ Outcome.goes (at (moved spot to) fs (InNumber p n))
   digit_step spot fs p a d to n h e k i r =
-      rw (e, i) (cond-true _ _ _ (lt-ltb d 128 h) ∙ (cond-true _ _ _ (lt-ltb (128 * a + d) (2 ^ 63) (omega arith)) ∙ longer_goes (moved spot (spot.used + 1)) fs p (128 * a + d) (rw i at r)))
+      rw (e, i) (cond-true _ _ _ (lt-ltb d 128 h) ∙ (cond-true _ _ _ (lt-ltb (128 * a + d) (2 ^ 63) (omega arith))
+      ∙ longer_goes (moved spot (spot.used + 1)) fs p (128 * a + d) (rw i at r)))
 
   -- the digits of a number but the last
-  digits_run : (spot : Spot) (fs : List Frame) (p : Purpose) (ds : List ℕ) (to : ℕ) → Digits128 ds → positional 128 ds < 2 ^ 63 → to ≡ spot.used + length ds → NumberRoom l spot.start fs p (to + 1)
+  digits_run : (spot : Spot) (fs : List Frame) (p : Purpose) (ds : List ℕ) (to : ℕ) → Digits128 ds → positional 128 ds < 2 ^ 63 → to ≡ spot.used + length ds
+      → NumberRoom l spot.start fs p (to + 1)
       → run g l spot.used (at spot fs (InNumber p 0)) ds ≡ led (at (moved spot to) fs (InNumber p (positional 128 ds)))
   digits_run spot fs p _ to none h e r = ap (λ n. led (at (moved spot n) fs (InNumber p 0))) (omega arith)
   digits_run spot fs p _ to (more ds d q0 q) h e r =
       let i = digits_more ds d in
       let k = length-one ds d in
       let mid = spot.used + length ds in
-      run_step g l spot.used mid _ (at (moved spot mid) fs (InNumber p (positional 128 ds))) _ ds d refl (digits_run spot fs p ds mid q0 (omega arith) refl (number_less l spot.start fs p _ _ (omega arith) r))
+      run_step g l spot.used mid _ (at (moved spot mid) fs (InNumber p (positional 128 ds))) _ ds d refl
+      (digits_run spot fs p ds mid q0 (omega arith) refl (number_less l spot.start fs p _ _ (omega arith) r))
       (ap (run_after (mid + 1)) (digit_step (moved spot mid) fs p (positional 128 ds) d to _ q i h (omega arith) r))
 
   -- the last octet of a number
@@ -231,7 +244,8 @@ module _ (g : Catalog) (l : Limits) where
       rw i (cond-false _ _ _ (le-ltb b 128 h) ∙ rw (← e) (cond-true _ _ _ (lt-ltb n (2 ^ 63) k)))
 
   -- a whole VarUInt
-  pub number_run : (spot : Spot) (fs : List Frame) (p : Purpose) (w : List ℕ) (n to : ℕ) → VarUInt w n → to ≡ spot.used + length w → NumberRoom l spot.start fs p to
+  pub number_run : (spot : Spot) (fs : List Frame) (p : Purpose) (w : List ℕ) (n to : ℕ) → VarUInt w n → to ≡ spot.used + length w
+      → NumberRoom l spot.start fs p to
       → run g l spot.used (at spot fs (InNumber p 0)) w ≡ run_after to (number_came (under g l) (moved spot to) fs p n)
   number_run spot fs p w n to v e r =
       let i = positional_push 128 v.digits v.last in
@@ -241,31 +255,42 @@ module _ (g : Catalog) (l : Limits) where
       let mid = spot.used + length v.digits in
       let j : mid + 1 ≡ to = omega arith in
       rw v.octets
-      (run_step g l spot.used mid _ (at (moved spot mid) fs (InNumber p (positional 128 v.digits))) _ v.digits (128 + v.last) refl (digits_run spot fs p v.digits mid v.small (omega arith) refl (number_less l spot.start fs p _ _ (omega arith) r))
-      (ap (run_after (mid + 1)) (last_step (moved spot mid) fs p (positional 128 v.digits) (128 + v.last) to n (omega arith) (omega arith) vb (omega arith)) ∙ ap (λ x. run_after x (number_came (under g l) (moved spot to) fs p n)) j))
+      (run_step g l spot.used mid _ (at (moved spot mid) fs (InNumber p (positional 128 v.digits))) _ v.digits (128 + v.last) refl
+      (digits_run spot fs p v.digits mid v.small (omega arith) refl (number_less l spot.start fs p _ _ (omega arith) r))
+      (ap (run_after (mid + 1)) (last_step (moved spot mid) fs p (positional 128 v.digits) (128 + v.last) to n (omega arith) (omega arith) vb (omega arith))
+      ∙ ap (λ x. run_after x (number_came (under g l) (moved spot to) fs p n)) j))
 
   -- a header, where its body may end
-  pub header_run : (spot : Spot) (fs : List Frame) (form : Form) (h : List ℕ) (n to : ℕ) → Header form n h → hollow form n ≡ None → Admits fs form → to ≡ spot.used + length h → BodyMayEnd l spot.start fs form (to + n)
+  pub header_run : (spot : Spot) (fs : List Frame) (form : Form) (h : List ℕ) (n to : ℕ) → Header form n h → hollow form n ≡ None → Admits fs form
+      → to ≡ spot.used + length h → BodyMayEnd l spot.start fs form (to + n)
       → run g l spot.used (at spot fs Ready) h ≡ run_after to (begin (under g l) (moved spot to) fs form n)
   header_run spot fs form _ n to (short b d) hol a e r =
-      rw e (ap (λ x. run_after (spot.used + 1) (on_descriptor (under g l) (moved spot (spot.used + 1)) fs x)) d ∙ ap (run_after (spot.used + 1)) (sized_begins (moved spot (spot.used + 1)) fs form n hol a (rw e at r)))
+      rw e (ap (λ x. run_after (spot.used + 1) (on_descriptor (under g l) (moved spot (spot.used + 1)) fs x)) d
+      ∙ ap (run_after (spot.used + 1)) (sized_begins (moved spot (spot.used + 1)) fs form n hol a (rw e at r)))
   header_run spot fs form _ n to (long b h d v) hol a e r =
       let k = length_VarUInt h n v in
       run_via g l spot.used (spot.used + 1) (at spot fs Ready) (at (moved spot (spot.used + 1)) fs (InNumber (purposes.Length form) 0)) _ (b ∷ []) h refl
-      (ap (λ x. run_after (spot.used + 1) (on_descriptor (under g l) (moved spot (spot.used + 1)) fs x)) d ∙ ap (run_after (spot.used + 1)) (unsized_goes (moved spot (spot.used + 1)) fs form a (ends_room l spot.start fs form _ _ (omega arith) r)))
-      (number_run (moved spot (spot.used + 1)) fs (purposes.Length form) h n to v (omega arith) (ends_room l spot.start fs form _ _ (omega arith) r) ∙ ap (run_after to) (sized_begins (moved spot to) fs form n hol a r))
+      (ap (λ x. run_after (spot.used + 1) (on_descriptor (under g l) (moved spot (spot.used + 1)) fs x)) d
+      ∙ ap (run_after (spot.used + 1)) (unsized_goes (moved spot (spot.used + 1)) fs form a (ends_room l spot.start fs form _ _ (omega arith) r)))
+      (number_run (moved spot (spot.used + 1)) fs (purposes.Length form) h n to v (omega arith) (ends_room l spot.start fs form _ _ (omega arith) r)
+      ∙ ap (run_after to) (sized_begins (moved spot to) fs form n hol a r))
 
   -- bodies
 
-  pub body_more : (spot : Spot) (fs : List Frame) (t : Scalar) (n : ℕ) (came : List ℕ) (b : ℕ) → on_body (under g l) spot fs t (suc n) (came ++ b ∷ []) ≡ Outcome.goes (in_body spot fs t n (came ++ b ∷ []))
+  pub body_more : (spot : Spot) (fs : List Frame) (t : Scalar) (n : ℕ) (came : List ℕ) (b : ℕ) → on_body (under g l) spot fs t (suc n) (came ++ b ∷ [])
+      ≡ Outcome.goes (in_body spot fs t n (came ++ b ∷ []))
   body_more spot fs t n came b =
-      cond-false _ _ _ (ne_eqb (suc n) 0 (λ e. omega arith)) ∙ ap (λ k. Outcome.goes (in_body spot fs t k (came ++ b ∷ []))) (let j : suc n - 1 ≡ n = omega arith in j)
+      cond-false _ _ _ (ne_eqb (suc n) 0 (λ e. omega arith))
+      ∙ ap (λ k. Outcome.goes (in_body spot fs t k (came ++ b ∷ []))) (let j : suc n - 1 ≡ n = omega arith in j)
 
   pub pad_more : (spot : Spot) (fs : List Frame) (n : ℕ) → on_pad (under g l) spot fs (suc n) ≡ Outcome.goes (at spot fs (InPad n))
-  pad_more spot fs n = cond-false _ _ _ (ne_eqb (suc n) 0 (λ e. omega arith)) ∙ ap (λ k. Outcome.goes (at spot fs (InPad k))) (let j : suc n - 1 ≡ n = omega arith in j)
+  pad_more spot fs n = cond-false _ _ _ (ne_eqb (suc n) 0 (λ e. omega arith))
+      ∙ ap (λ k. Outcome.goes (at spot fs (InPad k))) (let j : suc n - 1 ≡ n = omega arith in j)
 
-  pub begin_scalar : (spot : Spot) (fs : List Frame) (t : Scalar) (n : ℕ) → begin (under g l) spot fs (forms.Scalar t) (suc n) ≡ Outcome.goes (in_body spot fs t n [])
-  begin_scalar spot fs t n = cond-false _ _ _ (ne_eqb (suc n) 0 (λ e. omega arith)) ∙ ap (λ k. Outcome.goes (in_body spot fs t k [])) (let j : suc n - 1 ≡ n = omega arith in j)
+  pub begin_scalar : (spot : Spot) (fs : List Frame) (t : Scalar) (n : ℕ) → begin (under g l) spot fs (forms.Scalar t) (suc n)
+      ≡ Outcome.goes (in_body spot fs t n [])
+  begin_scalar spot fs t n = cond-false _ _ _ (ne_eqb (suc n) 0 (λ e. omega arith))
+      ∙ ap (λ k. Outcome.goes (in_body spot fs t k [])) (let j : suc n - 1 ≡ n = omega arith in j)
 
   pub begin_pad : (spot : Spot) (fs : List Frame) (n : ℕ) → begin (under g l) spot fs forms.Pad (suc n) ≡ Outcome.goes (at spot fs (InPad n))
   begin_pad spot fs n = pad_more spot fs n
@@ -273,7 +298,8 @@ module _ (g : Catalog) (l : Limits) where
   pub begin_ordered : (spot : Spot) (fs : List Frame) (n : ℕ) → begin (under g l) spot fs forms.OrderedStruct n ≡ open_struct (under g l) spot fs n
   begin_ordered spot fs n = refl
 
-  pub begin_wrapper : (spot : Spot) (fs : List Frame) (n : ℕ) → begin (under g l) spot fs forms.Wrapper n ≡ Outcome.goes (at spot (frames.Annotated (spot.used + n) [] ∷ fs) (InNumber purposes.AnnotationsLength 0))
+  pub begin_wrapper : (spot : Spot) (fs : List Frame) (n : ℕ) → begin (under g l) spot fs forms.Wrapper n
+      ≡ Outcome.goes (at spot (frames.Annotated (spot.used + n) [] ∷ fs) (InNumber purposes.AnnotationsLength 0))
   begin_wrapper spot fs n = refl
 
   -- the octets of a body, behind those that have come
@@ -284,7 +310,9 @@ module _ (g : Catalog) (l : Limits) where
   body_run spot fs t zero came (b ∷ d ∷ bs) to h e = absurd (omega arith)
   body_run spot fs t (suc n) came [] to h e = absurd (omega arith)
   body_run spot fs t (suc n) came (b ∷ bs) to h e =
-      ap (run_on (spot.used + 1) (λ m. run g l (spot.used + 1) m bs)) (body_more (moved spot (spot.used + 1)) fs t n came b) ∙ body_run (moved spot (spot.used + 1)) fs t n (came ++ b ∷ []) bs to (omega arith) (omega arith) ∙ ap (λ x. run_after to (judged (under g l) (moved spot to) fs (judge spot.context t x))) (append_assoc came (b ∷ []) bs)
+      ap (run_on (spot.used + 1) (λ m. run g l (spot.used + 1) m bs)) (body_more (moved spot (spot.used + 1)) fs t n came b)
+      ∙ body_run (moved spot (spot.used + 1)) fs t n (came ++ b ∷ []) bs to (omega arith) (omega arith)
+      ∙ ap (λ x. run_after to (judged (under g l) (moved spot to) fs (judge spot.context t x))) (append_assoc came (b ∷ []) bs)
 
   pad_run : (spot : Spot) (fs : List Frame) (n : ℕ) (body : List ℕ) (to : ℕ) → length body ≡ suc n → to ≡ spot.used + length body
       → run g l spot.used (at spot fs (InPad n)) body ≡ run_after to (proceed (under g l) (moved spot to) fs)
@@ -292,10 +320,12 @@ module _ (g : Catalog) (l : Limits) where
   pad_run spot fs zero (b ∷ []) to h e = rw e refl
   pad_run spot fs zero (b ∷ d ∷ bs) to h e = absurd (omega arith)
   pad_run spot fs (suc n) [] to h e = absurd (omega arith)
-  pad_run spot fs (suc n) (b ∷ bs) to h e = ap (run_on (spot.used + 1) (λ m. run g l (spot.used + 1) m bs)) (pad_more (moved spot (spot.used + 1)) fs n) ∙ pad_run (moved spot (spot.used + 1)) fs n bs to (omega arith) (omega arith)
+  pad_run spot fs (suc n) (b ∷ bs) to h e = ap (run_on (spot.used + 1) (λ m. run g l (spot.used + 1) m bs)) (pad_more (moved spot (spot.used + 1)) fs n)
+      ∙ pad_run (moved spot (spot.used + 1)) fs n bs to (omega arith) (omega arith)
 
   -- a run from a header on
-  from_header : (spot : Spot) (fs : List Frame) (form : Form) (h body : List ℕ) (mid : ℕ) (r : Run) → Header form (length body) h → hollow form (length body) ≡ None → Admits fs form → mid ≡ spot.used + length h → BodyMayEnd l spot.start fs form (mid + length body)
+  from_header : (spot : Spot) (fs : List Frame) (form : Form) (h body : List ℕ) (mid : ℕ) (r : Run) → Header form (length body) h → hollow form (length body)
+      ≡ None → Admits fs form → mid ≡ spot.used + length h → BodyMayEnd l spot.start fs form (mid + length body)
       → run_on mid (λ n. run g l mid n body) (begin (under g l) (moved spot mid) fs form (length body)) ≡ r
       → run g l spot.used (at spot fs Ready) (h ++ body) ≡ r
   from_header spot fs form h body mid r d hol a e room k =
@@ -303,42 +333,55 @@ module _ (g : Catalog) (l : Limits) where
       ∙ (ap (λ x. then_run x (λ n. run g l mid n body)) (header_run spot fs form h (length body) mid d hol a e room)
       ∙ (then_after mid (begin (under g l) (moved spot mid) fs form (length body)) (λ n. run g l mid n body) ∙ k))
 
-  scalar_begins : (spot : Spot) (fs : List Frame) (t : Scalar) (body : List ℕ) (p : Payload) (to : ℕ) → judge spot.context t body ≡ Ok p → to ≡ spot.used + length body
-      → run_on spot.used (λ n. run g l spot.used n body) (begin (under g l) spot fs (forms.Scalar t) (length body)) ≡ run_after to (deliver (under g l) (moved spot to) fs (bare p))
+  scalar_begins : (spot : Spot) (fs : List Frame) (t : Scalar) (body : List ℕ) (p : Payload) (to : ℕ) → judge spot.context t body ≡ Ok p
+      → to ≡ spot.used + length body
+      → run_on spot.used (λ n. run g l spot.used n body) (begin (under g l) spot fs (forms.Scalar t) (length body))
+      ≡ run_after to (deliver (under g l) (moved spot to) fs (bare p))
   scalar_begins spot fs t [] p to i e =
-      ap (λ x. run_after spot.used (judged (under g l) spot fs x)) i ∙ ap (λ n. run_after n (deliver (under g l) (moved spot n) fs (bare p))) (let j : spot.used ≡ to = omega arith in j)
+      ap (λ x. run_after spot.used (judged (under g l) spot fs x)) i
+      ∙ ap (λ n. run_after n (deliver (under g l) (moved spot n) fs (bare p))) (let j : spot.used ≡ to = omega arith in j)
   scalar_begins spot fs t (b ∷ bs) p to i e =
-      ap (run_on spot.used (λ m. run g l spot.used m (b ∷ bs))) (begin_scalar spot fs t (length bs)) ∙ body_run spot fs t (length bs) [] (b ∷ bs) to refl e ∙ ap (λ x. run_after to (judged (under g l) (moved spot to) fs x)) i
+      ap (run_on spot.used (λ m. run g l spot.used m (b ∷ bs))) (begin_scalar spot fs t (length bs)) ∙ body_run spot fs t (length bs) [] (b ∷ bs) to refl e
+      ∙ ap (λ x. run_after to (judged (under g l) (moved spot to) fs x)) i
 
   pad_begins : (spot : Spot) (fs : List Frame) (body : List ℕ) (to : ℕ) → to ≡ spot.used + length body
-      → run_on spot.used (λ n. run g l spot.used n body) (begin (under g l) spot fs forms.Pad (length body)) ≡ run_after to (proceed (under g l) (moved spot to) fs)
+      → run_on spot.used (λ n. run g l spot.used n body) (begin (under g l) spot fs forms.Pad (length body))
+      ≡ run_after to (proceed (under g l) (moved spot to) fs)
   pad_begins spot fs [] to e = ap (λ n. run_after n (proceed (under g l) (moved spot n) fs)) (let j : spot.used ≡ to = omega arith in j)
-  pad_begins spot fs (b ∷ bs) to e = ap (run_on spot.used (λ m. run g l spot.used m (b ∷ bs))) (begin_pad spot fs (length bs)) ∙ pad_run spot fs (length bs) (b ∷ bs) to refl e
+  pad_begins spot fs (b ∷ bs) to e = ap (run_on spot.used (λ m. run g l spot.used m (b ∷ bs))) (begin_pad spot fs (length bs))
+      ∙ pad_run spot fs (length bs) (b ∷ bs) to refl e
 
-  pub skip_run : (spot : Spot) (fs : List Frame) (w : List ℕ) (to : ℕ) → IsPad w → Admits fs forms.Pad → to ≡ spot.used + length w → BodyMayEnd l spot.start fs forms.Pad to
+  pub skip_run : (spot : Spot) (fs : List Frame) (w : List ℕ) (to : ℕ) → IsPad w → Admits fs forms.Pad → to ≡ spot.used + length w
+      → BodyMayEnd l spot.start fs forms.Pad to
       → run g l spot.used (at spot fs Ready) w ≡ run_after to (proceed (under g l) (moved spot to) fs)
   skip_run spot fs _ to (skipped h body d) a e r =
       let k = length-append h body in
       let m : to ≡ spot.used + length h + length body = omega arith in
-      from_header spot fs forms.Pad h body (spot.used + length h) _ d refl a refl (subst (BodyMayEnd l spot.start fs forms.Pad) m r) (pad_begins (moved spot (spot.used + length h)) fs body to m)
+      from_header spot fs forms.Pad h body (spot.used + length h) _ d refl a refl (subst (BodyMayEnd l spot.start fs forms.Pad) m r)
+      (pad_begins (moved spot (spot.used + length h)) fs body to m)
 
   -- where a container goes on, it waits for what comes next
-  pub items_go : (spot : Spot) (fs : List Frame) (end : ℕ) (x : Listing) (vs : List Value) → spot.used < end → proceed (under g l) spot (frames.Items end x vs ∷ fs) ≡ Outcome.goes (at spot (frames.Items end x vs ∷ fs) Ready)
+  pub items_go : (spot : Spot) (fs : List Frame) (end : ℕ) (x : Listing) (vs : List Value) → spot.used < end
+      → proceed (under g l) spot (frames.Items end x vs ∷ fs) ≡ Outcome.goes (at spot (frames.Items end x vs ∷ fs) Ready)
   items_go spot fs end x vs h = cond-false _ _ _ (ne_eqb spot.used end (λ e. omega arith))
 
-  pub fields_go : (spot : Spot) (fs : List Frame) (end : ℕ) (ms : List Field) → spot.used < end → proceed (under g l) spot (frames.Fields end ms ∷ fs) ≡ Outcome.goes (at spot (frames.Fields end ms ∷ fs) (InNumber purposes.FieldName 0))
+  pub fields_go : (spot : Spot) (fs : List Frame) (end : ℕ) (ms : List Field) → spot.used < end → proceed (under g l) spot (frames.Fields end ms ∷ fs)
+      ≡ Outcome.goes (at spot (frames.Fields end ms ∷ fs) (InNumber purposes.FieldName 0))
   fields_go spot fs end ms h = cond-false _ _ _ (ne_eqb spot.used end (λ e. omega arith))
 
   -- a field name, where a value or a pad follows
-  pub name_run : (spot : Spot) (fs : List Frame) (end : ℕ) (ms : List Field) (id : List ℕ) (k to : ℕ) (r : Result (Option (List ℕ)) Reason) → VarUInt id k → resolve spot.context k ≡ r → to ≡ spot.used + length id → to < end
+  pub name_run : (spot : Spot) (fs : List Frame) (end : ℕ) (ms : List Field) (id : List ℕ) (k to : ℕ) (r : Result (Option (List ℕ)) Reason) → VarUInt id k
+      → resolve spot.context k ≡ r → to ≡ spot.used + length id → to < end
       → run g l spot.used (at spot (frames.Fields end ms ∷ fs) (InNumber purposes.FieldName 0)) id ≡ led (at (moved spot to) (frames.Named end ms r ∷ fs) Ready)
   name_run spot fs end ms id k to r v i h e =
       number_run spot (frames.Fields end ms ∷ fs) purposes.FieldName id k to v h (omega arith)
       ∙ (ap (run_after to) (cond-true _ _ _ (lt-ltb to end e)) ∙ ap (λ n. led (at (moved spot to) (frames.Named end ms n ∷ fs) Ready)) i)
 
   -- the annotations
-  pub ids_run : (spot : Spot) (fs : List Frame) (end stop : ℕ) (us : List ℕ) (ss : List (Option (List ℕ))) (to : ℕ) → Ids spot.context us ss → spot.used < stop → to ≡ spot.used + length us → to ≤ stop
-      → run g l spot.used (at spot (frames.Annotated end [] ∷ fs) (InNumber (purposes.Annotation stop) 0)) us ≡ led (at (moved spot to) (frames.Annotated end ss ∷ fs) (cond (to == stop) Ready (InNumber (purposes.Annotation stop) 0)))
+  pub ids_run : (spot : Spot) (fs : List Frame) (end stop : ℕ) (us : List ℕ) (ss : List (Option (List ℕ))) (to : ℕ) → Ids spot.context us ss → spot.used < stop
+      → to ≡ spot.used + length us → to ≤ stop
+      → run g l spot.used (at spot (frames.Annotated end [] ∷ fs) (InNumber (purposes.Annotation stop) 0)) us
+      ≡ led (at (moved spot to) (frames.Annotated end ss ∷ fs) (cond (to == stop) Ready (InNumber (purposes.Annotation stop) 0)))
   ids_run spot fs end stop _ _ to no_ids h i j =
       let n : to ≡ spot.used = omega arith in
       rw n (ap (λ ph. led (at spot (frames.Annotated end [] ∷ fs) ph)) (sym (cond-false _ _ _ (ne_eqb spot.used stop (λ k. omega arith)))))
@@ -347,17 +390,23 @@ module _ (g : Catalog) (l : Limits) where
       let m = length_VarUInt w k v in
       let mid = spot.used + length us in
       run_via g l spot.used mid _ (at (moved spot mid) (frames.Annotated end ss ∷ fs) (InNumber (purposes.Annotation stop) 0)) _ us w refl
-      (ids_run spot fs end stop us ss mid b h refl (omega arith) ∙ ap (λ ph. led (at (moved spot mid) (frames.Annotated end ss ∷ fs) ph)) (cond-false _ _ _ (ne_eqb mid stop (λ k. omega arith))))
-      (number_run (moved spot mid) (frames.Annotated end ss ∷ fs) (purposes.Annotation stop) w k to v (omega arith) j ∙ ap (λ x. run_after to (annotation_came (moved spot to) (frames.Annotated end ss ∷ fs) stop x)) r)
+      (ids_run spot fs end stop us ss mid b h refl (omega arith)
+      ∙ ap (λ ph. led (at (moved spot mid) (frames.Annotated end ss ∷ fs) ph)) (cond-false _ _ _ (ne_eqb mid stop (λ k. omega arith))))
+      (number_run (moved spot mid) (frames.Annotated end ss ∷ fs) (purposes.Annotation stop) w k to v (omega arith) j
+      ∙ ap (λ x. run_after to (annotation_came (moved spot to) (frames.Annotated end ss ∷ fs) stop x)) r)
 
   pub count_goes : (spot : Spot) (fs : List Frame) (end n : ℕ) (ss : List (Option (List ℕ))) → 0 < n → spot.used + n < end
-      → count_came spot (frames.Annotated end ss ∷ fs) n ≡ Outcome.goes (at spot (frames.Annotated end ss ∷ fs) (InNumber (purposes.Annotation (spot.used + n)) 0))
+      → count_came spot (frames.Annotated end ss ∷ fs) n ≡ Outcome.goes
+      (at spot (frames.Annotated end ss ∷ fs) (InNumber (purposes.Annotation (spot.used + n)) 0))
   count_goes spot fs end n ss h r = cond-false _ _ _ (ne_eqb n 0 (λ k. omega arith)) ∙ cond-true _ _ _ (lt-ltb (spot.used + n) end r)
 
   -- a wrapper up to its value
-  wrapper_run : (spot : Spot) (fs : List Frame) (h count ids w : List ℕ) (ss : List (Option (List ℕ))) (end : ℕ) → Header forms.Wrapper (length (count ++ (ids ++ w))) h → VarUInt count (length ids) → 0 < length ids → Ids spot.context ids ss → 0 < length w → Admits fs forms.Wrapper
+  wrapper_run : (spot : Spot) (fs : List Frame) (h count ids w : List ℕ) (ss : List (Option (List ℕ))) (end : ℕ)
+      → Header forms.Wrapper (length (count ++ (ids ++ w))) h → VarUInt count (length ids) → 0 < length ids → Ids spot.context ids ss → 0 < length w
+      → Admits fs forms.Wrapper
       → end ≡ spot.used + length h + (length count + (length ids + length w)) → BodyMayEnd l spot.start fs forms.Wrapper end
-      → (r : Run) → run g l (spot.used + length h + length count + length ids) (at (moved spot (spot.used + length h + length count + length ids)) (frames.Annotated end ss ∷ fs) Ready) w ≡ r
+      → (r : Run) → run g l (spot.used + length h + length count + length ids)
+      (at (moved spot (spot.used + length h + length count + length ids)) (frames.Annotated end ss ∷ fs) Ready) w ≡ r
       → run g l spot.used (at spot fs Ready) (h ++ (count ++ (ids ++ w))) ≡ r
   wrapper_run spot fs h count ids w ss end d v n i m a e x r k =
       let n1 = length-append count (ids ++ w) in
@@ -366,22 +415,30 @@ module _ (g : Catalog) (l : Limits) where
       let mid2 = mid + length count in
       let mid3 = mid2 + length ids in
       let is_end : end ≡ mid + length (count ++ (ids ++ w)) = omega arith in
-      from_header spot fs forms.Wrapper h (count ++ (ids ++ w)) mid r d (cond-false _ _ _ (ne_eqb (length (count ++ (ids ++ w))) 0 (λ e. omega arith))) a refl (subst (BodyMayEnd l spot.start fs forms.Wrapper) is_end x)
+      from_header spot fs forms.Wrapper h (count ++ (ids ++ w)) mid r d (cond-false _ _ _ (ne_eqb (length (count ++ (ids ++ w))) 0 (λ e. omega arith))) a refl
+      (subst (BodyMayEnd l spot.start fs forms.Wrapper) is_end x)
       (ap (run_on mid (λ n. run g l mid n (count ++ (ids ++ w)))) (begin_wrapper (moved spot mid) fs (length (count ++ (ids ++ w))))
-      ∙ rw (← is_end) (run_via g l mid mid2 (at (moved spot mid) (frames.Annotated end [] ∷ fs) (InNumber purposes.AnnotationsLength 0)) (at (moved spot mid2) (frames.Annotated end [] ∷ fs) (InNumber (purposes.Annotation mid3) 0)) r count (ids ++ w) refl
-      (number_run (moved spot mid) (frames.Annotated end [] ∷ fs) purposes.AnnotationsLength count (length ids) mid2 v refl (omega arith) ∙ ap (run_after mid2) (count_goes (moved spot mid2) fs end (length ids) [] n (omega arith)))
+      ∙ rw (← is_end) (run_via g l mid mid2 (at (moved spot mid) (frames.Annotated end [] ∷ fs) (InNumber purposes.AnnotationsLength 0))
+      (at (moved spot mid2) (frames.Annotated end [] ∷ fs) (InNumber (purposes.Annotation mid3) 0)) r count (ids ++ w) refl
+      (number_run (moved spot mid) (frames.Annotated end [] ∷ fs) purposes.AnnotationsLength count (length ids) mid2 v refl (omega arith)
+      ∙ ap (run_after mid2) (count_goes (moved spot mid2) fs end (length ids) [] n (omega arith)))
       (run_via g l mid2 mid3 _ (at (moved spot mid3) (frames.Annotated end ss ∷ fs) Ready) r ids w refl
-      (ids_run (moved spot mid2) fs end mid3 ids ss mid3 i (omega arith) refl (omega arith) ∙ ap (λ ph. led (at (moved spot mid3) (frames.Annotated end ss ∷ fs) ph)) (cond-true _ _ _ (eq-eqb mid3 mid3 refl)))
+      (ids_run (moved spot mid2) fs end mid3 ids ss mid3 i (omega arith) refl (omega arith)
+      ∙ ap (λ ph. led (at (moved spot mid3) (frames.Annotated end ss ∷ fs) ph)) (cond-true _ _ _ (eq-eqb mid3 mid3 refl)))
       k)))
 
-  one_run : (spot : Spot) (fs : List Frame) (to : ℕ) (p : Payload) → to ≡ spot.used + 1 → nameless fs forms.Struct ≡ None → BodyMayEnd l spot.start fs forms.Struct to
+  one_run : (spot : Spot) (fs : List Frame) (to : ℕ) (p : Payload) → to ≡ spot.used + 1 → nameless fs forms.Struct ≡ None
+      → BodyMayEnd l spot.start fs forms.Struct to
       → run_after (spot.used + 1) (one_octet (under g l) (moved spot (spot.used + 1)) fs p) ≡ run_after to (deliver (under g l) (moved spot to) fs (bare p))
-  one_run spot fs to p e a r = rw (← e) (ap (λ o. run_after to (unless o (deliver (under g l) (moved spot to) fs (bare p)))) (unfit_none l spot.start fs forms.Struct to (admits_plain fs forms.Struct refl refl a) r))
+  one_run spot fs to p e a r = rw (← e) (ap (λ o. run_after to (unless o (deliver (under g l) (moved spot to) fs (bare p))))
+      (unfit_none l spot.start fs forms.Struct to (admits_plain fs forms.Struct refl refl a) r))
 
   -- the body of a struct, where its fields run so
   struct_run : (spot : Spot) (fs : List Frame) (to : ℕ) (body : List ℕ) (ms : List Field) → to ≡ spot.used + length body → levels fs < l.depth
-      → run_on spot.used (λ n. run g l spot.used n body) (proceed (under g l) spot (frames.Fields (spot.used + length body) [] ∷ fs)) ≡ run_after to (proceed (under g l) (moved spot to) (frames.Fields (spot.used + length body) ms ∷ fs))
-      → run_on spot.used (λ n. run g l spot.used n body) (open_struct (under g l) spot fs (length body)) ≡ run_after to (deliver (under g l) (moved spot to) fs (bare (payloads.Fields ms)))
+      → run_on spot.used (λ n. run g l spot.used n body) (proceed (under g l) spot (frames.Fields (spot.used + length body) [] ∷ fs))
+      ≡ run_after to (proceed (under g l) (moved spot to) (frames.Fields (spot.used + length body) ms ∷ fs))
+      → run_on spot.used (λ n. run g l spot.used n body) (open_struct (under g l) spot fs (length body))
+      ≡ run_after to (deliver (under g l) (moved spot to) fs (bare (payloads.Fields ms)))
   struct_run spot fs to body ms m q k =
       ap (run_on spot.used (λ n. run g l spot.used n body)) (cond-true _ _ _ (lt-ltb (levels fs) l.depth q))
       ∙ (k ∙ ap (run_after to) (cond-true _ _ _ (eq-eqb to (spot.used + length body) m)))
@@ -403,22 +460,28 @@ module _ (g : Catalog) (l : Limits) where
     -- with the slots as an argument of their own, as the recursion asks
 
     -- a value without annotations, where there is room for it
-    plain_run : (used start : ℕ) (c : List Slot) (fs : List Frame) (to : ℕ) (w : List ℕ) (p : Payload) → Plain c w p → nameless fs forms.Struct ≡ None → to ≡ used + length w → BodyMayEnd l start fs forms.Struct to → depth (bare p) + levels fs ≤ l.depth
+    plain_run : (used start : ℕ) (c : List Slot) (fs : List Frame) (to : ℕ) (w : List ℕ) (p : Payload) → Plain c w p → nameless fs forms.Struct ≡ None
+        → to ≡ used + length w → BodyMayEnd l start fs forms.Struct to → depth (bare p) + levels fs ≤ l.depth
         → run g l used (at (spot_at used start c) fs Ready) w ≡ run_after to (deliver (under g l) (spot_at to start c) fs (bare p))
     plain_run used start c fs to _ _ (is_null b k d) a e r q =
-        ap (λ x. run_after (used + 1) (on_descriptor (under g l) (spot_at (used + 1) start c) fs x)) d ∙ one_run (spot_at used start c) fs to (payloads.Null k) e a r
+        ap (λ x. run_after (used + 1) (on_descriptor (under g l) (spot_at (used + 1) start c) fs x)) d
+        ∙ one_run (spot_at used start c) fs to (payloads.Null k) e a r
     plain_run used start c fs to _ _ (is_truth b k d) a e r q =
-        ap (λ x. run_after (used + 1) (on_descriptor (under g l) (spot_at (used + 1) start c) fs x)) d ∙ one_run (spot_at used start c) fs to (payloads.Truth k) e a r
+        ap (λ x. run_after (used + 1) (on_descriptor (under g l) (spot_at (used + 1) start c) fs x)) d
+        ∙ one_run (spot_at used start c) fs to (payloads.Truth k) e a r
     plain_run used start c fs to _ _ (is_scalar h body t p d i) a e r q =
         let k = length-append h body in
         let m : to ≡ used + length h + length body = omega arith in
-        from_header (spot_at used start c) fs (forms.Scalar t) h body (used + length h) _ d (hollow_scalar c t body p (judge_scalar c body t p i)) (admits_plain fs (forms.Scalar t) refl refl a) refl (ends_as l start fs (forms.Scalar t) _ (subst (BodyMayEnd l start fs forms.Struct) m r)) (scalar_begins (spot_at (used + length h) start c) fs t body p to (judge_scalar c body t p i) m)
+        from_header (spot_at used start c) fs (forms.Scalar t) h body (used + length h) _ d (hollow_scalar c t body p (judge_scalar c body t p i))
+        (admits_plain fs (forms.Scalar t) refl refl a) refl (ends_as l start fs (forms.Scalar t) _ (subst (BodyMayEnd l start fs forms.Struct) m r))
+        (scalar_begins (spot_at (used + length h) start c) fs t body p to (judge_scalar c body t p i) m)
     plain_run used start c fs to _ _ (is_listing h body x vs d b) a e r q =
         let k = length-append h body in
         let mid = used + length h in
         let dv = depth-listed x vs in
         let m : to ≡ mid + length body = omega arith in
-        from_header (spot_at used start c) fs (forms.Listing x) h body mid _ d refl (admits_plain fs (forms.Listing x) refl refl a) refl (ends_as l start fs (forms.Listing x) _ (subst (BodyMayEnd l start fs forms.Struct) m r))
+        from_header (spot_at used start c) fs (forms.Listing x) h body mid _ d refl (admits_plain fs (forms.Listing x) refl refl a) refl
+        (ends_as l start fs (forms.Listing x) _ (subst (BodyMayEnd l start fs forms.Struct) m r))
         (ap (run_on mid (λ n. run g l mid n body)) (cond-true _ _ _ (lt-ltb (levels fs) l.depth (omega arith)))
         ∙ (items_run mid start c fs (mid + length body) x to body vs b m (omega arith) (omega arith)
         ∙ ap (run_after to) (cond-true _ _ _ (eq-eqb to (mid + length body) m))))
@@ -427,18 +490,24 @@ module _ (g : Catalog) (l : Limits) where
         let mid = used + length h in
         let dv = depth-fields ms in
         let m : to ≡ mid + length body = omega arith in
-        from_header (spot_at used start c) fs forms.Struct h body mid _ d refl (admits_plain fs forms.Struct refl refl a) refl (subst (BodyMayEnd l start fs forms.Struct) m r)
-        (struct_run (spot_at mid start c) fs to body ms m (omega arith) (fields_run mid start c fs (mid + length body) to body ms b m (omega arith) (omega arith)))
+        from_header (spot_at used start c) fs forms.Struct h body mid _ d refl (admits_plain fs forms.Struct refl refl a) refl
+        (subst (BodyMayEnd l start fs forms.Struct) m r)
+        (struct_run (spot_at mid start c) fs to body ms m (omega arith)
+        (fields_run mid start c fs (mid + length body) to body ms b m (omega arith) (omega arith)))
     plain_run used start c fs to _ _ (is_ordered h body ms d n b) a e r q =
         let k = length-append h body in
         let mid = used + length h in
         let dv = depth-fields ms in
         let m : to ≡ mid + length body = omega arith in
-        from_header (spot_at used start c) fs forms.OrderedStruct h body mid _ d (cond-false _ _ _ (ne_eqb (length body) 0 (λ e. omega arith))) (admits_plain fs forms.OrderedStruct refl refl a) refl (ends_as l start fs forms.OrderedStruct _ (subst (BodyMayEnd l start fs forms.Struct) m r))
-        (ap (run_on mid (λ n. run g l mid n body)) (begin_ordered (spot_at mid start c) fs (length body)) ∙ struct_run (spot_at mid start c) fs to body ms m (omega arith) (fields_run mid start c fs (mid + length body) to body ms b m (omega arith) (omega arith)))
+        from_header (spot_at used start c) fs forms.OrderedStruct h body mid _ d (cond-false _ _ _ (ne_eqb (length body) 0 (λ e. omega arith)))
+        (admits_plain fs forms.OrderedStruct refl refl a) refl (ends_as l start fs forms.OrderedStruct _ (subst (BodyMayEnd l start fs forms.Struct) m r))
+        (ap (run_on mid (λ n. run g l mid n body)) (begin_ordered (spot_at mid start c) fs (length body))
+        ∙ struct_run (spot_at mid start c) fs to body ms m (omega arith)
+        (fields_run mid start c fs (mid + length body) to body ms b m (omega arith) (omega arith)))
 
     -- a value, where there is room for it
-    value_run : (used start : ℕ) (c : List Slot) (fs : List Frame) (to : ℕ) (w : List ℕ) (v : Value) → Binary c w v → Admits fs forms.Wrapper → to ≡ used + length w → BodyMayEnd l start fs forms.Struct to → depth v + levels fs ≤ l.depth
+    value_run : (used start : ℕ) (c : List Slot) (fs : List Frame) (to : ℕ) (w : List ℕ) (v : Value) → Binary c w v → Admits fs forms.Wrapper
+        → to ≡ used + length w → BodyMayEnd l start fs forms.Struct to → depth v + levels fs ≤ l.depth
         → run g l used (at (spot_at used start c) fs Ready) w ≡ run_after to (deliver (under g l) (spot_at to start c) fs v)
     value_run used start c fs to _ _ (unannotated w p b) a e r q = plain_run used start c fs to w p b (wrapper_named fs a.named) e r q
     value_run used start c fs to _ _ (wrapped h count ids w ss p d v n i b) a e r q =
@@ -450,29 +519,37 @@ module _ (g : Catalog) (l : Limits) where
         (plain_run (used + length h + length count + length ids) start c (frames.Annotated to ss ∷ fs) to w p b refl (omega arith) refl (omega arith))
 
     -- the items of a list or s-expression that ends at `end`
-    pub items_run : (used start : ℕ) (c : List Slot) (fs : List Frame) (end : ℕ) (x : Listing) (to : ℕ) (w : List ℕ) (vs : List Value) → Sequence c w vs → to ≡ used + length w → to ≤ end → depths vs + suc (levels fs) ≤ l.depth
-        → run_on used (λ n. run g l used n w) (proceed (under g l) (spot_at used start c) (frames.Items end x [] ∷ fs)) ≡ run_after to (proceed (under g l) (spot_at to start c) (frames.Items end x vs ∷ fs))
-    items_run used start c fs end x to _ _ nothing e r q = ap (λ n. run_after n (proceed (under g l) (spot_at n start c) (frames.Items end x [] ∷ fs))) (let j : used ≡ to = omega arith in j)
+    pub items_run : (used start : ℕ) (c : List Slot) (fs : List Frame) (end : ℕ) (x : Listing) (to : ℕ) (w : List ℕ) (vs : List Value) → Sequence c w vs
+        → to ≡ used + length w → to ≤ end → depths vs + suc (levels fs) ≤ l.depth
+        → run_on used (λ n. run g l used n w) (proceed (under g l) (spot_at used start c) (frames.Items end x [] ∷ fs))
+        ≡ run_after to (proceed (under g l) (spot_at to start c) (frames.Items end x vs ∷ fs))
+    items_run used start c fs end x to _ _ nothing e r q = ap (λ n. run_after n (proceed (under g l) (spot_at n start c) (frames.Items end x [] ∷ fs)))
+        (let j : used ≡ to = omega arith in j)
     items_run used start c fs end x to _ _ (one_more us w vs v b d) e r q =
         let k = length-append us w in
         let j = binary_some c w v d in
         let m = deepest-more vs v in
         let mid = used + length us in
         on_outcome g l used mid us w (run-append g l used mid us w refl) (proceed (under g l) (spot_at used start c) (frames.Items end x [] ∷ fs))
-        ∙ (ap (λ y. then_run y (λ n. run g l mid n w)) (items_run used start c fs end x mid us vs b refl (omega arith) (omega arith) ∙ ap (run_after mid) (items_go (spot_at mid start c) fs end x vs (omega arith)))
+        ∙ (ap (λ y. then_run y (λ n. run g l mid n w)) (items_run used start c fs end x mid us vs b refl (omega arith) (omega arith)
+        ∙ ap (run_after mid) (items_go (spot_at mid start c) fs end x vs (omega arith)))
         ∙ value_run mid start c (frames.Items end x vs ∷ fs) to w v d (record { fitting = refl; named = refl }) (omega arith) r (omega arith))
     items_run used start c fs end x to _ _ (padded us w vs b d) e r q =
         let k = length-append us w in
         let j = pad_some w d in
         let mid = used + length us in
         on_outcome g l used mid us w (run-append g l used mid us w refl) (proceed (under g l) (spot_at used start c) (frames.Items end x [] ∷ fs))
-        ∙ (ap (λ y. then_run y (λ n. run g l mid n w)) (items_run used start c fs end x mid us vs b refl (omega arith) q ∙ ap (run_after mid) (items_go (spot_at mid start c) fs end x vs (omega arith)))
+        ∙ (ap (λ y. then_run y (λ n. run g l mid n w)) (items_run used start c fs end x mid us vs b refl (omega arith) q
+        ∙ ap (run_after mid) (items_go (spot_at mid start c) fs end x vs (omega arith)))
         ∙ skip_run (spot_at mid start c) (frames.Items end x vs ∷ fs) w to d (record { fitting = refl; named = refl }) (omega arith) r)
 
     -- the fields of a struct that ends at `end`
-    pub fields_run : (used start : ℕ) (c : List Slot) (fs : List Frame) (end to : ℕ) (w : List ℕ) (ms : List Field) → Fields c w ms → to ≡ used + length w → to ≤ end → field_depths ms + suc (levels fs) ≤ l.depth
-        → run_on used (λ n. run g l used n w) (proceed (under g l) (spot_at used start c) (frames.Fields end [] ∷ fs)) ≡ run_after to (proceed (under g l) (spot_at to start c) (frames.Fields end ms ∷ fs))
-    fields_run used start c fs end to _ _ no_fields e r q = ap (λ n. run_after n (proceed (under g l) (spot_at n start c) (frames.Fields end [] ∷ fs))) (let j : used ≡ to = omega arith in j)
+    pub fields_run : (used start : ℕ) (c : List Slot) (fs : List Frame) (end to : ℕ) (w : List ℕ) (ms : List Field) → Fields c w ms → to ≡ used + length w
+        → to ≤ end → field_depths ms + suc (levels fs) ≤ l.depth
+        → run_on used (λ n. run g l used n w) (proceed (under g l) (spot_at used start c) (frames.Fields end [] ∷ fs))
+        ≡ run_after to (proceed (under g l) (spot_at to start c) (frames.Fields end ms ∷ fs))
+    fields_run used start c fs end to _ _ no_fields e r q =
+        ap (λ n. run_after n (proceed (under g l) (spot_at n start c) (frames.Fields end [] ∷ fs))) (let j : used ≡ to = omega arith in j)
     fields_run used start c fs end to _ _ (one_field us id w ms k s v b n y d) e r q =
         let n0 = length-append us (id ++ w) in
         let n1 = length-append id w in
@@ -480,9 +557,12 @@ module _ (g : Catalog) (l : Limits) where
         let m = field_deepest-more ms (field_of s v) in
         let mid = used + length us in
         let mid2 = mid + length id in
-        on_outcome g l used mid us (id ++ w) (run-append g l used mid us (id ++ w) refl) (proceed (under g l) (spot_at used start c) (frames.Fields end [] ∷ fs))
-        ∙ (ap (λ y. then_run y (λ n. run g l mid n (id ++ w))) (fields_run used start c fs end mid us ms b refl (omega arith) (omega arith) ∙ ap (run_after mid) (fields_go (spot_at mid start c) fs end ms (omega arith)))
-        ∙ run_via g l mid mid2 _ (at (spot_at mid2 start c) (frames.Named end ms (Ok s) ∷ fs) Ready) _ id w refl (name_run (spot_at mid start c) fs end ms id k mid2 (Ok s) n y refl (omega arith))
+        on_outcome g l used mid us (id ++ w) (run-append g l used mid us (id ++ w) refl)
+        (proceed (under g l) (spot_at used start c) (frames.Fields end [] ∷ fs))
+        ∙ (ap (λ y. then_run y (λ n. run g l mid n (id ++ w))) (fields_run used start c fs end mid us ms b refl (omega arith) (omega arith)
+        ∙ ap (run_after mid) (fields_go (spot_at mid start c) fs end ms (omega arith)))
+        ∙ run_via g l mid mid2 _ (at (spot_at mid2 start c) (frames.Named end ms (Ok s) ∷ fs) Ready) _ id w refl
+        (name_run (spot_at mid start c) fs end ms id k mid2 (Ok s) n y refl (omega arith))
         (value_run mid2 start c (frames.Named end ms (Ok s) ∷ fs) to w v d (record { fitting = refl; named = refl }) (omega arith) r (omega arith)))
     fields_run used start c fs end to _ _ (padded_field us id w ms k b n d) e r q =
         let n0 = length-append us (id ++ w) in
@@ -490,13 +570,18 @@ module _ (g : Catalog) (l : Limits) where
         let j = pad_some w d in
         let mid = used + length us in
         let mid2 = mid + length id in
-        on_outcome g l used mid us (id ++ w) (run-append g l used mid us (id ++ w) refl) (proceed (under g l) (spot_at used start c) (frames.Fields end [] ∷ fs))
-        ∙ (ap (λ y. then_run y (λ n. run g l mid n (id ++ w))) (fields_run used start c fs end mid us ms b refl (omega arith) q ∙ ap (run_after mid) (fields_go (spot_at mid start c) fs end ms (omega arith)))
-        ∙ run_via g l mid mid2 _ (at (spot_at mid2 start c) (frames.Named end ms (resolve c k) ∷ fs) Ready) _ id w refl (name_run (spot_at mid start c) fs end ms id k mid2 (resolve c k) n refl refl (omega arith))
-        (skip_run (spot_at mid2 start c) (frames.Named end ms (resolve c k) ∷ fs) w to d (record { fitting = refl; named = pad_named end ms (resolve c k) fs }) (omega arith) r))
+        on_outcome g l used mid us (id ++ w) (run-append g l used mid us (id ++ w) refl)
+        (proceed (under g l) (spot_at used start c) (frames.Fields end [] ∷ fs))
+        ∙ (ap (λ y. then_run y (λ n. run g l mid n (id ++ w))) (fields_run used start c fs end mid us ms b refl (omega arith) q
+        ∙ ap (run_after mid) (fields_go (spot_at mid start c) fs end ms (omega arith)))
+        ∙ run_via g l mid mid2 _ (at (spot_at mid2 start c) (frames.Named end ms (resolve c k) ∷ fs) Ready) _ id w refl
+        (name_run (spot_at mid start c) fs end ms id k mid2 (resolve c k) n refl refl (omega arith))
+        (skip_run (spot_at mid2 start c) (frames.Named end ms (resolve c k) ∷ fs) w to d (record { fitting = refl; named = pad_named end ms (resolve c k) fs })
+        (omega arith) r))
 
   -- a value, where there is room for it
-  pub binary_run : (spot : Spot) (fs : List Frame) (to : ℕ) (w : List ℕ) (v : Value) → Binary spot.context w v → Admits fs forms.Wrapper → to ≡ spot.used + length w → BodyMayEnd l spot.start fs forms.Struct to → depth v + levels fs ≤ l.depth
+  pub binary_run : (spot : Spot) (fs : List Frame) (to : ℕ) (w : List ℕ) (v : Value) → Binary spot.context w v → Admits fs forms.Wrapper
+      → to ≡ spot.used + length w → BodyMayEnd l spot.start fs forms.Struct to → depth v + levels fs ≤ l.depth
       → run g l spot.used (at spot fs Ready) w ≡ run_after to (deliver (under g l) (moved spot to) fs v)
   binary_run spot fs to w v b a e r q = value_run spot.used spot.start spot.context fs to w v b a e r q
 

@@ -123,8 +123,11 @@ with_plain t Follows = tt
 
 body_plain : (code : ℕ) (z : Size) → PlainOpening (body_of code z)
 body_plain code z =
-    either PlainOpening (code == 2) _ _ tt (either PlainOpening (code == 3) _ _ (with_plain scalars.NegativeInt z) (either PlainOpening (code == 5) _ _ tt (either PlainOpening (code == 6) _ _ (with_plain scalars.Timestamp z)
-    (either PlainOpening (code == 7) _ _ tt (either PlainOpening (code == 8) _ _ tt (either PlainOpening (code == 9) _ _ tt (either PlainOpening (code == 10) _ _ tt (either PlainOpening (code == 11) _ _ tt (either PlainOpening (code == 12) _ _ tt
+    either PlainOpening (code == 2) _ _ tt (either PlainOpening (code == 3) _ _ (with_plain scalars.NegativeInt z)
+    (either PlainOpening (code == 5) _ _ tt (either PlainOpening (code == 6) _ _ (with_plain scalars.Timestamp z)
+    (either PlainOpening (code == 7) _ _ tt (either PlainOpening (code == 8) _ _ tt
+    (either PlainOpening (code == 9) _ _ tt (either PlainOpening (code == 10) _ _ tt
+    (either PlainOpening (code == 11) _ _ tt (either PlainOpening (code == 12) _ _ tt
     (either PlainOpening (code == 13) _ _ tt (either PlainOpening (code == 14) _ _ tt (inl refl))))))))))))
 
 opens_plain : (d : Result Descriptor Reason) → PlainDescriptor d → PlainOpening (opens d)
@@ -201,18 +204,26 @@ module _ (g : Catalog) (l : Limits) where
 
   module _ (c : List Slot) (start : ℕ) where
     -- it is refused because of its form
-    sized_hollow : (used : ℕ) (fs : List Frame) (form : Form) (n : ℕ) → hollow form n ≡ Some Malformed → sized (under g l) (spot_at used start c) fs form n ≡ refuses Malformed
+    sized_hollow : (used : ℕ) (fs : List Frame) (form : Form) (n : ℕ) → hollow form n ≡ Some Malformed → sized (under g l) (spot_at used start c) fs form n
+        ≡ refuses Malformed
     sized_hollow used fs form n h = ap (λ o. unless o (unless (unfit l.item start fs form (used + n)) (begin (under g l) (spot_at used start c) fs form n))) h
 
     -- it is refused because of where it stands, or because of its form
-    sized_unfit : (used : ℕ) (fs : List Frame) (form : Form) (n : ℕ) (e f : Reason) → unfit l.item start fs form (used + n) ≡ Some e → reason_number e ≤ reason_number f → 4 ≤ reason_number f → Least g l c start f (sized (under g l) (spot_at used start c) fs form n)
+    sized_unfit : (used : ℕ) (fs : List Frame) (form : Form) (n : ℕ) (e f : Reason) → unfit l.item start fs form (used + n) ≡ Some e
+        → reason_number e ≤ reason_number f → 4 ≤ reason_number f → Least g l c start f (sized (under g l) (spot_at used start c) fs form n)
     sized_unfit used fs form n e f h small big = by (hollow_only form n)
       where
         by : (hollow form n ≡ None) ⊎ (hollow form n ≡ Some Malformed) → Least g l c start f (sized (under g l) (spot_at used start c) fs form n)
         by (inr k) = (Malformed, sized_hollow used fs form n k, big)
-        by (inl k) = (e, ap (λ o. unless o (unless (unfit l.item start fs form (used + n)) (begin (under g l) (spot_at used start c) fs form n))) k ∙ ap (λ o. unless o (begin (under g l) (spot_at used start c) fs form n)) h, small)
+        by (inl k) = (
+          e,
+          ap (λ o. unless o (unless (unfit l.item start fs form (used + n)) (begin (under g l) (spot_at used start c) fs form n))) k
+              ∙ ap (λ o. unless o (begin (under g l) (spot_at used start c) fs form n)) h,
+          small,
+        )
 
-    unfit_malformed : (fs : List Frame) (form : Form) (to : ℕ) → misfits l.item start fs form to ≡ Some Malformed → unfit l.item start fs form to ≡ Some Malformed
+    unfit_malformed : (fs : List Frame) (form : Form) (to : ℕ) → misfits l.item start fs form to ≡ Some Malformed → unfit l.item start fs form to
+        ≡ Some Malformed
     unfit_malformed fs form to h = ap (λ o. or_else (stray fs form) (or_else o (nameless fs form))) h ∙ by (stray_only fs form)
       where
         by : (stray fs form ≡ None) ⊎ (stray fs form ≡ Some Malformed) → or_else (stray fs form) (Some Malformed) ≡ Some Malformed
@@ -220,13 +231,15 @@ module _ (g : Catalog) (l : Limits) where
         by (inr k) = ap (λ o. or_else o (Some Malformed)) k
 
     -- past its container
-    past_misfits : (k : Container) (ks : List Container) (fs : List Frame) (form : Form) (to : ℕ) → Match c fs (k ∷ ks) → deciding.container_end k < to → misfits l.item start fs form to ≡ Some Malformed
+    past_misfits : (k : Container) (ks : List Container) (fs : List Frame) (form : Form) (to : ℕ) → Match c fs (k ∷ ks) → deciding.container_end k < to
+        → misfits l.item start fs form to ≡ Some Malformed
     past_misfits _ _ _ form to (items end x vs fs ks m) h = cond-false _ _ _ (lt-leb to end h)
     past_misfits _ _ _ form to (names end ms fs ks m) h = cond-false _ _ _ (lt-leb to end h)
     past_misfits _ _ _ form to (named end id ms fs ks m) h = cond-false _ _ _ (lt-leb to end h)
     past_misfits _ _ _ form to (noted end ss fs ks m) h = cond-false _ _ _ (ne_eqb to end (λ e. omega arith))
 
-    unfilled_misfits : (end : ℕ) (ks : List Container) (fs : List Frame) (form : Form) (to : ℕ) → Match c fs (Noted end ∷ ks) → to < end → misfits l.item start fs form to ≡ Some Malformed
+    unfilled_misfits : (end : ℕ) (ks : List Container) (fs : List Frame) (form : Form) (to : ℕ) → Match c fs (Noted end ∷ ks) → to < end
+        → misfits l.item start fs form to ≡ Some Malformed
     unfilled_misfits _ _ _ form to (noted end ss fs ks m) h = cond-false _ _ _ (ne_eqb to end (λ e. omega arith))
 
     -- a value of one octet, or a header: where it can't reach so far
@@ -235,62 +248,86 @@ module _ (g : Catalog) (l : Limits) where
     unfit_reaches ks _ _ _ e (a_null u b k o t i) big h =
         let d = open_run g l c start ks u o in
         stops_with g l c start d.fs Ready u b e e (subst (λ p. Holds g l c start d.fs p u) (ready g l c start ks t) (leads_holds g l c start ks u d))
-        (ap (on_descriptor (under g l) (spot_at (length u + 1) start c) d.fs) i ∙ ap (λ x. unless x (deliver (under g l) (spot_at (length u + 1) start c) d.fs (bare (payloads.Null k)))) (h d.fs forms.Struct refl d.match)) (omega arith)
+        (ap (on_descriptor (under g l) (spot_at (length u + 1) start c) d.fs) i
+        ∙ ap (λ x. unless x (deliver (under g l) (spot_at (length u + 1) start c) d.fs (bare (payloads.Null k)))) (h d.fs forms.Struct refl d.match))
+        (omega arith)
     unfit_reaches ks _ _ _ e (a_truth u b k o t i) big h =
         let d = open_run g l c start ks u o in
         stops_with g l c start d.fs Ready u b e e (subst (λ p. Holds g l c start d.fs p u) (ready g l c start ks t) (leads_holds g l c start ks u d))
-        (ap (on_descriptor (under g l) (spot_at (length u + 1) start c) d.fs) i ∙ ap (λ x. unless x (deliver (under g l) (spot_at (length u + 1) start c) d.fs (bare (payloads.Truth k)))) (h d.fs forms.Struct refl d.match)) (omega arith)
-    unfit_reaches ks _ _ _ e (a_body u form n o) big h = header_stops g l c start ks form n u e o (λ fs m. sized_unfit (length u) fs form n e e (h fs form refl m) (omega arith) big)
+        (ap (on_descriptor (under g l) (spot_at (length u + 1) start c) d.fs) i
+        ∙ ap (λ x. unless x (deliver (under g l) (spot_at (length u + 1) start c) d.fs (bare (payloads.Truth k)))) (h d.fs forms.Struct refl d.match))
+        (omega arith)
+    unfit_reaches ks _ _ _ e (a_body u form n o) big h = header_stops g l c start ks form n u e o
+        (λ fs m. sized_unfit (length u) fs form n e e (h fs form refl m) (omega arith) big)
 
-    row_past_container : (k : Container) (ks : List Container) (pad : Bool) (to : ℕ) (u : List ℕ) → Reaches g l c start (k ∷ ks) pad to u → deciding.container_end k < to → Stopped g l u Malformed
-    row_past_container k ks pad to u o h = unfit_reaches (k ∷ ks) pad to u Malformed o (omega arith) (λ fs form i m. unfit_malformed fs form to (past_misfits k ks fs form to m h))
+    row_past_container : (k : Container) (ks : List Container) (pad : Bool) (to : ℕ) (u : List ℕ) → Reaches g l c start (k ∷ ks) pad to u
+        → deciding.container_end k < to → Stopped g l u Malformed
+    row_past_container k ks pad to u o h = unfit_reaches (k ∷ ks) pad to u Malformed o (omega arith)
+        (λ fs form i m. unfit_malformed fs form to (past_misfits k ks fs form to m h))
 
-    row_wrapper_unfilled : (end : ℕ) (ks : List Container) (pad : Bool) (to : ℕ) (u : List ℕ) → Reaches g l c start (Noted end ∷ ks) pad to u → to < end → Stopped g l u Malformed
-    row_wrapper_unfilled end ks pad to u o h = unfit_reaches (Noted end ∷ ks) pad to u Malformed o (omega arith) (λ fs form i m. unfit_malformed fs form to (unfilled_misfits end ks fs form to m h))
+    row_wrapper_unfilled : (end : ℕ) (ks : List Container) (pad : Bool) (to : ℕ) (u : List ℕ) → Reaches g l c start (Noted end ∷ ks) pad to u → to < end
+        → Stopped g l u Malformed
+    row_wrapper_unfilled end ks pad to u o h = unfit_reaches (Noted end ∷ ks) pad to u Malformed o (omega arith)
+        (λ fs form i m. unfit_malformed fs form to (unfilled_misfits end ks fs form to m h))
 
-    top_unfit : (fs : List Frame) (form : Form) (to : ℕ) → is_pad form ≡ false → Match c fs [] → start + l.item < to → unfit l.item start fs form to ≡ Some ItemTooLong
-    top_unfit _ form to i nothing_open h = ap (λ o. or_else o None) (cond-false _ _ _ (ap (λ b. b || nat_le to (start + l.item)) i ∙ lt-leb to (start + l.item) h))
+    top_unfit : (fs : List Frame) (form : Form) (to : ℕ) → is_pad form ≡ false → Match c fs [] → start + l.item < to → unfit l.item start fs form to
+        ≡ Some ItemTooLong
+    top_unfit _ form to i nothing_open h = ap (λ o. or_else o None)
+        (cond-false _ _ _ (ap (λ b. b || nat_le to (start + l.item)) i ∙ lt-leb to (start + l.item) h))
 
     row_too_long : (to : ℕ) (u : List ℕ) → Reaches g l c start [] false to u → start + l.item < to → Stopped g l u ItemTooLong
     row_too_long to u o h = unfit_reaches [] false to u ItemTooLong o (omega arith) (λ fs form i m. top_unfit fs form to i m h)
 
     row_no_fields : (ks : List Container) (u : List ℕ) → EndsHeader g l c start ks forms.OrderedStruct 0 u → Stopped g l u Malformed
-    row_no_fields ks u o = header_stops g l c start ks forms.OrderedStruct 0 u Malformed o (λ fs m. (Malformed, sized_hollow (length u) fs forms.OrderedStruct 0 refl, omega arith))
+    row_no_fields ks u o = header_stops g l c start ks forms.OrderedStruct 0 u Malformed o
+        (λ fs m. (Malformed, sized_hollow (length u) fs forms.OrderedStruct 0 refl, omega arith))
 
     row_no_count : (ks : List Container) (u : List ℕ) → EndsHeader g l c start ks forms.Wrapper 0 u → Stopped g l u Malformed
-    row_no_count ks u o = header_stops g l c start ks forms.Wrapper 0 u Malformed o (λ fs m. (Malformed, sized_hollow (length u) fs forms.Wrapper 0 refl, omega arith))
+    row_no_count ks u o = header_stops g l c start ks forms.Wrapper 0 u Malformed o
+        (λ fs m. (Malformed, sized_hollow (length u) fs forms.Wrapper 0 refl, omega arith))
 
     row_no_annotations : (end : ℕ) (ks : List Container) (u : List ℕ) → EndsNumber g l c start ks (Count end) 0 u → Stopped g l u Malformed
     row_no_annotations end ks u o = number_stops g l c start ks (Count end) 0 u Malformed o (λ fs i. (Malformed, none ks end fs i, omega arith))
       where
-        none : (ks : List Container) (end : ℕ) (fs : List Frame) → InFrames c ks (Count end) fs → count_came (spot_at (length u) start c) fs 0 ≡ refuses Malformed
+        none : (ks : List Container) (end : ℕ) (fs : List Frame) → InFrames c ks (Count end) fs → count_came (spot_at (length u) start c) fs 0
+            ≡ refuses Malformed
         none _ _ _ (count_in ks end fs m) = refl
 
-    row_annotations_past : (end n : ℕ) (ks : List Container) (u : List ℕ) → EndsNumber g l c start ks (Count end) n u → end ≤ length u + n → Stopped g l u Malformed
+    row_annotations_past : (end n : ℕ) (ks : List Container) (u : List ℕ) → EndsNumber g l c start ks (Count end) n u → end ≤ length u + n
+        → Stopped g l u Malformed
     row_annotations_past end n ks u o h = number_stops g l c start ks (Count end) n u Malformed o (λ fs i. (Malformed, past' ks end fs i h, omega arith))
       where
-        past' : (ks : List Container) (end : ℕ) (fs : List Frame) → InFrames c ks (Count end) fs → end ≤ length u + n → count_came (spot_at (length u) start c) fs n ≡ refuses Malformed
+        past' : (ks : List Container) (end : ℕ) (fs : List Frame) → InFrames c ks (Count end) fs → end ≤ length u + n
+            → count_came (spot_at (length u) start c) fs n ≡ refuses Malformed
         past' _ _ _ (count_in ks end fs m) h = by (n == 0)
           where
-            by : (b : Bool) → cond b (refuses Malformed) (cond (nat_lt (length u + n) end) (goes (at (spot_at (length u) start c) (frames.Annotated end [] ∷ fs) (InNumber (purposes.Annotation (length u + n)) 0))) (refuses Malformed)) ≡ refuses Malformed
+            by : (b : Bool) → cond b (refuses Malformed) (cond (nat_lt (length u + n) end)
+                (goes (at (spot_at (length u) start c) (frames.Annotated end [] ∷ fs) (InNumber (purposes.Annotation (length u + n)) 0))) (refuses Malformed))
+                ≡ refuses Malformed
             by true = refl
             by false = cond-false _ _ _ (le-ltb (length u + n) end h)
 
-    row_no_value : (end id : ℕ) (ks : List Container) (u : List ℕ) → EndsNumber g l c start (Names end ∷ ks) Name id u → end ≤ length u → Stopped g l u Malformed
-    row_no_value end id ks u o h = number_stops g l c start (Names end ∷ ks) Name id u Malformed o (λ fs i. (Malformed, late (Names end ∷ ks) end ks fs refl i h, omega arith))
+    row_no_value : (end id : ℕ) (ks : List Container) (u : List ℕ) → EndsNumber g l c start (Names end ∷ ks) Name id u → end ≤ length u
+        → Stopped g l u Malformed
+    row_no_value end id ks u o h = number_stops g l c start (Names end ∷ ks) Name id u Malformed o
+        (λ fs i. (Malformed, late (Names end ∷ ks) end ks fs refl i h, omega arith))
       where
-        late : (js : List Container) (end : ℕ) (ks : List Container) (fs : List Frame) → js ≡ Names end ∷ ks → InFrames c js Name fs → end ≤ length u → name_came (spot_at (length u) start c) fs id ≡ refuses Malformed
+        late : (js : List Container) (end : ℕ) (ks : List Container) (fs : List Frame) → js ≡ Names end ∷ ks → InFrames c js Name fs → end ≤ length u
+            → name_came (spot_at (length u) start c) fs id ≡ refuses Malformed
         late _ end' _ _ e (name_in end ks fs (names _ ms hs _ m)) h = let q : end ≡ end' = cc in cond-false _ _ _ (le-ltb (length u) end (omega arith))
 
-    row_no_annotation : (stop id : ℕ) (ks : List Container) (u : List ℕ) (e : Reason) → EndsNumber g l c start ks (Id stop) id u → resolve c id ≡ Err e → Stopped g l u e
+    row_no_annotation : (stop id : ℕ) (ks : List Container) (u : List ℕ) (e : Reason) → EndsNumber g l c start ks (Id stop) id u → resolve c id ≡ Err e
+        → Stopped g l u e
     row_no_annotation stop id ks u e o h = number_stops g l c start ks (Id stop) id u e o (λ fs i. (e, bad ks stop fs i, omega arith))
       where
-        bad : (ks : List Container) (stop : ℕ) (fs : List Frame) → InFrames c ks (Id stop) fs → annotation_came (spot_at (length u) start c) fs stop (resolve c id) ≡ refuses e
+        bad : (ks : List Container) (stop : ℕ) (fs : List Frame) → InFrames c ks (Id stop) fs
+            → annotation_came (spot_at (length u) start c) fs stop (resolve c id) ≡ refuses e
         bad _ _ _ (id_in ks end stop ss fs m) = ap (annotation_came (spot_at (length u) start c) (frames.Annotated end ss ∷ fs) stop) h
 
     -- numbers that go on
 
-    reached : (used : ℕ) (fs : List Frame) (p : Purpose) (a b : ℕ) → 2 ^ 63 ≤ 128 * a + seven_bits b → on_number (under g l) (spot_at used start c) fs p a b ≡ refuses TooLarge
+    reached : (used : ℕ) (fs : List Frame) (p : Purpose) (a b : ℕ) → 2 ^ 63 ≤ 128 * a + seven_bits b → on_number (under g l) (spot_at used start c) fs p a b
+        ≡ refuses TooLarge
     reached used fs p a b h = go (nat_lt b 128) refl
       where
         go : (x : Bool) → nat_lt b 128 ≡ x → on_number (under g l) (spot_at used start c) fs p a b ≡ refuses TooLarge
@@ -303,13 +340,15 @@ module _ (g : Catalog) (l : Limits) where
             let k : seven_bits b ≡ b - 128 = cond-true _ _ _ (le-leb 128 b j) in
             cond-false _ _ _ i ∙ cond-false _ _ _ (le-ltb (128 * a + (b - 128)) (2 ^ 63) (omega arith))
 
-    row_too_large : (ks : List Container) (p : Number) (a : ℕ) (u : List ℕ) (b : ℕ) → deciding.InNumber g l c start ks p a u → 2 ^ 63 ≤ 128 * a + seven_bits b → Stopped g l (u ++ b ∷ []) TooLarge
+    row_too_large : (ks : List Container) (p : Number) (a : ℕ) (u : List ℕ) (b : ℕ) → deciding.InNumber g l c start ks p a u → 2 ^ 63 ≤ 128 * a + seven_bits b
+        → Stopped g l (u ++ b ∷ []) TooLarge
     row_too_large ks p a u b o h =
         let i = number_holds g l c start ks p a u o in
         stops_with g l c start i.fs (InNumber (purpose_of p) a) u b TooLarge TooLarge i.holds (reached (length u + 1) i.fs (purpose_of p) a b h) (omega arith)
 
     -- it may not go on, or it is too large
-    past_stops : (ks : List Container) (p : Number) (a : ℕ) (u : List ℕ) (b : ℕ) (e : Reason) → deciding.InNumber g l c start ks p a u → b < 128 → 4 ≤ reason_number e
+    past_stops : (ks : List Container) (p : Number) (a : ℕ) (u : List ℕ) (b : ℕ) (e : Reason) → deciding.InNumber g l c start ks p a u → b < 128
+        → 4 ≤ reason_number e
         → ((fs : List Frame) → InFrames c ks p fs → past l.item start fs (purpose_of p) (length u + 1) ≡ Some e) → Stopped g l (u ++ b ∷ []) e
     past_stops ks p a u b e o small big h = go (nat_lt (128 * a + b) (2 ^ 63)) refl
       where
@@ -318,10 +357,13 @@ module _ (g : Catalog) (l : Limits) where
 
         go : (x : Bool) → nat_lt (128 * a + b) (2 ^ 63) ≡ x → Stopped g l (u ++ b ∷ []) e
         go true k = stops_with g l c start i.fs (InNumber (purpose_of p) a) u b e e i.holds
-            (cond-true _ _ _ (lt-ltb b 128 small) ∙ (cond-true _ _ _ k ∙ ap (λ x. unless x (goes (at (spot_at (length u + 1) start c) i.fs (InNumber (purpose_of p) (128 * a + b))))) (h i.fs i.inside))) (omega arith)
-        go false k = stops_with g l c start i.fs (InNumber (purpose_of p) a) u b TooLarge e i.holds (cond-true _ _ _ (lt-ltb b 128 small) ∙ cond-false _ _ _ k) (omega arith)
+            (cond-true _ _ _ (lt-ltb b 128 small) ∙ (cond-true _ _ _ k
+            ∙ ap (λ x. unless x (goes (at (spot_at (length u + 1) start c) i.fs (InNumber (purpose_of p) (128 * a + b))))) (h i.fs i.inside))) (omega arith)
+        go false k = stops_with g l c start i.fs (InNumber (purpose_of p) a) u b TooLarge e i.holds (cond-true _ _ _ (lt-ltb b 128 small) ∙ cond-false _ _ _ k)
+            (omega arith)
 
-    last_past : (ks : List Container) (p : Number) (fs : List Frame) (used last : ℕ) → InFrames c ks p fs → LastOctet g l c start ks p last → last ≤ used → past l.item start fs (purpose_of p) used ≡ Some Malformed
+    last_past : (ks : List Container) (p : Number) (fs : List Frame) (used last : ℕ) → InFrames c ks p fs → LastOctet g l c start ks p last → last ≤ used
+        → past l.item start fs (purpose_of p) used ≡ Some Malformed
     last_past _ _ _ used last (length_in _ form _ nothing_open) r h = absurd (none_last form last r)
       where
         none_last : (form : Form) (last : ℕ) → LastOctet g l c start [] (Length form) last → ⊥
@@ -340,14 +382,18 @@ module _ (g : Catalog) (l : Limits) where
     last_past _ _ _ used last (count_in ks end fs m) (of_wrapper _ _) h = cond-false _ _ _ (le-ltb used end h)
     last_past _ _ _ used last (id_in ks end stop ss fs m) (of_annotations _ _) h = cond-false _ _ _ (le-ltb used stop h)
 
-    row_number_past : (last : ℕ) (ks : List Container) (p : Number) (a : ℕ) (u : List ℕ) (b : ℕ) → deciding.InNumber g l c start ks p a u → b < 128 → LastOctet g l c start ks p last → last ≤ length u + 1 → Stopped g l (u ++ b ∷ []) Malformed
+    row_number_past : (last : ℕ) (ks : List Container) (p : Number) (a : ℕ) (u : List ℕ) (b : ℕ) → deciding.InNumber g l c start ks p a u → b < 128
+        → LastOctet g l c start ks p last → last ≤ length u + 1 → Stopped g l (u ++ b ∷ []) Malformed
     row_number_past last ks p a u b o small r h = past_stops ks p a u b Malformed o small (omega arith) (λ fs i. last_past ks p fs (length u + 1) last i r h)
 
-    row_header_too_long : (form : Form) (a : ℕ) (u : List ℕ) (b : ℕ) → deciding.InNumber g l c start [] (Length form) a u → is_pad form ≡ false → b < 128 → start + l.item < length u + 1 → Stopped g l (u ++ b ∷ []) ItemTooLong
+    row_header_too_long : (form : Form) (a : ℕ) (u : List ℕ) (b : ℕ) → deciding.InNumber g l c start [] (Length form) a u → is_pad form ≡ false → b < 128
+        → start + l.item < length u + 1 → Stopped g l (u ++ b ∷ []) ItemTooLong
     row_header_too_long form a u b o i small h = past_stops [] (Length form) a u b ItemTooLong o small (omega arith) (λ fs j. top [] form fs refl j)
       where
-        top : (ks : List Container) (form' : Form) (fs : List Frame) → ks ≡ [] → InFrames c ks (Length form) fs → past l.item start fs (purposes.Length form) (length u + 1) ≡ Some ItemTooLong
-        top _ _ _ e (length_in _ _ _ nothing_open) = cond-false _ _ _ (ap (λ b. b || nat_le (length u + 1) (start + l.item)) i ∙ lt-leb (length u + 1) (start + l.item) h)
+        top : (ks : List Container) (form' : Form) (fs : List Frame) → ks ≡ [] → InFrames c ks (Length form) fs
+            → past l.item start fs (purposes.Length form) (length u + 1) ≡ Some ItemTooLong
+        top _ _ _ e (length_in _ _ _ nothing_open) = cond-false _ _ _ (ap (λ b. b || nat_le (length u + 1) (start + l.item)) i
+            ∙ lt-leb (length u + 1) (start + l.item) h)
         top _ _ _ e (length_in _ _ _ (items end x vs fs ks m)) = absurd cc
         top _ _ _ e (length_in _ _ _ (names end ms fs ks m)) = absurd cc
         top _ _ _ e (length_in _ _ _ (named end id ms fs ks m)) = absurd cc
@@ -355,49 +401,68 @@ module _ (g : Catalog) (l : Limits) where
 
     -- descriptors
 
-    at_descriptor : (ks : List Container) (u : List ℕ) (b : ℕ) (f : Reason) → Open g l c start ks u → TakesValue ks → ((fs : List Frame) → Match c fs ks → Least g l c start f (on_descriptor (under g l) (spot_at (length u + 1) start c) fs (opening_of b))) → Stopped g l (u ++ b ∷ []) f
+    at_descriptor : (ks : List Container) (u : List ℕ) (b : ℕ) (f : Reason) → Open g l c start ks u → TakesValue ks
+        → ((fs : List Frame) → Match c fs ks → Least g l c start f (on_descriptor (under g l) (spot_at (length u + 1) start c) fs (opening_of b)))
+        → Stopped g l (u ++ b ∷ []) f
     at_descriptor ks u b f o t h =
         let d = open_run g l c start ks u o in
         let r = h d.fs d.match in
         stops_with g l c start d.fs Ready u b r.0 f (subst (λ p. Holds g l c start d.fs p u) (ready g l c start ks t) (leads_holds g l c start ks u d)) r.1 r.2
 
-    row_no_descriptor : (ks : List Container) (u : List ℕ) (b : ℕ) (e : Reason) → Open g l c start ks u → TakesValue ks → opening_of b ≡ Refused e → Stopped g l (u ++ b ∷ []) e
-    row_no_descriptor ks u b e o t i = at_descriptor ks u b e o t (λ fs m. (e, ap (on_descriptor (under g l) (spot_at (length u + 1) start c) fs) i, omega arith))
+    row_no_descriptor : (ks : List Container) (u : List ℕ) (b : ℕ) (e : Reason) → Open g l c start ks u → TakesValue ks → opening_of b ≡ Refused e
+        → Stopped g l (u ++ b ∷ []) e
+    row_no_descriptor ks u b e o t i = at_descriptor ks u b e o t
+        (λ fs m. (e, ap (on_descriptor (under g l) (spot_at (length u + 1) start c) fs) i, omega arith))
 
-    marks_inside : (used : ℕ) (k : Container) (ks : List Container) (fs : List Frame) → Match c fs (k ∷ ks) → marks (spot_at used start c) fs ≡ refuses Malformed
+    marks_inside : (used : ℕ) (k : Container) (ks : List Container) (fs : List Frame) → Match c fs (k ∷ ks) → marks (spot_at used start c) fs
+        ≡ refuses Malformed
     marks_inside used _ _ _ (items end x vs fs ks m) = refl
     marks_inside used _ _ _ (names end ms fs ks m) = refl
     marks_inside used _ _ _ (named end id ms fs ks m) = refl
     marks_inside used _ _ _ (noted end ss fs ks m) = refl
 
-    row_inner_marker : (k : Container) (ks : List Container) (u : List ℕ) (b : ℕ) → Open g l c start (k ∷ ks) u → TakesValue (k ∷ ks) → opening_of b ≡ Marker → Stopped g l (u ++ b ∷ []) Malformed
-    row_inner_marker k ks u b o t i = at_descriptor (k ∷ ks) u b Malformed o t (λ fs m. (Malformed, ap (on_descriptor (under g l) (spot_at (length u + 1) start c) fs) i ∙ marks_inside (length u + 1) k ks fs m, omega arith))
+    row_inner_marker : (k : Container) (ks : List Container) (u : List ℕ) (b : ℕ) → Open g l c start (k ∷ ks) u → TakesValue (k ∷ ks) → opening_of b ≡ Marker
+        → Stopped g l (u ++ b ∷ []) Malformed
+    row_inner_marker k ks u b o t i = at_descriptor (k ∷ ks) u b Malformed o t
+        (λ fs m. (Malformed, ap (on_descriptor (under g l) (spot_at (length u + 1) start c) fs) i ∙ marks_inside (length u + 1) k ks fs m, omega arith))
 
     -- where something stands in the way, it is refused for that or for a smaller reason
-    header_least : (used : ℕ) (fs : List Frame) (form : Form) (size : Size) (e f : Reason) → ((to : ℕ) → unfit l.item start fs form to ≡ Some e) → Least g l c start f (unsized (under g l) (spot_at used start c) fs form) → reason_number e ≤ reason_number f → 4 ≤ reason_number f
+    header_least : (used : ℕ) (fs : List Frame) (form : Form) (size : Size) (e f : Reason) → ((to : ℕ) → unfit l.item start fs form to ≡ Some e)
+        → Least g l c start f (unsized (under g l) (spot_at used start c) fs form) → reason_number e ≤ reason_number f → 4 ≤ reason_number f
         → Least g l c start f (on_descriptor (under g l) (spot_at used start c) fs (Sized form size))
     header_least used fs form (Known n) e f h k small big = sized_unfit used fs form n e f (h (used + n)) small big
     header_least used fs form Follows e f h k small big = k
 
-    stray_in : (end : ℕ) (ks : List Container) (fs : List Frame) (form : Form) → Match c fs (Noted end ∷ ks) → (is_pad form || is_wrapper form) ≡ true → stray fs form ≡ Some Malformed
+    stray_in : (end : ℕ) (ks : List Container) (fs : List Frame) (form : Form) → Match c fs (Noted end ∷ ks) → (is_pad form || is_wrapper form) ≡ true
+        → stray fs form ≡ Some Malformed
     stray_in _ _ _ form (noted end ss fs ks m) h = cond-true _ _ _ h
 
-    row_in_wrapper : (end : ℕ) (ks : List Container) (u : List ℕ) (b : ℕ) (form : Form) (size : Size) → Open g l c start (Noted end ∷ ks) u → opening_of b ≡ Sized form size → (is_pad form || is_wrapper form) ≡ true → Stopped g l (u ++ b ∷ []) Malformed
+    row_in_wrapper : (end : ℕ) (ks : List Container) (u : List ℕ) (b : ℕ) (form : Form) (size : Size) → Open g l c start (Noted end ∷ ks) u
+        → opening_of b ≡ Sized form size → (is_pad form || is_wrapper form) ≡ true → Stopped g l (u ++ b ∷ []) Malformed
     row_in_wrapper end ks u b form size o i h = at_descriptor (Noted end ∷ ks) u b Malformed o tt (λ fs m.
         let s = stray_in end ks fs form m h in
         let used = length u + 1 in
-        let r = header_least used fs form size Malformed Malformed (λ to. ap (λ x. or_else x (or_else (misfits l.item start fs form to) (nameless fs form))) s)
-        (Malformed, ap (λ x. unless x (unless (unending l.item start fs form used) (unless (nameless fs form) (goes (at (spot_at used start c) fs (InNumber (purposes.Length form) 0)))))) s, omega arith) (omega arith) (omega arith) in
+        let r = header_least used fs form size Malformed Malformed (λ to. ap (λ x. or_else x (or_else (misfits l.item start fs form to) (nameless fs form))) s) (
+          Malformed,
+          ap (λ x. unless x (unless (unending l.item start fs form used)
+              (unless (nameless fs form) (goes (at (spot_at used start c) fs (InNumber (purposes.Length form) 0)))))) s,
+          omega arith,
+        ) (omega arith)
+        (omega arith) in
         (r.0, ap (on_descriptor (under g l) (spot_at used start c) fs) i ∙ r.1, r.2))
 
-    unending_last : (k : Container) (ks : List Container) (fs : List Frame) (form : Form) (used : ℕ) → Match c fs (k ∷ ks) → deciding.container_end k ≤ used → unending l.item start fs form used ≡ Some Malformed
+    unending_last : (k : Container) (ks : List Container) (fs : List Frame) (form : Form) (used : ℕ) → Match c fs (k ∷ ks) → deciding.container_end k ≤ used
+        → unending l.item start fs form used ≡ Some Malformed
     unending_last _ _ _ form used (items end x vs fs ks m) h = cond-false _ _ _ (le-ltb used end h)
     unending_last _ _ _ form used (names end ms fs ks m) h = cond-false _ _ _ (le-ltb used end h)
     unending_last _ _ _ form used (named end id ms fs ks m) h = cond-false _ _ _ (le-ltb used end h)
     unending_last _ _ _ form used (noted end ss fs ks m) h = cond-false _ _ _ (le-ltb used end h)
 
     -- why a length may not begin
-    unsized_ends : (used : ℕ) (fs : List Frame) (form : Form) (f : Reason) → 4 ≤ reason_number f → ((e : Reason) × (unless (unending l.item start fs form used) (unless (nameless fs form) (goes (at (spot_at used start c) fs (InNumber (purposes.Length form) 0)))) ≡ refuses e) × (reason_number e ≤ reason_number f))
+    unsized_ends : (used : ℕ) (fs : List Frame) (form : Form) (f : Reason) → 4 ≤ reason_number f
+        → ((e : Reason) × (unless (unending l.item start fs form used)
+        (unless (nameless fs form) (goes (at (spot_at used start c) fs (InNumber (purposes.Length form) 0)))) ≡ refuses e)
+        × (reason_number e ≤ reason_number f))
         → Least g l c start f (unsized (under g l) (spot_at used start c) fs form)
     unsized_ends used fs form f big h = by (stray_only fs form)
       where
@@ -405,13 +470,29 @@ module _ (g : Catalog) (l : Limits) where
         rest = unless (unending l.item start fs form used) (unless (nameless fs form) (goes (at (spot_at used start c) fs (InNumber (purposes.Length form) 0))))
 
         by : (stray fs form ≡ None) ⊎ (stray fs form ≡ Some Malformed) → Least g l c start f (unsized (under g l) (spot_at used start c) fs form)
-        by (inl k) = (h.0, ap (λ x. unless x (unless (unending l.item start fs form used) (unless (nameless fs form) (goes (at (spot_at used start c) fs (InNumber (purposes.Length form) 0)))))) k ∙ h.1, h.2)
-        by (inr k) = (Malformed, ap (λ x. unless x (unless (unending l.item start fs form used) (unless (nameless fs form) (goes (at (spot_at used start c) fs (InNumber (purposes.Length form) 0)))))) k, big)
+        by (inl k) = (
+          h.0,
+          ap (λ x. unless x (unless (unending l.item start fs form used)
+              (unless (nameless fs form) (goes (at (spot_at used start c) fs (InNumber (purposes.Length form) 0)))))) k ∙ h.1,
+          h.2,
+        )
+        by (inr k) = (
+          Malformed,
+          ap (λ x. unless x (unless (unending l.item start fs form used)
+              (unless (nameless fs form) (goes (at (spot_at used start c) fs (InNumber (purposes.Length form) 0)))))) k,
+          big,
+        )
 
-    row_no_length : (k : Container) (ks : List Container) (u : List ℕ) (b : ℕ) (form : Form) → Open g l c start (k ∷ ks) u → TakesValue (k ∷ ks) → opening_of b ≡ Sized form Follows → deciding.container_end k ≤ length u + 1 → Stopped g l (u ++ b ∷ []) Malformed
+    row_no_length : (k : Container) (ks : List Container) (u : List ℕ) (b : ℕ) (form : Form) → Open g l c start (k ∷ ks) u → TakesValue (k ∷ ks)
+        → opening_of b ≡ Sized form Follows → deciding.container_end k ≤ length u + 1 → Stopped g l (u ++ b ∷ []) Malformed
     row_no_length k ks u b form o t i h = at_descriptor (k ∷ ks) u b Malformed o t (λ fs m.
         let used = length u + 1 in
-        let r = unsized_ends used fs form Malformed (omega arith) (Malformed, ap (λ x. unless x (unless (nameless fs form) (goes (at (spot_at used start c) fs (InNumber (purposes.Length form) 0))))) (unending_last k ks fs form used m h), omega arith) in
+        let r = unsized_ends used fs form Malformed (omega arith) (
+          Malformed,
+          ap (λ x. unless x (unless (nameless fs form) (goes (at (spot_at used start c) fs (InNumber (purposes.Length form) 0)))))
+              (unending_last k ks fs form used m h),
+          omega arith,
+        ) in
         (r.0, ap (on_descriptor (under g l) (spot_at used start c) fs) i ∙ r.1, r.2))
 
     -- inside of a container
@@ -420,37 +501,45 @@ module _ (g : Catalog) (l : Limits) where
     only_if true = inl refl
     only_if false = inr refl
 
-    misfits_inside : (k : Container) (ks : List Container) (fs : List Frame) (form : Form) (to : ℕ) → Match c fs (k ∷ ks) → (misfits l.item start fs form to ≡ None) ⊎ (misfits l.item start fs form to ≡ Some Malformed)
+    misfits_inside : (k : Container) (ks : List Container) (fs : List Frame) (form : Form) (to : ℕ) → Match c fs (k ∷ ks)
+        → (misfits l.item start fs form to ≡ None) ⊎ (misfits l.item start fs form to ≡ Some Malformed)
     misfits_inside _ _ _ form to (items end x vs fs ks m) = only_if (nat_le to end)
     misfits_inside _ _ _ form to (names end ms fs ks m) = only_if (nat_le to end)
     misfits_inside _ _ _ form to (named end id ms fs ks m) = only_if (nat_le to end)
     misfits_inside _ _ _ form to (noted end ss fs ks m) = only_if (to == end)
 
-    unending_inside : (k : Container) (ks : List Container) (fs : List Frame) (form : Form) (used : ℕ) → Match c fs (k ∷ ks) → (unending l.item start fs form used ≡ None) ⊎ (unending l.item start fs form used ≡ Some Malformed)
+    unending_inside : (k : Container) (ks : List Container) (fs : List Frame) (form : Form) (used : ℕ) → Match c fs (k ∷ ks)
+        → (unending l.item start fs form used ≡ None) ⊎ (unending l.item start fs form used ≡ Some Malformed)
     unending_inside _ _ _ form used (items end x vs fs ks m) = only_if (nat_lt used end)
     unending_inside _ _ _ form used (names end ms fs ks m) = only_if (nat_lt used end)
     unending_inside _ _ _ form used (named end id ms fs ks m) = only_if (nat_lt used end)
     unending_inside _ _ _ form used (noted end ss fs ks m) = only_if (nat_lt used end)
 
     -- why a form is unfit there, if it is: for a reason up to this one
-    unfit_inside : (k : Container) (ks : List Container) (fs : List Frame) (form : Form) (to : ℕ) (o : Option Reason) → Match c fs (k ∷ ks) → nameless fs form ≡ o → (unfit l.item start fs form to ≡ Some Malformed) ⊎ (unfit l.item start fs form to ≡ o)
+    unfit_inside : (k : Container) (ks : List Container) (fs : List Frame) (form : Form) (to : ℕ) (o : Option Reason) → Match c fs (k ∷ ks)
+        → nameless fs form ≡ o → (unfit l.item start fs form to ≡ Some Malformed) ⊎ (unfit l.item start fs form to ≡ o)
     unfit_inside k ks fs form to o m h = by (stray_only fs form) (misfits_inside k ks fs form to m)
       where
-        by : (stray fs form ≡ None) ⊎ (stray fs form ≡ Some Malformed) → (misfits l.item start fs form to ≡ None) ⊎ (misfits l.item start fs form to ≡ Some Malformed) → (unfit l.item start fs form to ≡ Some Malformed) ⊎ (unfit l.item start fs form to ≡ o)
+        by : (stray fs form ≡ None) ⊎ (stray fs form ≡ Some Malformed) → (misfits l.item start fs form to ≡ None)
+            ⊎ (misfits l.item start fs form to ≡ Some Malformed) → (unfit l.item start fs form to ≡ Some Malformed) ⊎ (unfit l.item start fs form to ≡ o)
         by (inr a) b = inl (ap (λ x. or_else x (or_else (misfits l.item start fs form to) (nameless fs form))) a)
         by (inl a) (inr b) = inl (unfit_malformed fs form to b)
-        by (inl a) (inl b) = inr (ap (λ x. or_else x (or_else (misfits l.item start fs form to) (nameless fs form))) a ∙ (ap (λ x. or_else x (nameless fs form)) b ∙ h))
+        by (inl a) (inl b) = inr (ap (λ x. or_else x (or_else (misfits l.item start fs form to) (nameless fs form))) a
+            ∙ (ap (λ x. or_else x (nameless fs form)) b ∙ h))
 
     -- the id of a name
 
-    no_symbol : (end id : ℕ) (ks : List Container) (fs : List Frame) (form : Form) (e : Reason) → Match c fs (Named end id ∷ ks) → resolve c id ≡ Err e → is_pad form ≡ false → nameless fs form ≡ Some e
+    no_symbol : (end id : ℕ) (ks : List Container) (fs : List Frame) (form : Form) (e : Reason) → Match c fs (Named end id ∷ ks) → resolve c id ≡ Err e
+        → is_pad form ≡ false → nameless fs form ≡ Some e
     no_symbol _ _ _ _ form e (named end id ms fs ks m) h p = ap (λ r. nameless (frames.Named end ms r ∷ fs) form) h ∙ cond-false _ _ _ p
 
-    unless_least : (used : ℕ) (o : Option Reason) (r : Outcome) (e f : Reason) → 4 ≤ reason_number f → reason_number e ≤ reason_number f → (o ≡ Some Malformed) ⊎ (o ≡ Some e) → Least g l c start f (unless o r)
+    unless_least : (used : ℕ) (o : Option Reason) (r : Outcome) (e f : Reason) → 4 ≤ reason_number f → reason_number e ≤ reason_number f → (o ≡ Some Malformed)
+        ⊎ (o ≡ Some e) → Least g l c start f (unless o r)
     unless_least used o r e f big small (inl h) = (Malformed, ap (λ x. unless x r) h, big)
     unless_least used o r e f big small (inr h) = (e, ap (λ x. unless x r) h, small)
 
-    row_no_name : (end id : ℕ) (ks : List Container) (u : List ℕ) (b : ℕ) (e : Reason) → Open g l c start (Named end id ∷ ks) u → resolve c id ≡ Err e → ((size : Size) → opening_of b ≢ Sized forms.Pad size) → Stopped g l (u ++ b ∷ []) e
+    row_no_name : (end id : ℕ) (ks : List Container) (u : List ℕ) (b : ℕ) (e : Reason) → Open g l c start (Named end id ∷ ks) u → resolve c id ≡ Err e
+        → ((size : Size) → opening_of b ≢ Sized forms.Pad size) → Stopped g l (u ++ b ∷ []) e
     row_no_name end id ks u b e o h n = at_descriptor (Named end id ∷ ks) u b e o tt (λ fs m. by fs m (opening_of b) refl (opening_plain b))
       where
         used : ℕ
@@ -463,7 +552,8 @@ module _ (g : Catalog) (l : Limits) where
         big4 = omega (arith, big)
 
         one : (fs : List Frame) → Match c fs (Named end id ∷ ks) → (p : Payload) → Least g l c start e (one_octet (under g l) (spot_at used start c) fs p)
-        one fs m p = unless_least used (unfit l.item start fs forms.Struct used) (deliver (under g l) (spot_at used start c) fs (bare p)) e e big4 (omega arith) (unfit_inside (Named end id) ks fs forms.Struct used (Some e) m (no_symbol end id ks fs forms.Struct e m h refl))
+        one fs m p = unless_least used (unfit l.item start fs forms.Struct used) (deliver (under g l) (spot_at used start c) fs (bare p)) e e big4 (omega arith)
+            (unfit_inside (Named end id) ks fs forms.Struct used (Some e) m (no_symbol end id ks fs forms.Struct e m h refl))
 
         no_pad : (form : Form) (size : Size) → opening_of b ≡ Sized form size → is_pad form ≡ false
         no_pad form size i = go (is_pad form) refl
@@ -472,24 +562,39 @@ module _ (g : Catalog) (l : Limits) where
             go true j = absurd (n size (i ∙ ap (λ y. Sized y size) (pad_is form j)))
             go false j = j
 
-        known : (fs : List Frame) → Match c fs (Named end id ∷ ks) → (form : Form) (k : ℕ) → is_pad form ≡ false → Least g l c start e (sized (under g l) (spot_at used start c) fs form k)
+        known : (fs : List Frame) → Match c fs (Named end id ∷ ks) → (form : Form) (k : ℕ) → is_pad form ≡ false
+            → Least g l c start e (sized (under g l) (spot_at used start c) fs form k)
         known fs m form k p = go (unfit_inside (Named end id) ks fs form (used + k) (Some e) m (no_symbol end id ks fs form e m h p))
           where
-            go : (unfit l.item start fs form (used + k) ≡ Some Malformed) ⊎ (unfit l.item start fs form (used + k) ≡ Some e) → Least g l c start e (sized (under g l) (spot_at used start c) fs form k)
+            go : (unfit l.item start fs form (used + k) ≡ Some Malformed) ⊎ (unfit l.item start fs form (used + k) ≡ Some e)
+                → Least g l c start e (sized (under g l) (spot_at used start c) fs form k)
             go (inl x) = sized_unfit used fs form k Malformed e x big4 big4
             go (inr x) = sized_unfit used fs form k e e x (omega arith) big4
 
-        follows : (fs : List Frame) → Match c fs (Named end id ∷ ks) → (form : Form) → is_pad form ≡ false → Least g l c start e (unsized (under g l) (spot_at used start c) fs form)
+        follows : (fs : List Frame) → Match c fs (Named end id ∷ ks) → (form : Form) → is_pad form ≡ false
+            → Least g l c start e (unsized (under g l) (spot_at used start c) fs form)
         follows fs m form p = unsized_ends used fs form e big4 (go (unending_inside (Named end id) ks fs form used m))
           where
             G : Outcome
             G = goes (at (spot_at used start c) fs (InNumber (purposes.Length form) 0))
 
-            go : (unending l.item start fs form used ≡ None) ⊎ (unending l.item start fs form used ≡ Some Malformed) → (x : Reason) × (unless (unending l.item start fs form used) (unless (nameless fs form) (goes (at (spot_at used start c) fs (InNumber (purposes.Length form) 0)))) ≡ refuses x) × (reason_number x ≤ reason_number e)
-            go (inl k) = (e, ap (λ x. unless x (unless (nameless fs form) (goes (at (spot_at used start c) fs (InNumber (purposes.Length form) 0))))) k ∙ ap (λ x. unless x (goes (at (spot_at used start c) fs (InNumber (purposes.Length form) 0)))) (no_symbol end id ks fs form e m h p), omega arith)
-            go (inr k) = (Malformed, ap (λ x. unless x (unless (nameless fs form) (goes (at (spot_at used start c) fs (InNumber (purposes.Length form) 0))))) k, big4)
+            go : (unending l.item start fs form used ≡ None) ⊎ (unending l.item start fs form used ≡ Some Malformed) → (x : Reason)
+                × (unless (unending l.item start fs form used) (unless (nameless fs form)
+                (goes (at (spot_at used start c) fs (InNumber (purposes.Length form) 0)))) ≡ refuses x) × (reason_number x ≤ reason_number e)
+            go (inl k) = (
+              e,
+              ap (λ x. unless x (unless (nameless fs form) (goes (at (spot_at used start c) fs (InNumber (purposes.Length form) 0))))) k
+                  ∙ ap (λ x. unless x (goes (at (spot_at used start c) fs (InNumber (purposes.Length form) 0)))) (no_symbol end id ks fs form e m h p),
+              omega arith,
+            )
+            go (inr k) = (
+              Malformed,
+              ap (λ x. unless x (unless (nameless fs form) (goes (at (spot_at used start c) fs (InNumber (purposes.Length form) 0))))) k,
+              big4,
+            )
 
-        by : (fs : List Frame) → Match c fs (Named end id ∷ ks) → (d : Opening) → opening_of b ≡ d → PlainOpening d → Least g l c start e (on_descriptor (under g l) (spot_at used start c) fs d)
+        by : (fs : List Frame) → Match c fs (Named end id ∷ ks) → (d : Opening) → opening_of b ≡ d → PlainOpening d
+            → Least g l c start e (on_descriptor (under g l) (spot_at used start c) fs d)
         by fs m (Refused x) i p = let s = plain_small x p in (x, refl, omega (arith, big))
         by fs m Marker i p = (Malformed, marks_inside used (Named end id) ks fs m, big4)
         by fs m (Null k) i p = one fs m (payloads.Null k)
@@ -499,18 +604,22 @@ module _ (g : Catalog) (l : Limits) where
 
     -- depth
 
-    nameless_any : (fs : List Frame) (ks : List Container) (form : Form) → Match c fs ks → (nameless fs form ≡ None) ⊎ ((e : Reason) × (nameless fs form ≡ Some e) × (reason_number e ≤ 9))
+    nameless_any : (fs : List Frame) (ks : List Container) (form : Form) → Match c fs ks → (nameless fs form ≡ None)
+        ⊎ ((e : Reason) × (nameless fs form ≡ Some e) × (reason_number e ≤ 9))
     nameless_any _ _ form nothing_open = inl refl
     nameless_any _ _ form (items end x vs fs ks m) = inl refl
     nameless_any _ _ form (names end ms fs ks m) = inl refl
     nameless_any _ _ form (noted end ss fs ks m) = inl refl
     nameless_any _ _ form (named end id ms fs ks m) = go (resolve c id) refl
       where
-        go : (r : Result (Option (List ℕ)) Reason) → resolve c id ≡ r → (nameless (frames.Named end ms r ∷ fs) form ≡ None) ⊎ ((e : Reason) × (nameless (frames.Named end ms r ∷ fs) form ≡ Some e) × (reason_number e ≤ 9))
+        go : (r : Result (Option (List ℕ)) Reason) → resolve c id ≡ r → (nameless (frames.Named end ms r ∷ fs) form ≡ None)
+            ⊎ ((e : Reason) × (nameless (frames.Named end ms r ∷ fs) form ≡ Some e) × (reason_number e ≤ 9))
         go (Ok s) h = inl refl
-        go (Err e) h = either (λ o. (o ≡ None) ⊎ ((x : Reason) × (o ≡ Some x) × (reason_number x ≤ 9))) (is_pad form) _ _ (inl refl) (inr (e, refl, (late_name e (resolve_only c id e h)).1))
+        go (Err e) h = either (λ o. (o ≡ None) ⊎ ((x : Reason) × (o ≡ Some x) × (reason_number x ≤ 9))) (is_pad form) _ _ (inl refl)
+            (inr (e, refl, (late_name e (resolve_only c id e h)).1))
 
-    begin_deep : (used : ℕ) (fs : List Frame) (form : Form) (n : ℕ) → IsContainer form → l.depth ≤ machine.levels fs → Least g l c start Depth (begin (under g l) (spot_at used start c) fs form n)
+    begin_deep : (used : ℕ) (fs : List Frame) (form : Form) (n : ℕ) → IsContainer form → l.depth ≤ machine.levels fs
+        → Least g l c start Depth (begin (under g l) (spot_at used start c) fs form n)
     begin_deep used fs (forms.Listing x) n i h = (Depth, cond-false _ _ _ (le-ltb (machine.levels fs) l.depth h), omega arith)
     begin_deep used fs forms.Struct n i h = (Depth, cond-false _ _ _ (le-ltb (machine.levels fs) l.depth h), omega arith)
     begin_deep used fs forms.OrderedStruct n i h = (Depth, cond-false _ _ _ (le-ltb (machine.levels fs) l.depth h), omega arith)
@@ -518,7 +627,8 @@ module _ (g : Catalog) (l : Limits) where
     begin_deep used fs (forms.Scalar t) n i h = absurd i
     begin_deep used fs forms.Wrapper n i h = absurd i
 
-    row_too_deep : (ks : List Container) (form : Form) (n : ℕ) (u : List ℕ) → EndsHeader g l c start ks form n u → IsContainer form → l.depth ≤ deciding.container_levels ks → Stopped g l u Depth
+    row_too_deep : (ks : List Container) (form : Form) (n : ℕ) (u : List ℕ) → EndsHeader g l c start ks form n u → IsContainer form
+        → l.depth ≤ deciding.container_levels ks → Stopped g l u Depth
     row_too_deep [] form n u o i h = let d = l.deep in absurd (omega (arith, d.0, h))
     row_too_deep (k ∷ ks) form n u o i h = header_stops g l c start (k ∷ ks) form n u Depth o (λ fs m.
         by fs m (nameless_any fs (k ∷ ks) form m) (let s = same_levels c fs (k ∷ ks) m in omega (arith, s, h)))
@@ -526,32 +636,44 @@ module _ (g : Catalog) (l : Limits) where
         used : ℕ
         used = length u
 
-        last : (fs : List Frame) → l.depth ≤ machine.levels fs → unfit l.item start fs form (used + n) ≡ None → (hollow form n ≡ None) ⊎ (hollow form n ≡ Some Malformed) → Least g l c start Depth (sized (under g l) (spot_at used start c) fs form n)
+        last : (fs : List Frame) → l.depth ≤ machine.levels fs → unfit l.item start fs form (used + n) ≡ None → (hollow form n ≡ None)
+            ⊎ (hollow form n ≡ Some Malformed) → Least g l c start Depth (sized (under g l) (spot_at used start c) fs form n)
         last fs d e (inr a) = (Malformed, sized_hollow used fs form n a, omega arith)
         last fs d e (inl a) =
-            let r = begin_deep used fs form n i d in
-            (r.0, ap (λ o. unless o (unless (unfit l.item start fs form (used + n)) (begin (under g l) (spot_at used start c) fs form n))) a ∙ (ap (λ o. unless o (begin (under g l) (spot_at used start c) fs form n)) e ∙ r.1), r.2)
+            let r = begin_deep used fs form n i d in (
+              r.0,
+              ap (λ o. unless o (unless (unfit l.item start fs form (used + n)) (begin (under g l) (spot_at used start c) fs form n))) a
+                  ∙ (ap (λ o. unless o (begin (under g l) (spot_at used start c) fs form n)) e ∙ r.1),
+              r.2,
+            )
 
-        by : (fs : List Frame) → Match c fs (k ∷ ks) → (nameless fs form ≡ None) ⊎ ((e : Reason) × (nameless fs form ≡ Some e) × (reason_number e ≤ 9)) → l.depth ≤ machine.levels fs → Least g l c start Depth (sized (under g l) (spot_at used start c) fs form n)
+        by : (fs : List Frame) → Match c fs (k ∷ ks) → (nameless fs form ≡ None) ⊎ ((e : Reason) × (nameless fs form ≡ Some e) × (reason_number e ≤ 9))
+            → l.depth ≤ machine.levels fs → Least g l c start Depth (sized (under g l) (spot_at used start c) fs form n)
         by fs m (inl a) d = go (unfit_inside k ks fs form (used + n) None m a)
           where
-            go : (unfit l.item start fs form (used + n) ≡ Some Malformed) ⊎ (unfit l.item start fs form (used + n) ≡ None) → Least g l c start Depth (sized (under g l) (spot_at used start c) fs form n)
+            go : (unfit l.item start fs form (used + n) ≡ Some Malformed) ⊎ (unfit l.item start fs form (used + n) ≡ None)
+                → Least g l c start Depth (sized (under g l) (spot_at used start c) fs form n)
             go (inl x) = sized_unfit used fs form n Malformed Depth x (omega arith) (omega arith)
             go (inr x) = last fs d x (hollow_only form n)
         by fs m (inr a) d = go (unfit_inside k ks fs form (used + n) (Some a.0) m a.1)
           where
-            go : (unfit l.item start fs form (used + n) ≡ Some Malformed) ⊎ (unfit l.item start fs form (used + n) ≡ Some a.0) → Least g l c start Depth (sized (under g l) (spot_at used start c) fs form n)
+            go : (unfit l.item start fs form (used + n) ≡ Some Malformed) ⊎ (unfit l.item start fs form (used + n) ≡ Some a.0)
+                → Least g l c start Depth (sized (under g l) (spot_at used start c) fs form n)
             go (inl x) = sized_unfit used fs form n Malformed Depth x (omega arith) (omega arith)
             go (inr x) = let s = a.2 in sized_unfit used fs form n a.0 Depth x (omega (arith, s)) (omega arith)
 
     -- bodies
 
-    row_bad_empty_body : (ks : List Container) (t : Scalar) (u : List ℕ) (e : Reason) → EndsHeader g l c start ks (forms.Scalar t) 0 u → judge c t [] ≡ Err e → Stopped g l u e
+    row_bad_empty_body : (ks : List Container) (t : Scalar) (u : List ℕ) (e : Reason) → EndsHeader g l c start ks (forms.Scalar t) 0 u → judge c t [] ≡ Err e
+        → Stopped g l u e
     row_bad_empty_body ks t u e o h =
         let k = empty_hollow c t e h in
-        subst (Stopped g l u) (sym k.1) (header_stops g l c start ks (forms.Scalar t) 0 u Malformed o (λ fs m. (Malformed, sized_hollow (length u) fs (forms.Scalar t) 0 k.0, omega arith)))
+        subst (Stopped g l u) (sym k.1) (header_stops g l c start ks (forms.Scalar t) 0 u Malformed o
+        (λ fs m. (Malformed, sized_hollow (length u) fs (forms.Scalar t) 0 k.0, omega arith)))
 
-    row_bad_body : (end : ℕ) (ks : List Container) (t : Scalar) (front body : List ℕ) (e : Reason) → Headed l c start (Open g l c start ks) ks (forms.Scalar t) end front → end ≡ length front + length body → 0 < length body → judge c t body ≡ Err e → Stopped g l (front ++ body) e
+    row_bad_body : (end : ℕ) (ks : List Container) (t : Scalar) (front body : List ℕ) (e : Reason)
+        → Headed l c start (Open g l c start ks) ks (forms.Scalar t) end front → end ≡ length front + length body → 0 < length body → judge c t body ≡ Err e
+        → Stopped g l (front ++ body) e
     row_bad_body end ks t front [] e h i some j = absurd (omega arith)
     row_bad_body end ks t front (b ∷ bs) e h i some j =
         let body = b ∷ bs in
@@ -563,14 +685,19 @@ module _ (g : Catalog) (l : Limits) where
         stops_as (front ++ body) e
         (ap (λ x. (run g l 0 initial x).now) (ap (λ x. x ++ body) h.parts ∙ append_assoc h.before h.header body)
         ∙ (ap (λ x. x.now) (run-append g l 0 (length h.before) h.before (h.header ++ body) (omega arith) initial)
-        ∙ (ap (λ x. (then_run x (λ n. run g l (length h.before) n (h.header ++ body))).now) (d.ran ∙ ap (λ p. record { given = d.given; now = Ok (at (spot_at (length h.before) start c) d.fs p) }) (takes_phase g l c start ks (forms.Scalar t) h.begins))
-        ∙ (ap (λ x. x.now) (headed_run g l c start ks d.fs (forms.Scalar t) end front body (Open g l c start ks) h (hollow_some (forms.Scalar t) h.n (omega arith)) d.match)
-        ∙ (ap (λ x. (run_on (length front) (λ n. run g l (length front) n body) (begin (under g l) (spot_at (length front) start c) d.fs (forms.Scalar t) x)).now) n
+        ∙ (ap (λ x. (then_run x (λ n. run g l (length h.before) n (h.header ++ body))).now)
+        (d.ran ∙ ap (λ p. record { given = d.given; now = Ok (at (spot_at (length h.before) start c) d.fs p) })
+        (takes_phase g l c start ks (forms.Scalar t) h.begins))
+        ∙ (ap (λ x. x.now) (headed_run g l c start ks d.fs (forms.Scalar t) end front body (Open g l c start ks) h
+        (hollow_some (forms.Scalar t) h.n (omega arith)) d.match)
+        ∙ (ap (λ x. (run_on (length front) (λ n. run g l (length front) n body)
+        (begin (under g l) (spot_at (length front) start c) d.fs (forms.Scalar t) x)).now) n
         ∙ (ap (λ x. (run_on (length front) (λ n. run g l (length front) n body) x).now) (begin_scalar g l (spot_at (length front) start c) d.fs t (length bs))
         ∙ (ap (λ x. x.now) (body_run g l (spot_at (length front) start c) d.fs t (length bs) [] body to refl k)
         ∙ ap (λ x. (run_after to (judged (under g l) (spot_at to start c) d.fs x)).now) j)))))))
 
-  row_bad_table : (u w : List ℕ) (s : List Value) (c : List Slot) (v : Value) (e : Reason) → Pieces g l u s c → Binary c w v → is_table v ≡ true → depth v ≤ l.depth → length w ≤ l.item → next c v g ≡ Err e → Stopped g l (u ++ w) e
+  row_bad_table : (u w : List ℕ) (s : List Value) (c : List Slot) (v : Value) (e : Reason) → Pieces g l u s c → Binary c w v → is_table v ≡ true
+      → depth v ≤ l.depth → length w ≤ l.item → next c v g ≡ Err e → Stopped g l (u ++ w) e
   row_bad_table u w s c v e d b t n p q =
       let r = pieces_run g l u s c d in
       let k = length-append u w in
@@ -578,13 +705,15 @@ module _ (g : Catalog) (l : Limits) where
       stops_as (u ++ w) e
       (ap (λ x. x.now) (run-append g l 0 (length u) u w (omega arith) initial)
       ∙ (ap (λ x. (then_run x (λ n. run g l (length u) n w)).now) r.ran
-      ∙ ap (λ x. x.now) (binary_run g l (spot_at (length u) (length u) c) [] to w v b (record { fitting = refl; named = refl }) k (λ i. omega arith) (omega arith)
+      ∙ ap (λ x. x.now) (binary_run g l (spot_at (length u) (length u) c) [] to w v b (record { fitting = refl; named = refl }) k (λ i. omega arith)
+      (omega arith)
       ∙ (ap (run_after to) (cond-true _ _ _ t) ∙ ap (λ x. run_after to (turned to x)) q))))
 
   -- markers
 
   row_no_marker : (b : ℕ) → b ≢ 0xE0 → Stopped g l (b ∷ []) Malformed
-  row_no_marker b h = stops_with g l system_slots 0 [] (InMarker First true) [] b Malformed Malformed (record { given = []; ran = refl }) (cond-false _ _ _ (ne_eqb b 224 h)) (omega arith)
+  row_no_marker b h = stops_with g l system_slots 0 [] (InMarker First true) [] b Malformed Malformed (record { given = []; ran = refl })
+      (cond-false _ _ _ (ne_eqb b 224 h)) (omega arith)
 
   record Marks (u : List ℕ) : Type 0 where
     c : List Slot
@@ -606,15 +735,20 @@ module _ (g : Catalog) (l : Limits) where
       top : (fs : List Frame) → Match h.1 fs [] → Holds g l h.1 (length u) fs Ready u → Holds g l h.1 (length u) [] (InMarker Second true) (u ++ 0xE0 ∷ [])
       top _ nothing_open o = goes_with g l h.1 (length u) [] [] Ready (InMarker Second true) u 0xE0 o refl
 
-  marker_stops : (u : List ℕ) (x y b : ℕ) (e : Reason) → IsFront g l u → ((used : ℕ) (c : List Slot) (start : ℕ) → machine.on_marker (spot_at used start c) [] Fourth ((true && (x == 1)) && (y == 0)) b ≡ refuses e) → Stopped g l (u ++ 0xE0 ∷ x ∷ y ∷ b ∷ []) e
+  marker_stops : (u : List ℕ) (x y b : ℕ) (e : Reason) → IsFront g l u
+      → ((used : ℕ) (c : List Slot) (start : ℕ) → machine.on_marker (spot_at used start c) [] Fourth ((true && (x == 1)) && (y == 0)) b ≡ refuses e)
+      → Stopped g l (u ++ 0xE0 ∷ x ∷ y ∷ b ∷ []) e
   marker_stops u x y b e f h =
       let m = front_marks u f in
       let one = goes_with g l m.c m.start [] [] (InMarker Second true) (InMarker Third (true && (x == 1))) (u ++ 0xE0 ∷ []) x m.holds refl in
-      let two = goes_with g l m.c m.start [] [] (InMarker Third (true && (x == 1))) (InMarker Fourth ((true && (x == 1)) && (y == 0))) ((u ++ 0xE0 ∷ []) ++ x ∷ []) y one refl in
+      let two = goes_with g l m.c m.start [] [] (InMarker Third (true && (x == 1))) (InMarker Fourth ((true && (x == 1)) && (y == 0)))
+      ((u ++ 0xE0 ∷ []) ++ x ∷ []) y one refl in
       let all : (((u ++ 0xE0 ∷ []) ++ x ∷ []) ++ y ∷ []) ++ b ∷ [] ≡ u ++ 0xE0 ∷ x ∷ y ∷ b ∷ [] =
-      append_assoc ((u ++ 0xE0 ∷ []) ++ x ∷ []) (y ∷ []) (b ∷ []) ∙ (append_assoc (u ++ 0xE0 ∷ []) (x ∷ []) (y ∷ b ∷ []) ∙ append_assoc u (0xE0 ∷ []) (x ∷ y ∷ b ∷ [])) in
+      append_assoc ((u ++ 0xE0 ∷ []) ++ x ∷ []) (y ∷ []) (b ∷ [])
+      ∙ (append_assoc (u ++ 0xE0 ∷ []) (x ∷ []) (y ∷ b ∷ []) ∙ append_assoc u (0xE0 ∷ []) (x ∷ y ∷ b ∷ [])) in
       subst (λ w. Stopped g l w e) all
-      (stops_with g l m.c m.start [] (InMarker Fourth ((true && (x == 1)) && (y == 0))) (((u ++ 0xE0 ∷ []) ++ x ∷ []) ++ y ∷ []) b e e two (h (length (((u ++ 0xE0 ∷ []) ++ x ∷ []) ++ y ∷ []) + 1) m.c m.start) (omega arith))
+      (stops_with g l m.c m.start [] (InMarker Fourth ((true && (x == 1)) && (y == 0))) (((u ++ 0xE0 ∷ []) ++ x ∷ []) ++ y ∷ []) b e e two
+      (h (length (((u ++ 0xE0 ∷ []) ++ x ∷ []) ++ y ∷ []) + 1) m.c m.start) (omega arith))
 
   both_good : (x y : ℕ) → ((x ≡ 1) × (y ≡ 0) → ⊥) → ((true && (x == 1)) && (y == 0)) ≡ false
   both_good x y h = go (x == 1) refl (y == 0) refl

@@ -29,11 +29,13 @@ module _ (g : Catalog) (l : Limits) where
   longer_spaced u w given h = let k = length-append u w in spaced_on l.item 0 given (length u) (length (u ++ w)) h (omega arith)
 
   -- more behind pieces
-  behind : (u w : List ℕ) (s t : List Value) (c e : List Slot) (later : List (Value × ℕ)) → (d : Reads u s c) → run g l (length u) (at (anew (length u) c) [] Ready) w ≡ record { given = later; now = Ok (at (anew (length (u ++ w)) e) [] Ready) }
+  behind : (u w : List ℕ) (s t : List Value) (c e : List Slot) (later : List (Value × ℕ)) → (d : Reads u s c)
+      → run g l (length u) (at (anew (length u) c) [] Ready) w ≡ record { given = later; now = Ok (at (anew (length (u ++ w)) e) [] Ready) }
       → plain later ≡ t → Spaced l.item 0 (d.given ++ later) (length (u ++ w)) → Reads (u ++ w) (s ++ t) e
   behind u w s t c e later d r p small = record {
     given = d.given ++ later;
-    ran = run-append g l 0 (length u) u w (omega arith) initial ∙ (ap (λ x. then_run x (λ n. run g l (length u) n w)) d.ran ∙ ap (λ x. record { given = d.given ++ x.given; now = x.now }) r);
+    ran = run-append g l 0 (length u) u w (omega arith) initial
+        ∙ (ap (λ x. then_run x (λ n. run g l (length u) n w)) d.ran ∙ ap (λ x. record { given = d.given ++ x.given; now = x.now }) r);
     gave = map-append (λ (x : Value × ℕ). x.0) d.given later ∙ (ap (λ x. x ++ plain later) d.gave ∙ ap (λ x. s ++ x) p);
     spaced = small;
   }
@@ -46,10 +48,12 @@ module _ (g : Catalog) (l : Limits) where
   pieces_run _ _ _ begins = record { given = []; ran = refl; gave = refl; spaced = omega arith }
   pieces_run _ _ _ (marked u s c d) =
       let r = pieces_run u s c d in
-      rw append-nil at (behind u the_marker s [] c system_slots [] r (rw (length-append u the_marker) (marker_run g l (anew (length u) c))) refl (rw append-nil (longer_spaced u the_marker r.given r.spaced)))
+      rw append-nil at (behind u the_marker s [] c system_slots [] r (rw (length-append u the_marker) (marker_run g l (anew (length u) c))) refl
+      (rw append-nil (longer_spaced u the_marker r.given r.spaced)))
   pieces_run _ _ _ (skips u w s c d p) =
       let r = pieces_run u s c d in
-      rw append-nil at (behind u w s [] c c [] r (skip_run g l (anew (length u) c) [] w (length (u ++ w)) p (record { fitting = refl; named = refl }) (length-append u w) (λ e. absurd cc)) refl (rw append-nil (longer_spaced u w r.given r.spaced)))
+      rw append-nil at (behind u w s [] c c [] r (skip_run g l (anew (length u) c) [] w (length (u ++ w)) p (record { fitting = refl; named = refl })
+      (length-append u w) (λ e. absurd cc)) refl (rw append-nil (longer_spaced u w r.given r.spaced)))
   pieces_run _ _ _ (turns u w s c e v d b t n p q) =
       let r = pieces_run u s c d in
       let k = length-append u w in
@@ -64,4 +68,5 @@ module _ (g : Catalog) (l : Limits) where
       let to = length (u ++ w) in
       behind u w s (v ∷ []) c c ((v, to) ∷ []) r
       (binary_run g l (anew (length u) c) [] to w v b top k (λ i. omega arith) (omega arith) ∙ ap (run_after to) (cond-false _ _ _ t))
-      refl (spaced_more l.item 0 r.given (length u) v to r.spaced (record { start = length u; end = to; behind = omega arith; within = omega arith; fits = omega arith; holds = omega arith }))
+      refl (spaced_more l.item 0 r.given (length u) v to r.spaced
+      (record { start = length u; end = to; behind = omega arith; within = omega arith; fits = omega arith; holds = omega arith }))

@@ -37,7 +37,8 @@ module _ (code length : ℕ) where
       let how : z ≡ y = cc in
       subst (λ x. Row x y code length) same (subst (λ x. Row form x code length) how row)
 
-  sized_opens : (form : Form) → length < 15 → code ≡ type_code form → long_code form ≡ 14 → (length < 14 → IsBodyLength form length) → Opens (Sized form (size length))
+  sized_opens : (form : Form) → length < 15 → code ≡ type_code form → long_code form ≡ 14 → (length < 14 → IsBodyLength form length)
+      → Opens (Sized form (size length))
   sized_opens form low by_code by_long is =
       elim (cases_lt length 14) [
         | inl few ↦ rw (below length 14 few) (by_form form (Known length) (by_code, refl, few, is few))
@@ -47,10 +48,12 @@ module _ (code length : ℕ) where
       ]
 
   -- a scalar that has at least one octet
-  some_opens : (t : Scalar) → length < 15 → code ≡ type_code (forms.Scalar t) → (0 < length → IsBodyLength (forms.Scalar t) length) → Opens (with_octets t (size length))
+  some_opens : (t : Scalar) → length < 15 → code ≡ type_code (forms.Scalar t) → (0 < length → IsBodyLength (forms.Scalar t) length)
+      → Opens (with_octets t (size length))
   some_opens t low by_code is =
       elim (cases_lt length 14) [
-        | inl few ↦ rw (below length 14 few) (cond_both (length == 0) _ _ Opens (λ _ f y e. absurd cc) (λ e. by_form (forms.Scalar t) (Known length) (by_code, refl, few, is (let some = eqb-false length 0 e in omega arith))))
+        | inl few ↦ rw (below length 14 few) (cond_both (length == 0) _ _ Opens (λ _ f y e. absurd cc)
+            (λ e. by_form (forms.Scalar t) (Known length) (by_code, refl, few, is (let some = eqb-false length 0 e in omega arith))))
         | inr many ↦
             let last : length ≡ 14 = omega arith in
             subst (λ z. Opens (with_octets t z)) (sym (ap size last)) (by_form (forms.Scalar t) Follows (by_code, last))
@@ -69,7 +72,8 @@ module _ (code length : ℕ) where
       (λ _. cond_both (code == 11) _ _ Opens (λ e. sized_opens (forms.Listing listings.List) low (eqb-true code 11 e) refl (λ _. tt))
       (λ _. cond_both (code == 12) _ _ Opens (λ e. sized_opens (forms.Listing listings.Sexp) low (eqb-true code 12 e) refl (λ _. tt))
       (λ _. cond_both (code == 13) _ _ Opens (λ e. sized_opens forms.Struct low (eqb-true code 13 e) refl (λ _. struct (eqb-true code 13 e)))
-      (λ _. cond_both (code == 14) _ _ Opens (λ e. sized_opens forms.Wrapper low (eqb-true code 14 e) refl (λ _. wrapper (eqb-true code 14 e))) (λ _ f y e. absurd cc))))))))))))
+      (λ _. cond_both (code == 14) _ _ Opens (λ e. sized_opens forms.Wrapper low (eqb-true code 14 e) refl (λ _. wrapper (eqb-true code 14 e)))
+      (λ _ f y e. absurd cc))))))))))))
 
   abbrev TypeOpens : Result Descriptor Reason → Type 0
   TypeOpens d = Opens (opens d)
@@ -78,7 +82,8 @@ module _ (code length : ℕ) where
   refused reason f y e = absurd cc
 
   -- the descriptors of wrappers, and of the version marker
-  wrapper_opens : length < 16 → code ≡ 14 → TypeOpens (cond (length == 0) (Ok descriptors.Marker) (cond ((length == 1) || (length == 2) || (length == 15)) (Err Malformed) (Ok (descriptors.Body code (size length)))))
+  wrapper_opens : length < 16 → code ≡ 14 → TypeOpens (cond (length == 0) (Ok descriptors.Marker)
+      (cond ((length == 1) || (length == 2) || (length == 15)) (Err Malformed) (Ok (descriptors.Body code (size length)))))
   wrapper_opens low is =
       cond_both (length == 0) _ _ TypeOpens (λ _ f y e. absurd cc)
       (λ a. cond_both ((length == 1) || (length == 2) || (length == 15)) _ _ TypeOpens (λ _. refused Malformed)
@@ -106,10 +111,13 @@ module _ (code length : ℕ) where
       let no_wrapper = eqb-false code 14 w in
       let short : length < 15 = omega arith in
       cond_both (code == 0) _ _ TypeOpens (λ e. sized_opens forms.Pad short (eqb-true code 0 e) refl (λ _. tt))
-      (λ _. cond_both (code == 1) _ _ TypeOpens (λ _. cond_both (length == 0) _ _ TypeOpens (λ _ f y e. absurd cc) (λ _. cond_both (length == 1) _ _ TypeOpens (λ _ f y e. absurd cc) (λ _. refused Malformed)))
-      (λ _. cond_both (code == 4) _ _ TypeOpens (λ _. cond_both ((length == 0) || (length == 4) || (length == 8)) _ _ TypeOpens (λ _. refused Float) (λ _. refused Malformed))
+      (λ _. cond_both (code == 1) _ _ TypeOpens (λ _. cond_both (length == 0) _ _ TypeOpens (λ _ f y e. absurd cc)
+      (λ _. cond_both (length == 1) _ _ TypeOpens (λ _ f y e. absurd cc) (λ _. refused Malformed)))
+      (λ _. cond_both (code == 4) _ _ TypeOpens (λ _. cond_both ((length == 0) || (length == 4) || (length == 8)) _ _ TypeOpens (λ _. refused Float)
+      (λ _. refused Malformed))
       (λ _. cond_both (code == 13) _ _ TypeOpens
-      (λ e. cond_both (length == 1) _ _ TypeOpens (λ one. by_form forms.OrderedStruct Follows (eqb-true code 13 e, eqb-true length 1 one)) (λ o. body_opens short (λ _. eqb-false length 1 o) (λ e. absurd (no_wrapper e))))
+      (λ e. cond_both (length == 1) _ _ TypeOpens (λ one. by_form forms.OrderedStruct Follows (eqb-true code 13 e, eqb-true length 1 one))
+      (λ o. body_opens short (λ _. eqb-false length 1 o) (λ e. absurd (no_wrapper e))))
       (λ s. body_opens short (λ e. absurd (eqb-false code 13 s e)) (λ e. absurd (no_wrapper e)))))))))
 
 opening_opens : (form : Form) (z : Size) (octet : ℕ) → opening_of octet ≡ Sized form z → Row form z (octet / 16) (octet % 16)

@@ -28,7 +28,8 @@ use Rattle.ion_binary.specs.Judge.{judge, int_of, symbol_of, as_symbol, as_decim
 pub judge_scalar : (c : List Slot) (body : List ℕ) (t : Scalar) (p : Payload) → IsScalar c body t p → judge c t body ≡ Ok p
 unfolding judge
 judge_scalar c body _ _ (is_int h) = ap (int_of false) (cond-true _ _ _ (lt-ltb (positional 256 body) (2 ^ 127) h))
-judge_scalar c body _ _ (is_negative h k) = ap (int_of true) (cond-true _ _ _ (lt-ltb (positional 256 body) (2 ^ 127) h)) ∙ cond-false _ _ _ (ne_eqb (positional 256 body) 0 (λ e. omega arith))
+judge_scalar c body _ _ (is_negative h k) = ap (int_of true) (cond-true _ _ _ (lt-ltb (positional 256 body) (2 ^ 127) h))
+    ∙ cond-false _ _ _ (ne_eqb (positional 256 body) 0 (λ e. omega arith))
 judge_scalar c body _ _ (is_decimal d h k) = ap as_decimal (decimal_body_read body d h k)
 judge_scalar c body _ _ (is_timestamp t h) = ap as_timestamp (timestamp_read body t h)
 judge_scalar c body _ _ (is_symbol s h k) = ap (symbol_of c) (cond-true _ _ _ (lt-ltb (positional 256 body) (2 ^ 127) h)) ∙ ap as_symbol k
@@ -45,21 +46,26 @@ else_ok true x e v h = cc
 else_ok false x e v h = (refl, h)
 
 -- a number that isn't refused is small, and is the one that the octets make
-uint_sound : {A : Type 0} (n : ℕ) (r : Result ℕ Reason) (k : Result ℕ Reason → Result A Reason) (p : A) → r ≡ cond (nat_lt n (2 ^ 127)) (Ok n) (Err TooLarge) → ((e : Reason) → k (Err e) ≡ Err e) → k r ≡ Ok p → (n < 2 ^ 127) × (k (Ok n) ≡ Ok p)
+uint_sound : {A : Type 0} (n : ℕ) (r : Result ℕ Reason) (k : Result ℕ Reason → Result A Reason) (p : A) → r ≡ cond (nat_lt n (2 ^ 127)) (Ok n) (Err TooLarge)
+    → ((e : Reason) → k (Err e) ≡ Err e) → k r ≡ Ok p → (n < 2 ^ 127) × (k (Ok n) ≡ Ok p)
 uint_sound n (Ok m) k p e f h =
     let q = then_ok (nat_lt n (2 ^ 127)) (Ok n) TooLarge m (sym e) in
     (ltb-true n (2 ^ 127) q.0, ap k q.1 ∙ h)
 uint_sound n (Err x) k p e f h = let i = f x in absurd cc
 
-pub decimal_sound : (c : List Slot) (body : List ℕ) (p : Payload) (r : Result DecimalParts Reason) → ReadsDecimalBody body r → as_decimal r ≡ Ok p → IsScalar c body scalars.Decimal p
+pub decimal_sound : (c : List Slot) (body : List ℕ) (p : Payload) (r : Result DecimalParts Reason) → ReadsDecimalBody body r → as_decimal r ≡ Ok p
+    → IsScalar c body scalars.Decimal p
 decimal_sound c body p (Ok d) e h = let i : payloads.Decimal d ≡ p = cc in subst (IsScalar c body scalars.Decimal) i (is_decimal d e.0 e.1)
 decimal_sound c body p (Err x) e h = absurd cc
 
-pub timestamp_sound : (c : List Slot) (body : List ℕ) (p : Payload) (r : Result TimestampParts Reason) → timestamp_of_body body ≡ r → as_timestamp r ≡ Ok p → IsScalar c body scalars.Timestamp p
-timestamp_sound c body p (Ok t) e h = let i : payloads.Timestamp t ≡ p = cc in subst (IsScalar c body scalars.Timestamp) i (is_timestamp t (timestamp_told body t e))
+pub timestamp_sound : (c : List Slot) (body : List ℕ) (p : Payload) (r : Result TimestampParts Reason) → timestamp_of_body body ≡ r → as_timestamp r ≡ Ok p
+    → IsScalar c body scalars.Timestamp p
+timestamp_sound c body p (Ok t) e h = let i : payloads.Timestamp t ≡ p = cc in
+    subst (IsScalar c body scalars.Timestamp) i (is_timestamp t (timestamp_told body t e))
 timestamp_sound c body p (Err x) e h = absurd cc
 
-symbol_sound : (c : List Slot) (body : List ℕ) (p : Payload) (r : Result (Option (List ℕ)) Reason) → positional 256 body < 2 ^ 127 → resolve c (positional 256 body) ≡ r → as_symbol r ≡ Ok p → IsScalar c body scalars.Symbol p
+symbol_sound : (c : List Slot) (body : List ℕ) (p : Payload) (r : Result (Option (List ℕ)) Reason) → positional 256 body < 2 ^ 127
+    → resolve c (positional 256 body) ≡ r → as_symbol r ≡ Ok p → IsScalar c body scalars.Symbol p
 symbol_sound c body p (Ok s) k e h = let i : payloads.Symbol s ≡ p = cc in subst (IsScalar c body scalars.Symbol) i (is_symbol s k e)
 symbol_sound c body p (Err x) k e h = absurd cc
 
@@ -91,7 +97,8 @@ judge_sound c scalars.Blob body p h = let e : payloads.Blob body ≡ p = cc in s
 -- a scalar has no depth
 pub scalar_flat : (c : List Slot) (body : List ℕ) (t : Scalar) (p : Payload) → IsScalar c body t p → depth (bare p) ≡ 0
 scalar_flat c body _ _ (is_int h) = depth-out (bare (payloads.Int (pos (positional 256 body)))) ∙ ap layer_depth (views.outs-Int (pos (positional 256 body)))
-scalar_flat c body _ _ (is_negative h k) = depth-out (bare (payloads.Int (neg_ℤ (pos (positional 256 body))))) ∙ ap layer_depth (views.outs-Int (neg_ℤ (pos (positional 256 body))))
+scalar_flat c body _ _ (is_negative h k) = depth-out (bare (payloads.Int (neg_ℤ (pos (positional 256 body)))))
+    ∙ ap layer_depth (views.outs-Int (neg_ℤ (pos (positional 256 body))))
 scalar_flat c body _ _ (is_decimal d h k) = depth-out (bare (payloads.Decimal d)) ∙ ap layer_depth (views.outs-Decimal d)
 scalar_flat c body _ _ (is_timestamp t h) = depth-out (bare (payloads.Timestamp t)) ∙ ap layer_depth (views.outs-Timestamp t)
 scalar_flat c body _ _ (is_symbol s h k) = depth-out (bare (payloads.Symbol s)) ∙ ap layer_depth (views.outs-Symbol s)

@@ -36,7 +36,8 @@ pub data InFrames (c : List Slot) : List Container → Number → List Frame →
   length_in : (ks : List Container) (form : Form) (fs : List Frame) → Match c fs ks → InFrames c ks (Length form) fs
   name_in : (end : ℕ) (ks : List Container) (fs : List Frame) → Match c fs (Names end ∷ ks) → InFrames c (Names end ∷ ks) Name fs
   count_in : (ks : List Container) (end : ℕ) (fs : List Frame) → Match c fs ks → InFrames c ks (Count end) (frames.Annotated end [] ∷ fs)
-  id_in : (ks : List Container) (end stop : ℕ) (ss : List (Option (List ℕ))) (fs : List Frame) → Match c fs ks → InFrames c ks (Id stop) (frames.Annotated end ss ∷ fs)
+  id_in : (ks : List Container) (end stop : ℕ) (ss : List (Option (List ℕ))) (fs : List Frame) → Match c fs ks
+      → InFrames c ks (Id stop) (frames.Annotated end ss ∷ fs)
 
 module _ (g : Catalog) (l : Limits) where
   -- the last of these octets is refused, for this reason or one with a smaller number
@@ -58,7 +59,8 @@ module _ (g : Catalog) (l : Limits) where
       pub given : List (Value × ℕ)
       pub ran : run g l 0 initial u ≡ record { given = given; now = Ok (at (spot_at (length u) start c) fs phase) }
 
-    pub stops_with : (fs : List Frame) (phase : Phase) (u : List ℕ) (b : ℕ) (e f : Reason) → (o : Holds fs phase u) → feed (under g l) (at (spot_at (length u) start c) fs phase) b ≡ refuses e → reason_number e ≤ reason_number f → Stopped (u ++ b ∷ []) f
+    pub stops_with : (fs : List Frame) (phase : Phase) (u : List ℕ) (b : ℕ) (e f : Reason) → (o : Holds fs phase u)
+        → feed (under g l) (at (spot_at (length u) start c) fs phase) b ≡ refuses e → reason_number e ≤ reason_number f → Stopped (u ++ b ∷ []) f
     stops_with fs phase u b e f o fed small =
         let k = length-append u (b ∷ []) in
         record {
@@ -70,7 +72,8 @@ module _ (g : Catalog) (l : Limits) where
           least = small;
         }
 
-    pub holds_via : (fs hs : List Frame) (phase then' : Phase) (u w v : List ℕ) → (o : Holds fs phase u) → v ≡ u ++ w → run g l (length u) (at (spot_at (length u) start c) fs phase) w ≡ led (at (spot_at (length v) start c) hs then') → Holds hs then' v
+    pub holds_via : (fs hs : List Frame) (phase then' : Phase) (u w v : List ℕ) → (o : Holds fs phase u) → v ≡ u ++ w
+        → run g l (length u) (at (spot_at (length u) start c) fs phase) w ≡ led (at (spot_at (length v) start c) hs then') → Holds hs then' v
     holds_via fs hs phase then' u w v o e r = record {
       given = o.given ++ [];
       ran = ap (λ x. run g l 0 initial x) e
@@ -79,10 +82,13 @@ module _ (g : Catalog) (l : Limits) where
           ∙ ap (λ x. record { given = o.given ++ x.given; now = x.now }) r));
     }
 
-    pub goes_with : (fs hs : List Frame) (phase then' : Phase) (u : List ℕ) (b : ℕ) → (o : Holds fs phase u) → feed (under g l) (at (spot_at (length u) start c) fs phase) b ≡ goes (at (spot_at (length u + 1) start c) hs then') → Holds hs then' (u ++ b ∷ [])
+    pub goes_with : (fs hs : List Frame) (phase then' : Phase) (u : List ℕ) (b : ℕ) → (o : Holds fs phase u)
+        → feed (under g l) (at (spot_at (length u) start c) fs phase) b ≡ goes (at (spot_at (length u + 1) start c) hs then') → Holds hs then' (u ++ b ∷ [])
     goes_with fs hs phase then' u b o fed =
         let k = length-append u (b ∷ []) in
-        holds_via fs hs phase then' u (b ∷ []) (u ++ b ∷ []) o refl (ap (run_after (length u + 1)) fed ∙ ap (λ n. led (at (spot_at n start c) hs then')) (let j : length u + 1 ≡ length (u ++ b ∷ []) = omega arith in j))
+        holds_via fs hs phase then' u (b ∷ []) (u ++ b ∷ []) o refl
+        (ap (run_after (length u + 1)) fed ∙ ap (λ n. led (at (spot_at n start c) hs then')) (let j : length u + 1 ≡ length (u ++ b ∷ []) = omega arith in
+        j))
 
     pub leads_holds : (ks : List Container) (u : List ℕ) → (d : Leads g l c start ks u) → Holds d.fs (phase_of ks) u
     leads_holds ks u d = record { given = d.given; ran = d.ran }
@@ -103,13 +109,19 @@ module _ (g : Catalog) (l : Limits) where
     go_less (k ∷ ks) p a b i h = λ last r. let j = h last r in omega arith
 
     -- where it may go on, the machine goes on
-    pub past_none : (ks : List Container) (p : Number) (fs : List Frame) (used : ℕ) → MayGoOn g l c start ks p used → InFrames c ks p fs → past l.item start fs (purpose_of p) used ≡ None
+    pub past_none : (ks : List Container) (p : Number) (fs : List Frame) (used : ℕ) → MayGoOn g l c start ks p used → InFrames c ks p fs
+        → past l.item start fs (purpose_of p) used ≡ None
     past_none _ _ _ used h (length_in _ form _ nothing_open) = too_long_none l.item start form used h
-    past_none _ _ _ used h (length_in _ form _ (items end x vs fs ks m)) = cond-true _ _ _ (lt-ltb used end (goes_last (Items end ∷ ks) (Length form) used end h (of_container (Items end) ks form)))
-    past_none _ _ _ used h (length_in _ form _ (names end ms fs ks m)) = cond-true _ _ _ (lt-ltb used end (goes_last (Names end ∷ ks) (Length form) used end h (of_container (Names end) ks form)))
-    past_none _ _ _ used h (length_in _ form _ (named end id ms fs ks m)) = cond-true _ _ _ (lt-ltb used end (goes_last (Named end id ∷ ks) (Length form) used end h (of_container (Named end id) ks form)))
-    past_none _ _ _ used h (length_in _ form _ (noted end ss fs ks m)) = cond-true _ _ _ (lt-ltb used end (goes_last (Noted end ∷ ks) (Length form) used end h (of_container (Noted end) ks form)))
-    past_none _ _ _ used h (name_in _ _ _ (names end ms fs ks m)) = cond-true _ _ _ (lt-ltb used end (goes_last (Names end ∷ ks) Name used end h (of_struct end ks)))
+    past_none _ _ _ used h (length_in _ form _ (items end x vs fs ks m)) =
+        cond-true _ _ _ (lt-ltb used end (goes_last (Items end ∷ ks) (Length form) used end h (of_container (Items end) ks form)))
+    past_none _ _ _ used h (length_in _ form _ (names end ms fs ks m)) =
+        cond-true _ _ _ (lt-ltb used end (goes_last (Names end ∷ ks) (Length form) used end h (of_container (Names end) ks form)))
+    past_none _ _ _ used h (length_in _ form _ (named end id ms fs ks m)) =
+        cond-true _ _ _ (lt-ltb used end (goes_last (Named end id ∷ ks) (Length form) used end h (of_container (Named end id) ks form)))
+    past_none _ _ _ used h (length_in _ form _ (noted end ss fs ks m)) =
+        cond-true _ _ _ (lt-ltb used end (goes_last (Noted end ∷ ks) (Length form) used end h (of_container (Noted end) ks form)))
+    past_none _ _ _ used h (name_in _ _ _ (names end ms fs ks m)) =
+        cond-true _ _ _ (lt-ltb used end (goes_last (Names end ∷ ks) Name used end h (of_struct end ks)))
     past_none _ _ _ used h (count_in ks end fs m) = cond-true _ _ _ (lt-ltb used end (goes_last ks (Count end) used end h (of_wrapper ks end)))
     past_none _ _ _ used h (id_in ks end stop ss fs m) = cond-true _ _ _ (lt-ltb used stop (goes_last ks (Id stop) used stop h (of_annotations ks stop)))
 
@@ -119,7 +131,8 @@ module _ (g : Catalog) (l : Limits) where
       pub inside : InFrames c ks p fs
       pub holds : Holds fs (InNumber (purpose_of p) a) u
 
-    digit_holds : (ks : List Container) (p : Number) (a d n : ℕ) (u v : List ℕ) → HoldsIn ks p a u → d < 128 → n ≡ 128 * a + d → n < 2 ^ 63 → v ≡ u ++ d ∷ [] → MayGoOn g l c start ks p (length v) → HoldsIn ks p n v
+    digit_holds : (ks : List Container) (p : Number) (a d n : ℕ) (u v : List ℕ) → HoldsIn ks p a u → d < 128 → n ≡ 128 * a + d → n < 2 ^ 63 → v ≡ u ++ d ∷ []
+        → MayGoOn g l c start ks p (length v) → HoldsIn ks p n v
     digit_holds ks p a d n u v o q e bound i h =
         let k = length-append u (d ∷ []) in
         let k2 = ap length i in
@@ -130,11 +143,13 @@ module _ (g : Catalog) (l : Limits) where
           holds = subst (Holds o.fs (InNumber (purpose_of p) n)) (sym i)
               (goes_with o.fs o.fs (InNumber (purpose_of p) a) (InNumber (purpose_of p) n) u d o.holds
               (cond-true _ _ _ (lt-ltb d 128 q) ∙ (cond-true _ _ _ (lt-ltb (128 * a + d) (2 ^ 63) (omega arith))
-              ∙ (ap (λ x. unless x (goes (at (spot_at (length u + 1) start c) o.fs (InNumber (purpose_of p) (128 * a + d))))) (past_none ks p o.fs (length u + 1) (subst (MayGoOn g l c start ks p) j h) o.inside)
+              ∙ (ap (λ x. unless x (goes (at (spot_at (length u + 1) start c) o.fs (InNumber (purpose_of p) (128 * a + d)))))
+              (past_none ks p o.fs (length u + 1) (subst (MayGoOn g l c start ks p) j h) o.inside)
               ∙ ap (λ x. goes (at (spot_at (length u + 1) start c) o.fs (InNumber (purpose_of p) x))) (sym e)))));
         }
 
-    digits_hold : (ks : List Container) (p : Number) (ds : List ℕ) (u : List ℕ) → Digits128 ds → HoldsIn ks p 0 u → positional 128 ds < 2 ^ 63 → MayGoOn g l c start ks p (length (u ++ ds)) → HoldsIn ks p (positional 128 ds) (u ++ ds)
+    digits_hold : (ks : List Container) (p : Number) (ds : List ℕ) (u : List ℕ) → Digits128 ds → HoldsIn ks p 0 u → positional 128 ds < 2 ^ 63
+        → MayGoOn g l c start ks p (length (u ++ ds)) → HoldsIn ks p (positional 128 ds) (u ++ ds)
     digits_hold ks p _ u none o b h = subst (HoldsIn ks p 0) (sym (append-nil u)) o
     digits_hold ks p _ u (more ds d s q) o b h =
         let k = digits_more ds d in
@@ -145,7 +160,8 @@ module _ (g : Catalog) (l : Limits) where
         (digits_hold ks p ds u s o (omega arith) (go_less ks p _ _ (omega arith) h)) q k b (sym (append_assoc u ds (d ∷ []))) h
 
     -- the header of a wrapper
-    wrapper_holds : (ks : List Container) (end : ℕ) (u : List ℕ) → Headed l c start (Open g l c start ks) ks forms.Wrapper end u → length u < end → HoldsIn ks (Count end) 0 u
+    wrapper_holds : (ks : List Container) (end : ℕ) (u : List ℕ) → Headed l c start (Open g l c start ks) ks forms.Wrapper end u → length u < end
+        → HoldsIn ks (Count end) 0 u
     wrapper_holds ks end u h i =
         let d = open_run g l c start ks h.before h.outer in
         let e = h.ends in
@@ -153,14 +169,17 @@ module _ (g : Catalog) (l : Limits) where
         record {
           fs = frames.Annotated end [] ∷ d.fs;
           inside = count_in ks end d.fs d.match;
-          holds = holds_via d.fs (frames.Annotated end [] ∷ d.fs) (phase_of ks) (InNumber purposes.AnnotationsLength 0) h.before (h.header ++ []) u (leads_holds ks h.before d) (h.parts ∙ ap (λ x. h.before ++ x) (sym (append-nil h.header)))
-              (ap (λ p. run g l (length h.before) (at (spot_at (length h.before) start c) d.fs p) (h.header ++ [])) (takes_phase g l c start ks forms.Wrapper h.begins)
+          holds = holds_via d.fs (frames.Annotated end [] ∷ d.fs) (phase_of ks) (InNumber purposes.AnnotationsLength 0) h.before (h.header ++ []) u
+              (leads_holds ks h.before d) (h.parts ∙ ap (λ x. h.before ++ x) (sym (append-nil h.header)))
+              (ap (λ p. run g l (length h.before) (at (spot_at (length h.before) start c) d.fs p) (h.header ++ []))
+              (takes_phase g l c start ks forms.Wrapper h.begins)
               ∙ (headed_run g l c start ks d.fs forms.Wrapper end u [] (Open g l c start ks) h (cond-false _ _ _ (ne_eqb h.n 0 (λ x. omega arith))) d.match
               ∙ (ap (run_on (length u) (λ n. run g l (length u) n [])) (begin_wrapper g l (spot_at (length u) start c) d.fs h.n)
               ∙ ap (λ x. led (at (spot_at (length u) start c) (frames.Annotated x [] ∷ d.fs) (InNumber purposes.AnnotationsLength 0))) here)));
         }
 
-    count_frames : (ks : List Container) (end : ℕ) (fs : List Frame) → InFrames c ks (Count end) fs → (hs : List Frame) × (fs ≡ frames.Annotated end [] ∷ hs) × Match c hs ks
+    count_frames : (ks : List Container) (end : ℕ) (fs : List Frame) → InFrames c ks (Count end) fs → (hs : List Frame) × (fs ≡ frames.Annotated end [] ∷ hs)
+        × Match c hs ks
     count_frames _ _ _ (count_in ks end fs m) = (fs, refl, m)
 
     -- before a number
@@ -175,10 +194,12 @@ module _ (g : Catalog) (l : Limits) where
         record {
           fs = d.fs;
           inside = inside;
-          holds = goes_with d.fs d.fs Ready (InNumber (purposes.Length form) 0) u b (subst (λ p. Holds d.fs p u) (takes_phase g l c start ks form m) (leads_holds ks u d))
+          holds = goes_with d.fs d.fs Ready (InNumber (purposes.Length form) 0) u b
+              (subst (λ p. Holds d.fs p u) (takes_phase g l c start ks form m) (leads_holds ks u d))
               (ap (on_descriptor (under g l) (spot_at (length u + 1) start c) d.fs) i
               ∙ (ap (λ x. unless x (unless (unending l.item start d.fs form (length u + 1)) (unless (nameless d.fs form) G))) a.fitting
-              ∙ (ap (λ x. unless x (unless (nameless d.fs form) G)) (past_none ks (Length form) d.fs (length u + 1) (subst (MayGoOn g l c start ks (Length form)) j h) inside)
+              ∙ (ap (λ x. unless x (unless (nameless d.fs form) G))
+              (past_none ks (Length form) d.fs (length u + 1) (subst (MayGoOn g l c start ks (Length form)) j h) inside)
               ∙ ap (λ x. unless x G) a.named)));
         }
     before_holds _ _ _ (a_name end ks u o) h =
@@ -198,12 +219,16 @@ module _ (g : Catalog) (l : Limits) where
         record {
           fs = frames.Annotated end ss ∷ f.0;
           inside = id_in ks end stop ss f.0 f.2;
-          holds = holds_via w.fs (frames.Annotated end ss ∷ f.0) (InNumber purposes.AnnotationsLength 0) (InNumber (purposes.Annotation stop) 0) front (count ++ ids) u w.holds refl
+          holds = holds_via w.fs (frames.Annotated end ss ∷ f.0) (InNumber purposes.AnnotationsLength 0) (InNumber (purposes.Annotation stop) 0) front
+              (count ++ ids) u w.holds refl
               (ap (λ fs. run g l (length front) (at (spot_at (length front) start c) fs (InNumber purposes.AnnotationsLength 0)) (count ++ ids)) f.1
-              ∙ run_via g l (length front) mid (at (spot_at (length front) start c) (frames.Annotated end [] ∷ f.0) (InNumber purposes.AnnotationsLength 0)) (at (spot_at mid start c) (frames.Annotated end [] ∷ f.0) (InNumber (purposes.Annotation stop) 0)) _ count ids refl
-              (number_run g l (spot_at (length front) start c) (frames.Annotated end [] ∷ f.0) purposes.AnnotationsLength count n mid v refl (omega arith) ∙ ap (run_after mid) (count_goes g l (spot_at mid start c) f.0 end n [] some room))
+              ∙ run_via g l (length front) mid (at (spot_at (length front) start c) (frames.Annotated end [] ∷ f.0) (InNumber purposes.AnnotationsLength 0))
+              (at (spot_at mid start c) (frames.Annotated end [] ∷ f.0) (InNumber (purposes.Annotation stop) 0)) _ count ids refl
+              (number_run g l (spot_at (length front) start c) (frames.Annotated end [] ∷ f.0) purposes.AnnotationsLength count n mid v refl (omega arith)
+              ∙ ap (run_after mid) (count_goes g l (spot_at mid start c) f.0 end n [] some room))
               (ids_run g l (spot_at mid start c) f.0 end stop ids ss (length u) t (omega arith) there (omega arith)
-              ∙ ap (λ ph. led (at (spot_at (length u) start c) (frames.Annotated end ss ∷ f.0) ph)) (cond-false _ _ _ (ne_eqb (length u) stop (λ x. omega arith)))));
+              ∙ ap (λ ph. led (at (spot_at (length u) start c) (frames.Annotated end ss ∷ f.0) ph))
+              (cond-false _ _ _ (ne_eqb (length u) stop (λ x. omega arith)))));
         }
 
     -- inside of a number
@@ -214,14 +239,16 @@ module _ (g : Catalog) (l : Limits) where
         let value = o.value in
         let bound = o.bound in
         subst (HoldsIn ks p a) (sym o.parts) (subst (λ x. HoldsIn ks p x (o.before ++ o.digits)) (sym value)
-        (digits_hold ks p o.digits o.before o.small (before_holds ks p o.before o.comes (go_less ks p _ _ (omega arith) o.goes_on)) (omega arith) (subst (λ x. MayGoOn g l c start ks p (length x)) o.parts o.goes_on)))
+        (digits_hold ks p o.digits o.before o.small (before_holds ks p o.before o.comes (go_less ks p _ _ (omega arith) o.goes_on)) (omega arith)
+        (subst (λ x. MayGoOn g l c start ks p (length x)) o.parts o.goes_on)))
 
     -- for this reason or one with a smaller number
     abbrev pub Least : Reason → Outcome → Type 0
     Least f o = (e : Reason) × (o ≡ refuses e) × (reason_number e ≤ reason_number f)
 
     -- at the end of a number
-    pub number_stops : (ks : List Container) (p : Number) (n : ℕ) (u : List ℕ) (f : Reason) → EndsNumber g l c start ks p n u → ((fs : List Frame) → InFrames c ks p fs → Least f (number_came (under g l) (spot_at (length u) start c) fs (purpose_of p) n)) → Stopped u f
+    pub number_stops : (ks : List Container) (p : Number) (n : ℕ) (u : List ℕ) (f : Reason) → EndsNumber g l c start ks p n u
+        → ((fs : List Frame) → InFrames c ks p fs → Least f (number_came (under g l) (spot_at (length u) start c) fs (purpose_of p) n)) → Stopped u f
     number_stops ks p n u f o h =
         let i = number_holds ks p o.digits o.before o.inside in
         let r = h i.fs i.inside in
@@ -231,13 +258,15 @@ module _ (g : Catalog) (l : Limits) where
         let b = 128 + o.last in
         subst (λ x. Stopped x f) (sym o.parts)
         (stops_with i.fs (InNumber (purpose_of p) o.digits) o.before b r.0 f i.holds
-        (last_step g l (spot_at (length o.before) start c) i.fs (purpose_of p) o.digits b (length u) n (omega arith) (omega arith) o.bound (omega arith) ∙ r.1) r.2)
+        (last_step g l (spot_at (length o.before) start c) i.fs (purpose_of p) o.digits b (length u) n (omega arith) (omega arith) o.bound (omega arith) ∙ r.1)
+        r.2)
 
     length_match : (ks : List Container) (form : Form) (fs : List Frame) → InFrames c ks (Length form) fs → Match c fs ks
     length_match _ _ _ (length_in ks form fs m) = m
 
     -- at the end of a header
-    pub header_stops : (ks : List Container) (form : Form) (n : ℕ) (u : List ℕ) (f : Reason) → EndsHeader g l c start ks form n u → ((fs : List Frame) → Match c fs ks → Least f (sized (under g l) (spot_at (length u) start c) fs form n)) → Stopped u f
+    pub header_stops : (ks : List Container) (form : Form) (n : ℕ) (u : List ℕ) (f : Reason) → EndsHeader g l c start ks form n u
+        → ((fs : List Frame) → Match c fs ks → Least f (sized (under g l) (spot_at (length u) start c) fs form n)) → Stopped u f
     header_stops ks form n _ f (by_length u o) h = number_stops ks (Length form) n u f o (λ fs i. h fs (length_match ks form fs i))
     header_stops ks form n _ f (by_descriptor u b o t i) h =
         let d = open_run g l c start ks u o in

@@ -40,20 +40,27 @@ module _ (g : Catalog) (l : Limits) where
     pub open_rest : OpenRest l cut.rest
 
   cut_on : (start : ℕ) (s : List Value) (before w u : List ℕ) → u ≡ before ++ w → Cut start s before → Cut start s u
-  cut_on start s before w u e c = subst (Cut start s) (sym e) (record { front = c.front; rest = c.rest ++ w; parts = ap (λ x. x ++ w) c.parts ∙ append_assoc c.front c.rest w; whole = c.whole; at = c.at })
+  cut_on start s before w u e c = subst (Cut start s) (sym e)
+      (record { front = c.front; rest = c.rest ++ w; parts = ap (λ x. x ++ w) c.parts ∙ append_assoc c.front c.rest w; whole = c.whole; at = c.at })
 
-  box_before : (start : ℕ) (s : List Value) (Outer : List ℕ → Type 0) (fs : List Frame) (form : Form) (end : ℕ) (u : List ℕ) → ((w : List ℕ) → Outer w → Cut start s w) → Box l start Outer fs form end u → Cut start s u
+  box_before : (start : ℕ) (s : List Value) (Outer : List ℕ → Type 0) (fs : List Frame) (form : Form) (end : ℕ) (u : List ℕ)
+      → ((w : List ℕ) → Outer w → Cut start s w) → Box l start Outer fs form end u → Cut start s u
   box_before start s Outer fs form end u f o = cut_on start s o.before o.header u o.whole (f o.before o.outer)
 
-  struct_before : (start : ℕ) (c : List Slot) (s : List Value) (Outer : List ℕ → Type 0) (fs : List Frame) (end : ℕ) (ms : List Field) (u : List ℕ) → ((w : List ℕ) → Outer w → Cut start s w) → InFields l start c Outer fs end ms u → Cut start s u
+  struct_before : (start : ℕ) (c : List Slot) (s : List Value) (Outer : List ℕ → Type 0) (fs : List Frame) (end : ℕ) (ms : List Field) (u : List ℕ)
+      → ((w : List ℕ) → Outer w → Cut start s w) → InFields l start c Outer fs end ms u → Cut start s u
   struct_before start c s Outer fs end ms u f o = cut_on start s o.front o.body u o.whole (box_before start s Outer fs o.form end o.front f o.box)
 
   opened_cut : (start : ℕ) (c : List Slot) (s : List Value) (fs : List Frame) (u : List ℕ) → Opened g l start c s fs u → Cut start s u
   opened_cut start c s [] u o = record { front = u; rest = []; parts = sym (append-nil u); whole = document u s c o.0; at = o.1 }
-  opened_cut start c s (frames.Items end x vs ∷ fs) u o = cut_on start s o.front o.body u o.whole (box_before start s (Opened g l start c s fs) fs (forms.Listing x) end o.front (opened_cut start c s fs) o.box)
+  opened_cut start c s (frames.Items end x vs ∷ fs) u o = cut_on start s o.front o.body u o.whole
+      (box_before start s (Opened g l start c s fs) fs (forms.Listing x) end o.front (opened_cut start c s fs) o.box)
   opened_cut start c s (frames.Fields end ms ∷ fs) u o = struct_before start c s (Opened g l start c s fs) fs end ms u (opened_cut start c s fs) o
-  opened_cut start c s (frames.Named end ms name ∷ fs) u o = cut_on start s o.front o.id u o.whole (struct_before start c s (Opened g l start c s fs) fs end ms o.front (opened_cut start c s fs) o.inside)
-  opened_cut start c s (frames.Annotated end ss ∷ fs) u o = cut_on start s o.front (o.count ++ o.ids) u o.whole (box_before start s (Opened g l start c s fs) fs forms.Wrapper end o.front (opened_cut start c s fs) o.box)
+  opened_cut start c s (frames.Named end ms name ∷ fs) u o =
+      cut_on start s o.front o.id u o.whole (struct_before start c s (Opened g l start c s fs) fs end ms o.front (opened_cut start c s fs) o.inside)
+  opened_cut start c s (frames.Annotated end ss ∷ fs) u o =
+      cut_on start s o.front (o.count ++ o.ids) u o.whole (box_before start s (Opened g l start c s fs) fs forms.Wrapper end o.front (opened_cut start c s fs)
+      o.box)
 
   front_cut : (start : ℕ) (c : List Slot) (s : List Value) (u : List ℕ) → Front g l start c s u → Cut start s u
   front_cut start c s u (inl h) = record { front = []; rest = u; parts = refl; whole = subst (Whole g l []) (sym h.1) no_piece; at = sym h.2 }
@@ -64,7 +71,8 @@ module _ (g : Catalog) (l : Limits) where
   front_long start c s u (inr h) = h.1
 
   -- what ends where a body may end in these frames ends within the item
-  ends_within : (start : ℕ) (f : Frame) (fs : List Frame) (form : Form) (to : ℕ) → end_of f ≤ start + l.item → BodyMayEnd l start (f ∷ fs) form to → to ≤ start + l.item
+  ends_within : (start : ℕ) (f : Frame) (fs : List Frame) (form : Form) (to : ℕ) → end_of f ≤ start + l.item → BodyMayEnd l start (f ∷ fs) form to
+      → to ≤ start + l.item
   ends_within start (frames.Items end x vs) fs form to h r = omega arith
   ends_within start (frames.Fields end ms) fs form to h r = omega arith
   ends_within start (frames.Named end ms name) fs form to h r = omega arith
@@ -79,17 +87,22 @@ module _ (g : Catalog) (l : Limits) where
   struct_form forms.Wrapper n h = refl
 
   -- an open container ends within the item
-  end_within : (start : ℕ) (c : List Slot) (s : List Value) (f : Frame) (fs : List Frame) (u : List ℕ) → Opened g l start c s (f ∷ fs) u → end_of f ≤ start + l.item
+  end_within : (start : ℕ) (c : List Slot) (s : List Value) (f : Frame) (fs : List Frame) (u : List ℕ) → Opened g l start c s (f ∷ fs) u
+      → end_of f ≤ start + l.item
   end_within start c s (frames.Items end x vs) [] u o = o.box.room refl
-  end_within start c s (frames.Items end x vs) (k ∷ fs) u o = ends_within start k fs (forms.Listing x) end (end_within start c s k fs o.box.before o.box.outer) o.box.room
+  end_within start c s (frames.Items end x vs) (k ∷ fs) u o =
+      ends_within start k fs (forms.Listing x) end (end_within start c s k fs o.box.before o.box.outer) o.box.room
   end_within start c s (frames.Fields end ms) [] u o = o.box.room (struct_form o.form o.box.n o.kind)
   end_within start c s (frames.Fields end ms) (k ∷ fs) u o = ends_within start k fs o.form end (end_within start c s k fs o.box.before o.box.outer) o.box.room
   end_within start c s (frames.Named end ms name) [] u o = o.inside.box.room (struct_form o.inside.form o.inside.box.n o.inside.kind)
-  end_within start c s (frames.Named end ms name) (k ∷ fs) u o = ends_within start k fs o.inside.form end (end_within start c s k fs o.inside.box.before o.inside.box.outer) o.inside.box.room
+  end_within start c s (frames.Named end ms name) (k ∷ fs) u o =
+      ends_within start k fs o.inside.form end (end_within start c s k fs o.inside.box.before o.inside.box.outer) o.inside.box.room
   end_within start c s (frames.Annotated end ss) [] u o = o.box.room refl
-  end_within start c s (frames.Annotated end ss) (k ∷ fs) u o = ends_within start k fs forms.Wrapper end (end_within start c s k fs o.box.before o.box.outer) o.box.room
+  end_within start c s (frames.Annotated end ss) (k ∷ fs) u o =
+      ends_within start k fs forms.Wrapper end (end_within start c s k fs o.box.before o.box.outer) o.box.room
 
-  wrapper_within : (start : ℕ) (c : List Slot) (s : List Value) (fs : List Frame) (end : ℕ) (u : List ℕ) → Box l start (Opened g l start c s fs) fs forms.Wrapper end u → end ≤ start + l.item
+  wrapper_within : (start : ℕ) (c : List Slot) (s : List Value) (fs : List Frame) (end : ℕ) (u : List ℕ)
+      → Box l start (Opened g l start c s fs) fs forms.Wrapper end u → end ≤ start + l.item
   wrapper_within start c s [] end u o = o.room refl
   wrapper_within start c s (k ∷ fs) end u o = ends_within start k fs forms.Wrapper end (end_within start c s k fs o.before o.outer) o.room
 
@@ -105,11 +118,13 @@ module _ (g : Catalog) (l : Limits) where
   opened_fine start c s [] u o = tt
   opened_fine start c s (frames.Items end x vs ∷ fs) u o = (tt, opened_fine start c s fs o.box.before o.box.outer)
   opened_fine start c s (frames.Fields end ms ∷ fs) u o = (tt, opened_fine start c s fs o.box.before o.box.outer)
-  opened_fine start c s (frames.Named end ms name ∷ fs) u o = (subst (Decides {A = Option (List ℕ)}) (sym o.named) (resolve_decides c o.k), opened_fine start c s fs o.inside.box.before o.inside.box.outer)
+  opened_fine start c s (frames.Named end ms name ∷ fs) u o =
+      (subst (Decides {A = Option (List ℕ)}) (sym o.named) (resolve_decides c o.k), opened_fine start c s fs o.inside.box.before o.inside.box.outer)
   opened_fine start c s (frames.Annotated end ss ∷ fs) u o = (tt, opened_fine start c s fs o.box.before o.box.outer)
 
   pub rest_long : (start : ℕ) (s : List Value) (u : List ℕ) (c : Cut start s u) → length u ≡ start + length c.rest
-  rest_long start s u c = let k : length u ≡ length (c.front ++ c.rest) = ap length c.parts in let j = length-append c.front c.rest in let i = c.at in omega arith
+  rest_long start s u c = let k : length u ≡ length (c.front ++ c.rest) = ap length c.parts in let j = length-append c.front c.rest in let i = c.at in
+      omega arith
 
   item_open : (start : ℕ) (s : List Value) (u : List ℕ) → Cut start s u → length u ≤ start + l.item → OpenCut start s u
   item_open start s u c h = let k = rest_long start s u c in record { cut = c; open_rest = of_item c.rest (omega arith) }
@@ -129,7 +144,8 @@ module _ (g : Catalog) (l : Limits) where
   few_places Third = omega arith
   few_places Fourth = omega arith
 
-  marker_open : (start : ℕ) (c : List Slot) (s : List Value) (fs : List Frame) (m : Mark) (good : Bool) (u : List ℕ) → MarkerStands g l start c s fs m good u → OpenCut start s u
+  marker_open : (start : ℕ) (c : List Slot) (s : List Value) (fs : List Frame) (m : Mark) (good : Bool) (u : List ℕ) → MarkerStands g l start c s fs m good u
+      → OpenCut start s u
   marker_open start c s fs m good u o =
       let k : length u ≡ length (o.before ++ o.came) = ap length o.whole in
       let j = length-append o.before o.came in
@@ -138,7 +154,8 @@ module _ (g : Catalog) (l : Limits) where
       let q = few_places m in
       few_open start s u (cut_on start s o.before o.came u o.whole (front_cut start c s o.before o.front)) (omega arith)
 
-  length_cut : (start : ℕ) (c : List Slot) (s : List Value) (fs : List Frame) (form : Form) (a : ℕ) (u : List ℕ) → LengthStands g l start c s fs form a u → Cut start s u
+  length_cut : (start : ℕ) (c : List Slot) (s : List Value) (fs : List Frame) (form : Form) (a : ℕ) (u : List ℕ) → LengthStands g l start c s fs form a u
+      → Cut start s u
   length_cut start c s fs form a u o = cut_on start s o.before (o.b ∷ o.digits) u o.whole (opened_cut start c s fs o.before o.outer)
 
   pad_or : (form : Form) → (form ≡ forms.Pad) ⊎ (is_pad form ≡ false)
@@ -149,7 +166,8 @@ module _ (g : Catalog) (l : Limits) where
   pad_or forms.OrderedStruct = inr refl
   pad_or forms.Wrapper = inr refl
 
-  length_open : (start : ℕ) (c : List Slot) (s : List Value) (fs : List Frame) (form : Form) (a : ℕ) (u : List ℕ) → LengthStands g l start c s fs form a u → OpenCut start s u
+  length_open : (start : ℕ) (c : List Slot) (s : List Value) (fs : List Frame) (form : Form) (a : ℕ) (u : List ℕ) → LengthStands g l start c s fs form a u
+      → OpenCut start s u
   length_open start c s (f ∷ fs) form a u o =
       let h = o.going in let e = end_within start c s f fs o.before o.outer in
       item_open start s u (length_cut start c s (f ∷ fs) form a u o) (omega arith)
@@ -164,24 +182,29 @@ module _ (g : Catalog) (l : Limits) where
       go (inr p) = item_open start s u (length_cut start c s [] form a u o) (o.going p)
 
   -- a number in the innermost container
-  number_open : (start : ℕ) (c : List Slot) (s : List Value) (fs : List Frame) (p : Purpose) (a : ℕ) (u : List ℕ) → NumberStands g l start c s fs p a u → OpenCut start s u
+  number_open : (start : ℕ) (c : List Slot) (s : List Value) (fs : List Frame) (p : Purpose) (a : ℕ) (u : List ℕ) → NumberStands g l start c s fs p a u
+      → OpenCut start s u
   number_open start c s fs (purposes.Length form) a u o = length_open start c s fs form a u o
   number_open start c s (frames.Fields end ms ∷ fs) purposes.FieldName a u o =
       let h = o.going in
       let e = end_within start c s (frames.Fields end ms) fs o.front o.inside in
-      item_open start s u (cut_on start s o.front o.digits u o.whole (struct_before start c s (Opened g l start c s fs) fs end ms o.front (opened_cut start c s fs) o.inside)) (omega arith)
+      item_open start s u (cut_on start s o.front o.digits u o.whole
+      (struct_before start c s (Opened g l start c s fs) fs end ms o.front (opened_cut start c s fs) o.inside)) (omega arith)
   number_open start c s (frames.Annotated end ss ∷ fs) purposes.AnnotationsLength a u o =
       let h = o.going in
       let e = wrapper_within start c s fs end o.front o.box in
-      item_open start s u (cut_on start s o.front o.digits u o.whole (box_before start s (Opened g l start c s fs) fs forms.Wrapper end o.front (opened_cut start c s fs) o.box)) (omega arith)
+      item_open start s u (cut_on start s o.front o.digits u o.whole
+      (box_before start s (Opened g l start c s fs) fs forms.Wrapper end o.front (opened_cut start c s fs) o.box)) (omega arith)
   number_open start c s (frames.Annotated end ss ∷ fs) (purposes.Annotation stop) a u o =
       let h = o.going in
       let r = o.room in
       let e = wrapper_within start c s fs end o.front o.box in
-      item_open start s u (cut_on start s o.front (o.count ++ (o.ids ++ o.digits)) u o.whole (box_before start s (Opened g l start c s fs) fs forms.Wrapper end o.front (opened_cut start c s fs) o.box)) (omega arith)
+      item_open start s u (cut_on start s o.front (o.count ++ (o.ids ++ o.digits)) u o.whole
+      (box_before start s (Opened g l start c s fs) fs forms.Wrapper end o.front (opened_cut start c s fs) o.box)) (omega arith)
   number_open start c s _ _ a u o = absurd o
 
-  body_long : (start : ℕ) (c : List Slot) (s : List Value) (fs : List Frame) (form : Form) (n : ℕ) (came : List ℕ) (u : List ℕ) → (o : BodyStands g l start c s fs form n came u) → length u < o.end
+  body_long : (start : ℕ) (c : List Slot) (s : List Value) (fs : List Frame) (form : Form) (n : ℕ) (came : List ℕ) (u : List ℕ)
+      → (o : BodyStands g l start c s fs form n came u) → length u < o.end
   body_long start c s fs form n came u o =
       let k : length u ≡ length (o.before ++ (o.header ++ came)) = ap length o.whole in
       let j = length-append o.before (o.header ++ came) in
@@ -190,14 +213,17 @@ module _ (g : Catalog) (l : Limits) where
       let e = o.ends in
       omega arith
 
-  body_cut : (start : ℕ) (c : List Slot) (s : List Value) (fs : List Frame) (form : Form) (n : ℕ) (came : List ℕ) (u : List ℕ) → BodyStands g l start c s fs form n came u → Cut start s u
+  body_cut : (start : ℕ) (c : List Slot) (s : List Value) (fs : List Frame) (form : Form) (n : ℕ) (came : List ℕ) (u : List ℕ)
+      → BodyStands g l start c s fs form n came u → Cut start s u
   body_cut start c s fs form n came u o = cut_on start s o.before (o.header ++ came) u o.whole (opened_cut start c s fs o.before o.outer)
 
   -- a body ends within the item, unless it is a pad of the top level
-  body_within_item : (start : ℕ) (c : List Slot) (s : List Value) (f : Frame) (fs : List Frame) (form : Form) (n : ℕ) (came : List ℕ) (u : List ℕ) → (o : BodyStands g l start c s (f ∷ fs) form n came u) → o.end ≤ start + l.item
+  body_within_item : (start : ℕ) (c : List Slot) (s : List Value) (f : Frame) (fs : List Frame) (form : Form) (n : ℕ) (came : List ℕ) (u : List ℕ)
+      → (o : BodyStands g l start c s (f ∷ fs) form n came u) → o.end ≤ start + l.item
   body_within_item start c s f fs form n came u o = ends_within start f fs form o.end (end_within start c s f fs o.before o.outer) o.room
 
-  scalar_open : (start : ℕ) (c : List Slot) (s : List Value) (fs : List Frame) (t : Scalar) (n : ℕ) (came : List ℕ) (u : List ℕ) → BodyStands g l start c s fs (forms.Scalar t) n came u → OpenCut start s u
+  scalar_open : (start : ℕ) (c : List Slot) (s : List Value) (fs : List Frame) (t : Scalar) (n : ℕ) (came : List ℕ) (u : List ℕ)
+      → BodyStands g l start c s fs (forms.Scalar t) n came u → OpenCut start s u
   scalar_open start c s (f ∷ fs) t n came u o =
       let b = body_long start c s (f ∷ fs) (forms.Scalar t) n came u o in let e = body_within_item start c s f fs (forms.Scalar t) n came u o in
       item_open start s u (body_cut start c s (f ∷ fs) (forms.Scalar t) n came u o) (omega arith)
@@ -205,7 +231,8 @@ module _ (g : Catalog) (l : Limits) where
       let b = body_long start c s [] (forms.Scalar t) n came u o in let r = o.room refl in
       item_open start s u (body_cut start c s [] (forms.Scalar t) n came u o) (omega arith)
 
-  pad_open : (start : ℕ) (c : List Slot) (s : List Value) (fs : List Frame) (n : ℕ) (came : List ℕ) (u : List ℕ) → BodyStands g l start c s fs forms.Pad n came u → OpenCut start s u
+  pad_open : (start : ℕ) (c : List Slot) (s : List Value) (fs : List Frame) (n : ℕ) (came : List ℕ) (u : List ℕ)
+      → BodyStands g l start c s fs forms.Pad n came u → OpenCut start s u
   pad_open start c s (f ∷ fs) n came u o =
       let b = body_long start c s (f ∷ fs) forms.Pad n came u o in let e = body_within_item start c s f fs forms.Pad n came u o in
       item_open start s u (body_cut start c s (f ∷ fs) forms.Pad n came u o) (omega arith)
@@ -217,14 +244,16 @@ module _ (g : Catalog) (l : Limits) where
       }
 
   -- where the machine stands, the octets are whole pieces and an open rest
-  pub standing_open : (start : ℕ) (c : List Slot) (s : List Value) (fs : List Frame) (body : List ℕ) (phase : Phase) (u : List ℕ) → Standing g l start c s fs body phase u → OpenCut start s u
+  pub standing_open : (start : ℕ) (c : List Slot) (s : List Value) (fs : List Frame) (body : List ℕ) (phase : Phase) (u : List ℕ)
+      → Standing g l start c s fs body phase u → OpenCut start s u
   standing_open start c s fs body (InMarker m good) u o = marker_open start c s fs m good u o
   standing_open start c s fs body Ready u o = before_open start c s fs u o.opened
   standing_open start c s fs body (InNumber p a) u o = number_open start c s fs p a u o
   standing_open start c s fs body (InBody t n) u o = scalar_open start c s fs t n body u o
   standing_open start c s fs body (InPad n) u o = pad_open start c s fs n o.0 u o.1
 
-  number_fine : (start : ℕ) (c : List Slot) (s : List Value) (fs : List Frame) (p : Purpose) (a : ℕ) (u : List ℕ) → NumberStands g l start c s fs p a u → FineFrames fs
+  number_fine : (start : ℕ) (c : List Slot) (s : List Value) (fs : List Frame) (p : Purpose) (a : ℕ) (u : List ℕ) → NumberStands g l start c s fs p a u
+      → FineFrames fs
   number_fine start c s fs (purposes.Length form) a u o = opened_fine start c s fs o.before o.outer
   number_fine start c s (frames.Fields end ms ∷ fs) purposes.FieldName a u o = (tt, opened_fine start c s fs o.inside.box.before o.inside.box.outer)
   number_fine start c s (frames.Annotated end ss ∷ fs) purposes.AnnotationsLength a u o = (tt, opened_fine start c s fs o.box.before o.box.outer)
@@ -232,7 +261,8 @@ module _ (g : Catalog) (l : Limits) where
   number_fine start c s _ _ a u o = absurd o
 
   -- where the machine stands, the ids of the open field names were looked up
-  pub standing_fine : (start : ℕ) (c : List Slot) (s : List Value) (fs : List Frame) (body : List ℕ) (phase : Phase) (u : List ℕ) → Standing g l start c s fs body phase u → FineFrames fs
+  pub standing_fine : (start : ℕ) (c : List Slot) (s : List Value) (fs : List Frame) (body : List ℕ) (phase : Phase) (u : List ℕ)
+      → Standing g l start c s fs body phase u → FineFrames fs
   standing_fine start c s fs body (InMarker m good) u o = subst FineFrames (sym o.top) tt
   standing_fine start c s fs body Ready u o = opened_fine start c s fs u o.opened
   standing_fine start c s fs body (InNumber p a) u o = number_fine start c s fs p a u o
@@ -240,7 +270,8 @@ module _ (g : Catalog) (l : Limits) where
   standing_fine start c s fs body (InPad n) u o = opened_fine start c s fs o.1.before o.1.outer
 
   -- the octets kept of a body are at most an item's
-  body_kept : (start : ℕ) (c : List Slot) (s : List Value) (fs : List Frame) (t : Scalar) (n : ℕ) (came : List ℕ) (u : List ℕ) → BodyStands g l start c s fs (forms.Scalar t) n came u → length came ≤ l.item
+  body_kept : (start : ℕ) (c : List Slot) (s : List Value) (fs : List Frame) (t : Scalar) (n : ℕ) (came : List ℕ) (u : List ℕ)
+      → BodyStands g l start c s fs (forms.Scalar t) n came u → length came ≤ l.item
   body_kept start c s [] t n came u o =
       let z = o.sizes in let e = o.ends in let r = o.room refl in let a = o.outer.1 in omega arith
   body_kept start c s (f ∷ fs) t n came u o =
@@ -250,5 +281,6 @@ module _ (g : Catalog) (l : Limits) where
       let a = rest_long start s o.before k in
       omega arith
 
-  pub body_within : (start : ℕ) (c : List Slot) (s : List Value) (fs : List Frame) (body : List ℕ) (t : Scalar) (n : ℕ) (u : List ℕ) → Standing g l start c s fs body (InBody t n) u → length body ≤ l.item
+  pub body_within : (start : ℕ) (c : List Slot) (s : List Value) (fs : List Frame) (body : List ℕ) (t : Scalar) (n : ℕ) (u : List ℕ)
+      → Standing g l start c s fs body (InBody t n) u → length body ≤ l.item
   body_within start c s fs body t n u o = body_kept start c s fs t n body u o

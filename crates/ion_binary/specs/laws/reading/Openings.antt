@@ -34,7 +34,8 @@ some_none : (b : Bool) (x : Reason) → cond b (Some x) None ≡ None → b ≡ 
 some_none true x h = cc
 some_none false x h = refl
 
-pub may_begin : (c : List Slot) (fs : List Frame) (ks : List Container) (form : Form) → Match c fs ks → Fitting fs form → MayBegin c ks (is_pad form) (is_wrapper form)
+pub may_begin : (c : List Slot) (fs : List Frame) (ks : List Container) (form : Form) → Match c fs ks → Fitting fs form
+    → MayBegin c ks (is_pad form) (is_wrapper form)
 may_begin c _ _ form nothing_open h = tt
 may_begin c _ _ form (items end x vs fs ks m) h = tt
 may_begin c _ _ form (names end ms fs ks m) h = absurd h.receives
@@ -48,7 +49,8 @@ may_begin c _ _ form (named end id ms fs ks m) h = λ p. go (resolve c id) refl 
         let k : cond (is_pad form) None (Some x) ≡ Some x = cond-false _ _ _ p in
         absurd (let q : Some x ≡ None = sym k ∙ n in cc)
 
-pub may_reach : (l : Limits) (start : ℕ) (c : List Slot) (fs : List Frame) (ks : List Container) (form : Form) (to : ℕ) → Match c fs ks → BodyMayEnd l start fs form to → MayReach l start ks (is_pad form) to
+pub may_reach : (l : Limits) (start : ℕ) (c : List Slot) (fs : List Frame) (ks : List Container) (form : Form) (to : ℕ) → Match c fs ks
+    → BodyMayEnd l start fs form to → MayReach l start ks (is_pad form) to
 may_reach l start c _ _ form to nothing_open h = h
 may_reach l start c _ _ form to (items end x vs fs ks m) h = h
 may_reach l start c _ _ form to (names end ms fs ks m) h = h
@@ -78,7 +80,8 @@ module _ (g : Catalog) (l : Limits) (start : ℕ) (c : List Slot) (s : List Valu
     pub match : Match c fs ks
     pub open' : Open g l c start ks u
 
-  headed : (fs : List Frame) (form : Form) (end : ℕ) (u : List ℕ) → (b : Box l start (Opened g l start c s fs) fs form end u) → (o : Shape fs b.before) → Headed l c start (Open g l c start o.ks) o.ks form end u
+  headed : (fs : List Frame) (form : Form) (end : ℕ) (u : List ℕ) → (b : Box l start (Opened g l start c s fs) fs form end u) → (o : Shape fs b.before)
+      → Headed l c start (Open g l c start o.ks) o.ks form end u
   headed fs form end u b o = record {
     before = b.before;
     header = b.header;
@@ -99,7 +102,8 @@ module _ (g : Catalog) (l : Limits) (start : ℕ) (c : List Slot) (s : List Valu
       let e = b.ends in
       ends_inside l start fs form end (length b.before) b.room (omega arith)
 
-  struct_open : (fs : List Frame) (end : ℕ) (ms : List Field) (u : List ℕ) → (i : InFields l start c (Opened g l start c s fs) fs end ms u) → (o : Shape fs i.box.before) → Match c fs o.ks → length u < end → deciding.InStruct l c start (Open g l c start o.ks) o.ks end u
+  struct_open : (fs : List Frame) (end : ℕ) (ms : List Field) (u : List ℕ) → (i : InFields l start c (Opened g l start c s fs) fs end ms u)
+      → (o : Shape fs i.box.before) → Match c fs o.ks → length u < end → deciding.InStruct l c start (Open g l c start o.ks) o.ks end u
   struct_open fs end ms u i o m h =
       let d = i.deep in
       let e = same_levels c fs o.ks o.match in
@@ -125,7 +129,18 @@ module _ (g : Catalog) (l : Limits) (start : ℕ) (c : List Slot) (s : List Valu
       record {
         ks = Items end ∷ p.ks;
         match = items end x vs fs p.ks p.match;
-        open' = record { front = o.front; body = o.body; listing = x; items = vs; parts = o.whole; headed = headed fs (forms.Listing x) end o.front o.box p; come = o.items; deep = omega arith; more = i };
+        open' = record {
+          front = o.front;
+          body = o.body;
+          listing = x;
+          items = vs;
+          parts = o.whole;
+          headed =
+              headed fs (forms.Listing x) end o.front o.box p;
+          come = o.items;
+          deep = omega arith;
+          more = i;
+        };
       }
   opened_open (frames.Fields end ms ∷ fs) u o i =
       let p = opened_open fs o.box.before o.box.outer (box_inside fs o.form end o.front o.box) in
@@ -139,14 +154,33 @@ module _ (g : Catalog) (l : Limits) (start : ℕ) (c : List Slot) (s : List Valu
       record {
         ks = Named end o.k ∷ p.ks;
         match = subst (λ r. Match c (frames.Named end ms r ∷ fs) (Named end o.k ∷ p.ks)) (sym o.named) (named end o.k ms fs p.ks p.match);
-        open' = record { front = o.front; name = o.id; parts = o.whole; inside = struct_open fs end ms o.front o.inside p p.match (omega arith); number = o.number; more = w };
+        open' = record {
+          front = o.front;
+          name = o.id;
+          parts = o.whole;
+          inside = struct_open fs end ms o.front o.inside p p.match (omega arith);
+          number = o.number;
+          more = w;
+        };
       }
   opened_open (frames.Annotated end ss ∷ fs) u o i =
       let p = opened_open fs o.box.before o.box.outer (box_inside fs forms.Wrapper end o.front o.box) in
       record {
         ks = Noted end ∷ p.ks;
         match = noted end ss fs p.ks p.match;
-        open' = record { front = o.front; count = o.count; ids = o.ids; symbols = ss; parts = o.whole; headed = headed fs forms.Wrapper end o.front o.box p; number = o.number; some = o.some; come = o.symbols; more = o.within };
+        open' = record {
+          front = o.front;
+          count = o.count;
+          ids = o.ids;
+          symbols = ss;
+          parts = o.whole;
+          headed =
+              headed fs forms.Wrapper end o.front o.box p;
+          number = o.number;
+          some = o.some;
+          come = o.symbols;
+          more = o.within;
+        };
       }
 
   -- in a number
@@ -158,10 +192,12 @@ module _ (g : Catalog) (l : Limits) (start : ℕ) (c : List Slot) (s : List Valu
     pub inside : deciding.InNumber g l c start ks q a u
 
   -- where a number in a container may go on
-  before_end : (k : Container) (ks : List Container) (form : Form) (used : ℕ) → used < deciding.container_end k → (last : ℕ) → LastOctet g l c start (k ∷ ks) (Length form) last → used < last
+  before_end : (k : Container) (ks : List Container) (form : Form) (used : ℕ) → used < deciding.container_end k → (last : ℕ)
+      → LastOctet g l c start (k ∷ ks) (Length form) last → used < last
   before_end k ks form used h last (of_container _ _ _) = h
 
-  in_container : (fs : List Frame) (ks : List Container) (form : Form) (used : ℕ) → Match c fs ks → Going l start fs form used → MayGoOn g l c start ks (Length form) used
+  in_container : (fs : List Frame) (ks : List Container) (form : Form) (used : ℕ) → Match c fs ks → Going l start fs form used
+      → MayGoOn g l c start ks (Length form) used
   in_container _ _ form used nothing_open h = h
   in_container _ _ form used (items end x vs fs ks m) h = before_end (Items end) ks form used h
   in_container _ _ form used (names end ms fs ks m) h = before_end (Names end) ks form used h
@@ -211,13 +247,24 @@ module _ (g : Catalog) (l : Limits) (start : ℕ) (c : List Slot) (s : List Valu
       let p = opened_open (frames.Fields end ms ∷ fs) o.front o.inside (omega arith) in
       by p.ks p.match p.open'
     where
-      by : (ks : List Container) → Match c (frames.Fields end ms ∷ fs) ks → Open g l c start ks o.front → Numbered (frames.Fields end ms ∷ fs) purposes.FieldName a u
+      by : (ks : List Container) → Match c (frames.Fields end ms ∷ fs) ks → Open g l c start ks o.front
+          → Numbered (frames.Fields end ms ∷ fs) purposes.FieldName a u
       by _ (names _ _ _ ks m) x = record {
         ks = Names end ∷ ks;
         q = Name;
         same = refl;
         frames' = name_in end ks (frames.Fields end ms ∷ fs) (names end ms fs ks m);
-        inside = record { before = o.front; digits = o.digits; parts = o.whole; comes = a_name end ks o.front x; small = o.small; value = o.value; bound = small; goes_on = name_goes ks end (length u) o.going };
+        inside = record {
+          before = o.front;
+          digits = o.digits;
+          parts = o.whole;
+          comes = a_name end ks o.front x;
+          small = o.small;
+          value = o.value;
+          bound =
+              small;
+          goes_on = name_goes ks end (length u) o.going;
+        };
       }
   numbered (frames.Annotated end ss ∷ fs) purposes.AnnotationsLength a u small o =
       let p = opened_open fs o.box.before o.box.outer (box_inside fs forms.Wrapper end o.front o.box) in
@@ -226,7 +273,16 @@ module _ (g : Catalog) (l : Limits) (start : ℕ) (c : List Slot) (s : List Valu
         q = Count end;
         same = refl;
         frames' = subst (λ x. InFrames c p.ks (Count end) (frames.Annotated end x ∷ fs)) (sym o.none_yet) (count_in p.ks end fs p.match);
-        inside = record { before = o.front; digits = o.digits; parts = o.whole; comes = a_count p.ks end o.front (headed fs forms.Wrapper end o.front o.box p); small = o.small; value = o.value; bound = small; goes_on = count_goes p.ks end (length u) o.going };
+        inside = record {
+          before = o.front;
+          digits = o.digits;
+          parts = o.whole;
+          comes = a_count p.ks end o.front (headed fs forms.Wrapper end o.front o.box p);
+          small = o.small;
+          value = o.value;
+          bound = small;
+          goes_on = count_goes p.ks end (length u) o.going;
+        };
       }
   numbered (frames.Annotated end ss ∷ fs) (purposes.Annotation stop) a u small o =
       let p = opened_open fs o.box.before o.box.outer (box_inside fs forms.Wrapper end o.front o.box) in
@@ -241,7 +297,8 @@ module _ (g : Catalog) (l : Limits) (start : ℕ) (c : List Slot) (s : List Valu
           before = o.front ++ (o.count ++ o.ids);
           digits = o.digits;
           parts = o.whole ∙ (ap (λ x. o.front ++ x) (sym (append_assoc o.count o.ids o.digits)) ∙ sym (append_assoc o.front (o.count ++ o.ids) o.digits));
-          comes = subst (λ x. deciding.Before g l c start p.ks (Id x) (o.front ++ (o.count ++ o.ids))) (sym e) (an_id p.ks end o.n o.front o.count o.ids ss (headed fs forms.Wrapper end o.front o.box p) o.number o.some o.symbols (omega arith));
+          comes = subst (λ x. deciding.Before g l c start p.ks (Id x) (o.front ++ (o.count ++ o.ids))) (sym e)
+              (an_id p.ks end o.n o.front o.count o.ids ss (headed fs forms.Wrapper end o.front o.box p) o.number o.some o.symbols (omega arith));
           small = o.small;
           value = o.value;
           bound = small;

@@ -30,7 +30,8 @@ use Rattle.ion_binary.specs.laws.reading.OpenRests.{OpenCut, standing_open, stan
 use Rattle.ion_binary.specs.laws.reading.Stops.{Stop, stop_of, stopped, begins_none, whole_within}
 
 -- a document where the end is reached with no open piece
-finished : (g : Catalog) (l : Limits) (c : List Slot) (fs : List Frame) (phase : Phase) (start : ℕ) (s : List Value) (body u : List ℕ) (r : Refusal) (last : Option Value) → Standing g l start c s fs body phase u → cond (whole phase fs) (Ok None) (Err r) ≡ Ok last → (last ≡ None) × Document g l u s
+finished : (g : Catalog) (l : Limits) (c : List Slot) (fs : List Frame) (phase : Phase) (start : ℕ) (s : List Value) (body u : List ℕ) (r : Refusal)
+    (last : Option Value) → Standing g l start c s fs body phase u → cond (whole phase fs) (Ok None) (Err r) ≡ Ok last → (last ≡ None) × Document g l u s
 finished g l c [] Ready start s body u r last o h = (cc, (c, o.opened.0))
 finished g l c [] (InMarker m good) start s body u r last o h = absurd cc
 finished g l c [] (InNumber p a) start s body u r last o h = absurd cc
@@ -42,14 +43,16 @@ finished g l c (f ∷ fs) (InNumber p a) start s body u r last o h = absurd cc
 finished g l c (f ∷ fs) (InBody b n) start s body u r last o h = absurd cc
 finished g l c (f ∷ fs) (InPad n) start s body u r last o h = absurd cc
 
-ended_well : (g : Catalog) (l : Limits) (u : List ℕ) (given : List (Value × ℕ)) (now : Result Machine Refusal) (last : Option Value) → Ended g l u [] given now → ends_of now ≡ Ok last → (last ≡ None) × Document g l u (plain given)
+ended_well : (g : Catalog) (l : Limits) (u : List ℕ) (given : List (Value × ℕ)) (now : Result Machine Refusal) (last : Option Value) → Ended g l u [] given now
+    → ends_of now ≡ Ok last → (last ≡ None) × Document g l u (plain given)
 ended_well g l u given (Ok m) last o h = finished g l m.spot.context m.frames m.phase m.spot.start (plain given) m.body u _ last o.standing h
 ended_well g l u given (Err e) last o h = absurd cc
 
 admits : (g : Catalog) (l : Limits) (u : List ℕ) (s : List Value) → Streams (trace g l u) s → Document g l u s
 admits g l u s t =
     let d = ended_well g l u (run g l 0 initial u).given (run g l 0 initial u).now t.last (run_stands g l 0 initial [] u [] (initial_stands g l)) t.ends in
-    let e : plain (run g l 0 initial u).given ++ option_to_list t.last ≡ plain (run g l 0 initial u).given = ap (λ o. plain (run g l 0 initial u).given ++ option_to_list o) d.0 ∙ append-nil _ in
+    let e : plain (run g l 0 initial u).given ++ option_to_list t.last ≡ plain (run g l 0 initial u).given =
+    ap (λ o. plain (run g l 0 initial u).given ++ option_to_list o) d.0 ∙ append-nil _ in
     subst (Document g l u) (sym (t.values ∙ e)) d.1
 
 accepts : (g : Catalog) (l : Limits) (u : List ℕ) (s : List Value) → Document g l u s → Streams (trace g l u) s
@@ -87,14 +90,17 @@ one_whole g l _ _ _ _ e (document u s c d) no_piece = let k : length u ≡ 0 = a
 one_whole g l _ _ _ _ e (document u s c d) (document w t b f) = one_stream g l w s t (subst (λ x. Document g l x s) e (c, d)) (b, f)
 
 -- octets show one stream
-pub one_shown : (g : Catalog) (l : Limits) (u : List ℕ) (s t : List Value) → Shown (λ front following s. Whole g l front s) u s → Shown (λ front following s. Whole g l front s) u t → s ≡ t
+pub one_shown : (g : Catalog) (l : Limits) (u : List ℕ) (s t : List Value) → Shown (λ front following s. Whole g l front s) u s
+    → Shown (λ front following s. Whole g l front s) u t → s ≡ t
 one_shown g l u s t a b = shown_once (λ front following s. Whole g l front s) u s t (λ front following p q. one_whole g l front front s t refl p q) a b
 
 -- what the machine holds behind octets stands for them
-pub ran_stands : (g : Catalog) (l : Limits) (u : List ℕ) (given : List (Value × ℕ)) (m : Machine) → run g l 0 initial u ≡ record { given = given; now = Ok m } → MachineStands g l u (plain given) m
+pub ran_stands : (g : Catalog) (l : Limits) (u : List ℕ) (given : List (Value × ℕ)) (m : Machine) → run g l 0 initial u ≡ record { given = given; now = Ok m }
+    → MachineStands g l u (plain given) m
 ran_stands g l u given m e = subst (λ (r : Run). Ended g l u [] r.given r.now) e (run_stands g l 0 initial [] u [] (initial_stands g l))
 
-cut_of : (g : Catalog) (l : Limits) (u : List ℕ) (given : List (Value × ℕ)) (m : Machine) → run g l 0 initial u ≡ record { given = given; now = Ok m } → OpenCut g l m.spot.start (plain given) u
+cut_of : (g : Catalog) (l : Limits) (u : List ℕ) (given : List (Value × ℕ)) (m : Machine) → run g l 0 initial u ≡ record { given = given; now = Ok m }
+    → OpenCut g l m.spot.start (plain given) u
 cut_of g l u given m e = standing_open g l m.spot.start m.spot.context (plain given) m.frames m.body m.phase u (ran_stands g l u given m e).standing
 
 -- two lists of octets begin alike
@@ -107,7 +113,9 @@ front_of (y ∷ before) w (x ∷ v) rest e h =
     let p = front_of before w v rest tail (omega arith) in
     (p.0, ap (λ z. z ∷ before) head ∙ ap (λ zs. x ∷ zs) p.1)
 
-shows_now : (g : Catalog) (l : Limits) (u : List ℕ) (given : List (Value × ℕ)) (now : Result Machine Refusal) → run g l 0 initial u ≡ record { given = given; now = now } → refused_of now ≡ None → Shows (λ front following s. Whole g l front s) (λ front rest. OpenRest l rest) u (plain given)
+shows_now : (g : Catalog) (l : Limits) (u : List ℕ) (given : List (Value × ℕ)) (now : Result Machine Refusal)
+    → run g l 0 initial u ≡ record { given = given; now = now } → refused_of now ≡ None
+    → Shows (λ front following s. Whole g l front s) (λ front rest. OpenRest l rest) u (plain given)
 shows_now g l u given (Err e) ran h = absurd cc
 shows_now g l u given (Ok m) ran h =
     let c = cut_of g l u given m ran in
@@ -127,7 +135,8 @@ shows_now g l u given (Ok m) ran h =
     }
 
 -- where nothing was refused, the values given are those shown
-pub shown : (g : Catalog) (l : Limits) (u : List ℕ) → (trace g l u).refused ≡ None → Shows (λ front following s. Whole g l front s) (λ front rest. OpenRest l rest) u (plain (trace g l u).given)
+pub shown : (g : Catalog) (l : Limits) (u : List ℕ) → (trace g l u).refused ≡ None
+    → Shows (λ front following s. Whole g l front s) (λ front rest. OpenRest l rest) u (plain (trace g l u).given)
 shown g l u h = shows_now g l u (run g l 0 initial u).given (run g l 0 initial u).now refl h
 
 refused_is : (now : Result Machine Refusal) (r : Refusal) → refused_of now ≡ Some r → now ≡ Err r
@@ -135,7 +144,8 @@ refused_is (Ok m) r h = absurd cc
 refused_is (Err e) r h = cc
 
 -- the octets up to the refused one show what those before it show
-stop_shown : (g : Catalog) (l : Limits) (u : List ℕ) (r : Refusal) (p : Stop g l 0 initial u r) → Shown (λ front following s. Whole g l front s) (p.before ++ p.b ∷ []) (plain (run g l 0 initial u).given)
+stop_shown : (g : Catalog) (l : Limits) (u : List ℕ) (r : Refusal) (p : Stop g l 0 initial u r)
+    → Shown (λ front following s. Whole g l front s) (p.before ++ p.b ∷ []) (plain (run g l 0 initial u).given)
 stop_shown g l u r p =
     let c = cut_of g l p.before (run g l 0 initial u).given p.n p.ran in
     let i = c.cut.at in
@@ -154,11 +164,13 @@ stop_shown g l u r p =
 
     all : (v : List ℕ) (t : List Value) → p.before ++ p.b ∷ [] ≡ v → length p.before < length v → Whole g l v t → ⊥
     all _ _ e h no_piece = absurd (omega arith)
-    all _ _ e h (document v t c d) = begins_none g l (p.before ++ p.b ∷ []) _ (stopped g l u r p) [] t (subst (λ x. Document g l x t) (sym (append-nil (p.before ++ p.b ∷ []) ∙ e)) (c, d))
+    all _ _ e h (document v t c d) = begins_none g l (p.before ++ p.b ∷ []) _ (stopped g l u r p) [] t
+        (subst (λ x. Document g l x t) (sym (append-nil (p.before ++ p.b ∷ []) ∙ e)) (c, d))
 
     no_rest : (v rest : List ℕ) → p.before ++ p.b ∷ [] ≡ v ++ rest → length p.before < length v → rest ≡ []
     no_rest v [] e h = refl
-    no_rest v (x ∷ xs) e h = let k : length (p.before ++ p.b ∷ []) ≡ length (v ++ x ∷ xs) = ap length e in let i = length-append p.before (p.b ∷ []) in let j = length-append v (x ∷ xs) in absurd (omega arith)
+    no_rest v (x ∷ xs) e h = let k : length (p.before ++ p.b ∷ []) ≡ length (v ++ x ∷ xs) = ap length e in let i = length-append p.before (p.b ∷ []) in let j =
+        length-append v (x ∷ xs) in absurd (omega arith)
 
     longest : (v rest : List ℕ) (t : List Value) → p.before ++ p.b ∷ [] ≡ v ++ rest → Whole g l v t → length v ≤ p.n.spot.start
     longest v rest t e w =
@@ -173,17 +185,20 @@ stop_decides g l u r p =
     let c = cut_of g l p.before (run g l 0 initial u).given p.n p.ran in
     let e = s.used in
     let k = rest_long g l p.n.spot.start _ p.before c.cut in
-    subst (Steady p.n.spot.start (FineFrames p.n.frames)) p.refused (feed_steady (under g l) p.n p.b (omega arith)) (standing_fine g l p.n.spot.start p.n.spot.context _ p.n.frames p.n.body p.n.phase p.before s.standing)
+    subst (Steady p.n.spot.start (FineFrames p.n.frames)) p.refused (feed_steady (under g l) p.n p.b (omega arith))
+    (standing_fine g l p.n.spot.start p.n.spot.context _ p.n.frames p.n.body p.n.phase p.before s.standing)
 
 -- a refusal at n means that no document begins with the first n octets
-pub refused : (g : Catalog) (l : Limits) (u : List ℕ) (r : Refusal) → (trace g l u).refused ≡ Some r → Refuses (Document g l) (λ front following s. Whole g l front s) u (trace g l u) r
+pub refused : (g : Catalog) (l : Limits) (u : List ℕ) (r : Refusal) → (trace g l u).refused ≡ Some r
+    → Refuses (Document g l) (λ front following s. Whole g l front s) u (trace g l u) r
 refused g l u r h =
     let e = refused_is (run g l 0 initial u).now r h in
     let p = stop_of g l 0 initial u r e in
     let o = p.offset in
     let n : length u ≡ length (p.before ++ p.b ∷ p.rest) = ap length p.parts in
     let k = length-append p.before (p.b ∷ p.rest) in
-    let taken : take r.offset u ≡ p.before ++ p.b ∷ [] = ap (λ (x : ℕ). take x u) (let i : r.offset ≡ length p.before + 1 = omega arith in i) ∙ (ap (take (length p.before + 1)) p.parts ∙ take-append-add p.before (p.b ∷ p.rest) 1) in
+    let taken : take r.offset u ≡ p.before ++ p.b ∷ [] = ap (λ (x : ℕ). take x u) (let i : r.offset ≡ length p.before + 1 = omega arith in i)
+    ∙ (ap (take (length p.before + 1)) p.parts ∙ take-append-add p.before (p.b ∷ p.rest) 1) in
     let d = stop_decides g l u r p in
     record {
       within = omega arith;
@@ -198,7 +213,8 @@ cond_offset : (b : Bool) (last : Option Value) (q r : Refusal) → cond b (Ok la
 cond_offset Bool.true last q r h = absurd cc
 cond_offset Bool.false last q r h = cc
 
-unfinished_now : (g : Catalog) (l : Limits) (u : List ℕ) (given : List (Value × ℕ)) (now : Result Machine Refusal) (r : Refusal) → run g l 0 initial u ≡ record { given = given; now = now } → refused_of now ≡ None → ends_of now ≡ Err r → r.offset ≡ length u
+unfinished_now : (g : Catalog) (l : Limits) (u : List ℕ) (given : List (Value × ℕ)) (now : Result Machine Refusal) (r : Refusal)
+    → run g l 0 initial u ≡ record { given = given; now = now } → refused_of now ≡ None → ends_of now ≡ Err r → r.offset ≡ length u
 unfinished_now g l u given (Err e) r ran h k = absurd cc
 unfinished_now g l u given (Ok m) r ran h k =
     let s = ran_stands g l u given m ran in
@@ -215,7 +231,8 @@ readers_reason reason d = record { whole_memory = λ i. subst IsDecided i d; no_
 step_reason : (g : Catalog) (l : Limits) (u : List ℕ) (r : Refusal) → (run g l 0 initial u).now ≡ Err r → IsReadersReason r.reason
 step_reason g l u r e = readers_reason r.reason (stop_decides g l u r (stop_of g l 0 initial u r e))
 
-end_reason : (g : Catalog) (l : Limits) (u : List ℕ) (now : Result Machine Refusal) (r : Refusal) → (run g l 0 initial u).now ≡ now → ends_of now ≡ Err r → IsReadersReason r.reason
+end_reason : (g : Catalog) (l : Limits) (u : List ℕ) (now : Result Machine Refusal) (r : Refusal) → (run g l 0 initial u).now ≡ now → ends_of now ≡ Err r
+    → IsReadersReason r.reason
 end_reason g l u (Err q) r ran h = let same : q ≡ r = cc in subst (λ (x : Refusal). IsReadersReason x.reason) same (step_reason g l u q ran)
 end_reason g l u (Ok m) r ran h =
     let reason : Incomplete ≡ r.reason = ap (λ (q : Refusal). q.reason) (cond_offset (whole m.phase m.frames) None _ r h) in
@@ -236,7 +253,8 @@ no_values : (given : List (Value × ℕ)) → length given ≡ 0 → given ≡ [
 no_values [] h = refl
 no_values (v ∷ given) h = absurd (omega arith)
 
-spaced_whole : (g : Catalog) (l : Limits) (front rest : List ℕ) (s : List Value) (given : List (Value × ℕ)) (m : Machine) → Whole g l front s → run g l 0 initial (front ++ rest) ≡ record { given = given; now = Ok m } → plain given ≡ s → Spaced l.item 0 given (length (front ++ rest))
+spaced_whole : (g : Catalog) (l : Limits) (front rest : List ℕ) (s : List Value) (given : List (Value × ℕ)) (m : Machine) → Whole g l front s
+    → run g l 0 initial (front ++ rest) ≡ record { given = given; now = Ok m } → plain given ≡ s → Spaced l.item 0 given (length (front ++ rest))
 spaced_whole g l _ rest _ given m no_piece ran e =
     let k = plain_long given in
     let n : length (plain given) ≡ 0 = ap length e in
@@ -244,7 +262,8 @@ spaced_whole g l _ rest _ given m no_piece ran e =
 spaced_whole g l _ rest _ given m (document front s c d) ran e =
     let r = pieces_run g l front s c d in
     let later = (run g l (length front) (at (anew (length front) c) [] Ready) rest).given in
-    let whole_run = sym ran ∙ (run-append g l 0 (length front) front rest (omega arith) initial ∙ ap (λ x. then_run x (λ n. run g l (length front) n rest)) r.ran) in
+    let whole_run = sym ran ∙ (run-append g l 0 (length front) front rest (omega arith) initial
+    ∙ ap (λ x. then_run x (λ n. run g l (length front) n rest)) r.ran) in
     let cut : given ≡ r.given ++ later = ap (λ (x : Run). x.given) whole_run in
     let n : length given ≡ length r.given + length later = ap length cut ∙ length-append r.given later in
     let p = plain_long given in
@@ -252,14 +271,18 @@ spaced_whole g l _ rest _ given m (document front s c d) ran e =
     let same : length (plain given) ≡ length (plain r.given) = ap length (e ∙ sym r.gave) in
     let alone : given ≡ r.given = cut ∙ (ap (λ x. r.given ++ x) (no_values later (omega arith)) ∙ append-nil r.given) in
     let long = length-append front rest in
-    subst (λ (x : List (Value × ℕ)). Spaced l.item 0 x (length (front ++ rest))) (sym alone) (spaced_on l.item 0 r.given (length front) (length (front ++ rest)) r.spaced (omega arith))
+    subst (λ (x : List (Value × ℕ)). Spaced l.item 0 x (length (front ++ rest))) (sym alone)
+    (spaced_on l.item 0 r.given (length front) (length (front ++ rest)) r.spaced (omega arith))
 
-spaced_ok : (g : Catalog) (l : Limits) (u : List ℕ) (given : List (Value × ℕ)) (m : Machine) → run g l 0 initial u ≡ record { given = given; now = Ok m } → Spaced l.item 0 given (length u)
+spaced_ok : (g : Catalog) (l : Limits) (u : List ℕ) (given : List (Value × ℕ)) (m : Machine) → run g l 0 initial u ≡ record { given = given; now = Ok m }
+    → Spaced l.item 0 given (length u)
 spaced_ok g l u given m ran =
     let c = cut_of g l u given m ran in
-    subst (λ x. Spaced l.item 0 given (length x)) (sym c.cut.parts) (spaced_whole g l c.cut.front c.cut.rest (plain given) given m c.cut.whole (ap (run g l 0 initial) (sym c.cut.parts) ∙ ran) refl)
+    subst (λ x. Spaced l.item 0 given (length x)) (sym c.cut.parts)
+    (spaced_whole g l c.cut.front c.cut.rest (plain given) given m c.cut.whole (ap (run g l 0 initial) (sym c.cut.parts) ∙ ran) refl)
 
-spaced_now : (g : Catalog) (l : Limits) (u : List ℕ) (now : Result Machine Refusal) → (run g l 0 initial u).now ≡ now → Spaced l.item 0 (run g l 0 initial u).given (length u)
+spaced_now : (g : Catalog) (l : Limits) (u : List ℕ) (now : Result Machine Refusal) → (run g l 0 initial u).now ≡ now
+    → Spaced l.item 0 (run g l 0 initial u).given (length u)
 spaced_now g l u (Ok m) e = spaced_ok g l u (run g l 0 initial u).given m (ap (λ x. record { given = (run g l 0 initial u).given; now = x }) e)
 spaced_now g l u (Err r) e =
     let p = stop_of g l 0 initial u r e in
@@ -297,11 +320,20 @@ decided g l u r h =
     let p = stop_of g l 0 initial u r (refused_is (run g l 0 initial u).now r h) in
     let o = p.offset in
     let offset : r.offset ≡ length p.before + 1 = omega arith in
-    first_refused (trace g l) (grows g l) u p.before p.rest p.b r p.parts offset (ap (λ (x : Run). refused_of x.now) p.ran) (ap refused_of (stopped g l u r p) ∙ ap (λ n. Some (record { offset = n; reason = r.reason })) (sym offset))
+    first_refused (trace g l) (grows g l) u p.before p.rest p.b r p.parts offset (ap (λ (x : Run). refused_of x.now) p.ran)
+    (ap refused_of (stopped g l u r p) ∙ ap (λ n. Some (record { offset = n; reason = r.reason })) (sym offset))
 
 -- a document is whole pieces
-pub documents_are_pieces : (g : Catalog) (l : Limits) (u : List ℕ) (s : List Value) → Document g l u s → HasPieces (λ front following s. Whole g l front s) (λ front rest. OpenRest l rest) u s
-documents_are_pieces g l u s d = record { front = u; open_rest = []; parts = sym (append-nil u); whole = document u s d.0 d.1; rest = of_marker [] (omega arith) }
+pub documents_are_pieces : (g : Catalog) (l : Limits) (u : List ℕ) (s : List Value) → Document g l u s
+    → HasPieces (λ front following s. Whole g l front s) (λ front rest. OpenRest l rest) u s
+documents_are_pieces g l u s d = record {
+  front = u;
+  open_rest = [];
+  parts = sym (append-nil u);
+  whole =
+      document u s d.0 d.1;
+  rest = of_marker [] (omega arith);
+}
 
 -- whole pieces that have an octet are a document
 pub pieces_are_documents : (g : Catalog) (l : Limits) (u following : List ℕ) (s : List Value) → Whole g l u s → 0 < length u → Document g l u s
@@ -324,10 +356,12 @@ pub whole_values : (g : Catalog) (l : Limits) (w : List ℕ) (s : List Value) �
 whole_values g l _ _ no_piece = tt
 whole_values g l _ _ (document u s c d) = pieces_values g l u s c d
 
-given_values : (g : Catalog) (l : Limits) (u : List ℕ) (given : List (Value × ℕ)) (m : Machine) → run g l 0 initial u ≡ record { given = given; now = Ok m } → NoTables (plain given)
+given_values : (g : Catalog) (l : Limits) (u : List ℕ) (given : List (Value × ℕ)) (m : Machine) → run g l 0 initial u ≡ record { given = given; now = Ok m }
+    → NoTables (plain given)
 given_values g l u given m ran = let c = cut_of g l u given m ran in whole_values g l c.cut.front (plain given) c.cut.whole
 
-values_now : (g : Catalog) (l : Limits) (u : List ℕ) (now : Result Machine Refusal) → (run g l 0 initial u).now ≡ now → NoTables (plain (run g l 0 initial u).given)
+values_now : (g : Catalog) (l : Limits) (u : List ℕ) (now : Result Machine Refusal) → (run g l 0 initial u).now ≡ now
+    → NoTables (plain (run g l 0 initial u).given)
 values_now g l u (Ok m) e = given_values g l u (run g l 0 initial u).given m (ap (λ x. record { given = (run g l 0 initial u).given; now = x }) e)
 values_now g l u (Err r) e = let p = stop_of g l 0 initial u r e in given_values g l p.before (run g l 0 initial u).given p.n p.ran
 

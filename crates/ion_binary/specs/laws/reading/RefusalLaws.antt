@@ -28,7 +28,8 @@ decides_stopped g l u e d = every_row g l u e d
 pub stopped_decides : (g : Catalog) (l : Limits) (u : List ℕ) (r : Refusal) → (p : Stop g l 0 initial u r) → Decides g l (p.before ++ p.b ∷ []) r.reason
 stopped_decides g l u r p =
     let s = ran_stands g l p.before (run g l 0 initial u).given p.n p.ran in
-    subst (Leaves g l (p.before ++ p.b ∷ []) (plain (run g l 0 initial u).given)) p.refused (feed_stands g l p.n p.before (plain (run g l 0 initial u).given) p.b s)
+    subst (Leaves g l (p.before ++ p.b ∷ []) (plain (run g l 0 initial u).given)) p.refused
+    (feed_stands g l p.n p.before (plain (run g l 0 initial u).given) p.b s)
 
 refused_is : (now : Result Machine Refusal) (r : Refusal) → refused_of now ≡ Some r → now ≡ Err r
 refused_is (Ok m) r h = absurd cc
@@ -38,14 +39,16 @@ reason_in : Result Machine Refusal → Reason → Reason
 reason_in (Ok m) e = e
 reason_in (Err r) e = r.reason
 
-pub answers : (g : Catalog) (l : Limits) (u : List ℕ) (r : Refusal) → (trace g l u).refused ≡ Some r → (r.offset ≤ length u) × Answers g l (take r.offset u) r.reason
+pub answers : (g : Catalog) (l : Limits) (u : List ℕ) (r : Refusal) → (trace g l u).refused ≡ Some r → (r.offset ≤ length u)
+    × Answers g l (take r.offset u) r.reason
 unfolding reason_in
 answers g l u r h =
     let p = stop_of g l 0 initial u r (refused_is (run g l 0 initial u).now r h) in
     let o = p.offset in
     let n : length u ≡ length (p.before ++ p.b ∷ p.rest) = ap length p.parts in
     let k = length-append p.before (p.b ∷ p.rest) in
-    let taken : take r.offset u ≡ p.before ++ p.b ∷ [] = ap (λ (x : ℕ). take x u) (let i : r.offset ≡ length p.before + 1 = omega arith in i) ∙ (ap (take (length p.before + 1)) p.parts ∙ take-append-add p.before (p.b ∷ p.rest) 1) in (
+    let taken : take r.offset u ≡ p.before ++ p.b ∷ [] = ap (λ (x : ℕ). take x u) (let i : r.offset ≡ length p.before + 1 = omega arith in i)
+    ∙ (ap (take (length p.before + 1)) p.parts ∙ take-append-add p.before (p.b ∷ p.rest) 1) in (
       omega arith,
       subst (λ w. Answers g l w r.reason) (sym taken) (record {
         decides = stopped_decides g l u r p;
@@ -56,7 +59,8 @@ answers g l u r h =
       }),
     )
 
-pub refuses : (g : Catalog) (l : Limits) (u : List ℕ) (k : ℕ) (e : Reason) → k ≤ length u → Decides g l (take k u) e → (r : Refusal) × ((trace g l u).refused ≡ Some r) × (r.offset ≡ k)
+pub refuses : (g : Catalog) (l : Limits) (u : List ℕ) (k : ℕ) (e : Reason) → k ≤ length u → Decides g l (take k u) e → (r : Refusal)
+    × ((trace g l u).refused ≡ Some r) × (r.offset ≡ k)
 refuses g l u k e h d =
     let q = decides_stopped g l (take k u) e d in
     let n = length-take-le k u h in
@@ -69,11 +73,14 @@ cond_err : (b : Bool) (last : Option Value) (q r : Refusal) → cond b (Ok last)
 cond_err true last q r h = absurd cc
 cond_err false last q r h = cc
 
-ends_now : (g : Catalog) (l : Limits) (u : List ℕ) (given : List (Value × ℕ)) (now : Result Machine Refusal) (r : Refusal) → run g l 0 initial u ≡ record { given = given; now = now } → refused_of now ≡ None → ends_of now ≡ Err r → r ≡ record { offset = length u; reason = Incomplete }
+ends_now : (g : Catalog) (l : Limits) (u : List ℕ) (given : List (Value × ℕ)) (now : Result Machine Refusal) (r : Refusal)
+    → run g l 0 initial u ≡ record { given = given; now = now } → refused_of now ≡ None → ends_of now ≡ Err r
+    → r ≡ record { offset = length u; reason = Incomplete }
 ends_now g l u given (Err e) r ran h k = absurd cc
 ends_now g l u given (Ok m) r ran h k =
     let s = ran_stands g l u given m ran in
     sym (cond_err (whole m.phase m.frames) None _ r k) ∙ ap (λ n. record { offset = n; reason = Incomplete }) s.used
 
-pub ends : (g : Catalog) (l : Limits) (u : List ℕ) (r : Refusal) → (trace g l u).refused ≡ None → (trace g l u).ends ≡ Err r → r ≡ record { offset = length u; reason = Incomplete }
+pub ends : (g : Catalog) (l : Limits) (u : List ℕ) (r : Refusal) → (trace g l u).refused ≡ None → (trace g l u).ends ≡ Err r
+    → r ≡ record { offset = length u; reason = Incomplete }
 ends g l u r h k = ends_now g l u (run g l 0 initial u).given (run g l 0 initial u).now r refl h k

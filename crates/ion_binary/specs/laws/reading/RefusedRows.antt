@@ -34,7 +34,8 @@ unfolding judge timestamp_of_body read_offset
 timestamp_empty c = refl
 
 -- the first of three reasons
-pub first_of_three : (a b c : Option Reason) (P : Reason → Type 0) → ((y : Reason) → a ≡ Some y → P y) → ((y : Reason) → b ≡ Some y → P y) → ((y : Reason) → c ≡ Some y → P y) → (x : Reason) → or_else a (or_else b c) ≡ Some x → P x
+pub first_of_three : (a b c : Option Reason) (P : Reason → Type 0) → ((y : Reason) → a ≡ Some y → P y) → ((y : Reason) → b ≡ Some y → P y)
+    → ((y : Reason) → c ≡ Some y → P y) → (x : Reason) → or_else a (or_else b c) ≡ Some x → P x
 first_of_three (Some y) b c P fa fb fc x h = fa x h
 first_of_three None (Some y) c P fa fb fc x h = fb x h
 first_of_three None None c P fa fb fc x h = fc x h
@@ -67,10 +68,12 @@ module _ (g : Catalog) (l : Limits) (c : List Slot) (start : ℕ) where
   pub hollow_row : (fs : List Frame) (form : Form) (n : ℕ) (u : List ℕ) → HeaderEnds fs form n u → (x : Reason) → hollow form n ≡ Some x → Decides g l u x
   hollow_row fs (forms.Scalar scalars.NegativeInt) n u h x e =
       let p = some_then (n == 0) Malformed x e in
-      subst (Decides g l u) p.1 (bad_empty_body c start h.ks scalars.NegativeInt u Malformed (subst (λ k. EndsHeader g l c start h.ks (forms.Scalar scalars.NegativeInt) k u) (eqb-true n 0 p.0) h.ends) (negative_empty c))
+      subst (Decides g l u) p.1 (bad_empty_body c start h.ks scalars.NegativeInt u Malformed
+      (subst (λ k. EndsHeader g l c start h.ks (forms.Scalar scalars.NegativeInt) k u) (eqb-true n 0 p.0) h.ends) (negative_empty c))
   hollow_row fs (forms.Scalar scalars.Timestamp) n u h x e =
       let p = some_then (n == 0) Malformed x e in
-      subst (Decides g l u) p.1 (bad_empty_body c start h.ks scalars.Timestamp u Malformed (subst (λ k. EndsHeader g l c start h.ks (forms.Scalar scalars.Timestamp) k u) (eqb-true n 0 p.0) h.ends) (timestamp_empty c))
+      subst (Decides g l u) p.1 (bad_empty_body c start h.ks scalars.Timestamp u Malformed
+      (subst (λ k. EndsHeader g l c start h.ks (forms.Scalar scalars.Timestamp) k u) (eqb-true n 0 p.0) h.ends) (timestamp_empty c))
   hollow_row fs forms.OrderedStruct n u h x e =
       let p = some_then (n == 0) Malformed x e in
       subst (Decides g l u) p.1 (no_fields c start h.ks u (subst (λ k. EndsHeader g l c start h.ks forms.OrderedStruct k u) (eqb-true n 0 p.0) h.ends))
@@ -87,13 +90,15 @@ module _ (g : Catalog) (l : Limits) (c : List Slot) (start : ℕ) where
   hollow_row fs (forms.Listing y) n u h x e = absurd cc
   hollow_row fs forms.Struct n u h x e = absurd cc
 
-  past_row : (k : Container) (ks : List Container) (pad : Bool) (to end : ℕ) (u : List ℕ) (x : Reason) → deciding.container_end k ≡ end → Reaches g l c start (k ∷ ks) pad to u → cond (nat_le to end) None (Some Malformed) ≡ Some x → Decides g l u x
+  past_row : (k : Container) (ks : List Container) (pad : Bool) (to end : ℕ) (u : List ℕ) (x : Reason) → deciding.container_end k ≡ end
+      → Reaches g l c start (k ∷ ks) pad to u → cond (nat_le to end) None (Some Malformed) ≡ Some x → Decides g l u x
   past_row k ks pad to end u x i r e =
       let p = some_if (nat_le to end) Malformed x e in
       let q = leb-false to end p.0 in
       subst (Decides g l u) p.1 (past_container c start k ks pad to u r (omega arith))
 
-  pub misfit_row : (fs : List Frame) (ks : List Container) (form : Form) (to : ℕ) (u : List ℕ) → Match c fs ks → Reaches g l c start ks (is_pad form) to u → (x : Reason) → misfits l.item start fs form to ≡ Some x → Decides g l u x
+  pub misfit_row : (fs : List Frame) (ks : List Container) (form : Form) (to : ℕ) (u : List ℕ) → Match c fs ks → Reaches g l c start ks (is_pad form) to u
+      → (x : Reason) → misfits l.item start fs form to ≡ Some x → Decides g l u x
   misfit_row _ _ form to u nothing_open r x e =
       let p = some_if (is_pad form || nat_le to (start + l.item)) ItemTooLong x e in
       let q = or_false (is_pad form) (nat_le to (start + l.item)) p.0 in
@@ -111,7 +116,8 @@ module _ (g : Catalog) (l : Limits) (c : List Slot) (start : ℕ) where
       by (inr h) = let q = eqb-false to end p.0 in subst (Decides g l u) p.1 (wrapper_unfilled c start end ks (is_pad form) to u r (omega (arith, q, h)))
 
   -- the id of a name
-  name_row : (fs : List Frame) (ks : List Container) (form : Form) (u : List ℕ) (b : ℕ) → Match c fs ks → Open g l c start ks u → ((size : Size) → is_pad form ≡ false → opening_of b ≢ Sized forms.Pad size) → (x : Reason) → nameless fs form ≡ Some x → Decides g l (u ++ b ∷ []) x
+  name_row : (fs : List Frame) (ks : List Container) (form : Form) (u : List ℕ) (b : ℕ) → Match c fs ks → Open g l c start ks u
+      → ((size : Size) → is_pad form ≡ false → opening_of b ≢ Sized forms.Pad size) → (x : Reason) → nameless fs form ≡ Some x → Decides g l (u ++ b ∷ []) x
   name_row _ _ form u b nothing_open o n x e = absurd cc
   name_row _ _ form u b (items end y vs fs ks m) o n x e = absurd cc
   name_row _ _ form u b (names end ms fs ks m) o n x e = absurd cc
@@ -126,7 +132,8 @@ module _ (g : Catalog) (l : Limits) (c : List Slot) (start : ℕ) where
           no_name c start end id ks u b x o (i ∙ ap (λ z. Err z) p.1) (λ size. n size p.0)
 
   -- a pad or a wrapper in a wrapper
-  stray_row : (fs : List Frame) (ks : List Container) (form : Form) (size : Size) (u : List ℕ) (b : ℕ) → Match c fs ks → Open g l c start ks u → opening_of b ≡ Sized form size → (x : Reason) → stray fs form ≡ Some x → Decides g l (u ++ b ∷ []) x
+  stray_row : (fs : List Frame) (ks : List Container) (form : Form) (size : Size) (u : List ℕ) (b : ℕ) → Match c fs ks → Open g l c start ks u
+      → opening_of b ≡ Sized form size → (x : Reason) → stray fs form ≡ Some x → Decides g l (u ++ b ∷ []) x
   stray_row _ _ form size u b nothing_open o i x e = absurd cc
   stray_row _ _ form size u b (items end y vs fs ks m) o i x e = absurd cc
   stray_row _ _ form size u b (names end ms fs ks m) o i x e = absurd cc
@@ -139,7 +146,8 @@ module _ (g : Catalog) (l : Limits) (c : List Slot) (start : ℕ) where
   sized_pad form size z h e = let k : form ≡ forms.Pad = cc in let q : true ≡ false = sym (ap is_pad k) ∙ h in cc
 
   -- at a descriptor whose length doesn't follow
-  pub short_row : (fs : List Frame) (ks : List Container) (form : Form) (n : ℕ) (u : List ℕ) (b : ℕ) → Match c fs ks → Open g l c start ks u → TakesValue ks → opening_of b ≡ Sized form (Known n) → (x : Reason) → unfit l.item start fs form (length (u ++ b ∷ []) + n) ≡ Some x → Decides g l (u ++ b ∷ []) x
+  pub short_row : (fs : List Frame) (ks : List Container) (form : Form) (n : ℕ) (u : List ℕ) (b : ℕ) → Match c fs ks → Open g l c start ks u → TakesValue ks
+      → opening_of b ≡ Sized form (Known n) → (x : Reason) → unfit l.item start fs form (length (u ++ b ∷ []) + n) ≡ Some x → Decides g l (u ++ b ∷ []) x
   short_row fs ks form n u b m o t i =
       first_of_three (stray fs form) (misfits l.item start fs form (length (u ++ b ∷ []) + n)) (nameless fs form) (Decides g l (u ++ b ∷ []))
       (stray_row fs ks form (Known n) u b m o i)
@@ -147,7 +155,8 @@ module _ (g : Catalog) (l : Limits) (c : List Slot) (start : ℕ) where
       (name_row fs ks form u b m o (λ size p e. sized_pad form (Known n) size p (sym i ∙ e)))
 
   -- at the end of a length: what is wrong is where it reaches
-  pub long_row : (fs : List Frame) (form : Form) (n : ℕ) (u : List ℕ) → HeaderEnds fs form n u → stray fs form ≡ None → nameless fs form ≡ None → (x : Reason) → unfit l.item start fs form (length u + n) ≡ Some x → Decides g l u x
+  pub long_row : (fs : List Frame) (form : Form) (n : ℕ) (u : List ℕ) → HeaderEnds fs form n u → stray fs form ≡ None → nameless fs form ≡ None → (x : Reason)
+      → unfit l.item start fs form (length u + n) ≡ Some x → Decides g l u x
   long_row fs form n u h a d =
       first_of_three (stray fs form) (misfits l.item start fs form (length u + n)) (nameless fs form) (Decides g l u)
       (λ y e. absurd (let q : None ≡ Some y = sym a ∙ e in cc))
@@ -162,20 +171,25 @@ module _ (g : Catalog) (l : Limits) (c : List Slot) (start : ℕ) where
   no_stray (frames.Named end ms r ∷ fs) x e = cc
 
   -- at a value of one octet
-  pub one_row : (fs : List Frame) (ks : List Container) (u : List ℕ) (b : ℕ) → Match c fs ks → Open g l c start ks u → Reaches g l c start ks false (length u + 1) (u ++ b ∷ []) → ((size : Size) → opening_of b ≢ Sized forms.Pad size)
+  pub one_row : (fs : List Frame) (ks : List Container) (u : List ℕ) (b : ℕ) → Match c fs ks → Open g l c start ks u
+      → Reaches g l c start ks false (length u + 1) (u ++ b ∷ []) → ((size : Size) → opening_of b ≢ Sized forms.Pad size)
       → (x : Reason) → unfit l.item start fs forms.Struct (length u + 1) ≡ Some x → Decides g l (u ++ b ∷ []) x
   one_row fs ks u b m o r n =
       first_of_three (stray fs forms.Struct) (misfits l.item start fs forms.Struct (length u + 1)) (nameless fs forms.Struct) (Decides g l (u ++ b ∷ []))
-      (λ y e. absurd (no_stray fs y e)) (misfit_row fs ks forms.Struct (length u + 1) (u ++ b ∷ []) m r) (name_row fs ks forms.Struct u b m o (λ size p. n size))
+      (λ y e. absurd (no_stray fs y e)) (misfit_row fs ks forms.Struct (length u + 1) (u ++ b ∷ []) m r)
+      (name_row fs ks forms.Struct u b m o (λ size p. n size))
 
-  last_row : (k : Container) (ks : List Container) (u : List ℕ) (b : ℕ) (form : Form) (end : ℕ) → deciding.container_end k ≡ end → Open g l c start (k ∷ ks) u → TakesValue (k ∷ ks) → opening_of b ≡ Sized form Follows → (x : Reason) → cond (nat_lt (length u + 1) end) None (Some Malformed) ≡ Some x → Decides g l (u ++ b ∷ []) x
+  last_row : (k : Container) (ks : List Container) (u : List ℕ) (b : ℕ) (form : Form) (end : ℕ) → deciding.container_end k ≡ end → Open g l c start (k ∷ ks) u
+      → TakesValue (k ∷ ks) → opening_of b ≡ Sized form Follows → (x : Reason) → cond (nat_lt (length u + 1) end) None (Some Malformed) ≡ Some x
+      → Decides g l (u ++ b ∷ []) x
   last_row k ks u b form end q o t i x e =
       let p = some_if (nat_lt (length u + 1) end) Malformed x e in
       let z = ltb-false (length u + 1) end p.0 in
       subst (Decides g l (u ++ b ∷ [])) p.1 (no_length c start k ks u b form o t i (omega arith))
 
   -- at a descriptor whose length follows
-  pub unending_row : (fs : List Frame) (ks : List Container) (form : Form) (u : List ℕ) (b : ℕ) → Match c fs ks → Open g l c start ks u → TakesValue ks → opening_of b ≡ Sized form Follows → (x : Reason) → unending l.item start fs form (length u + 1) ≡ Some x → Decides g l (u ++ b ∷ []) x
+  pub unending_row : (fs : List Frame) (ks : List Container) (form : Form) (u : List ℕ) (b : ℕ) → Match c fs ks → Open g l c start ks u → TakesValue ks
+      → opening_of b ≡ Sized form Follows → (x : Reason) → unending l.item start fs form (length u + 1) ≡ Some x → Decides g l (u ++ b ∷ []) x
   unending_row _ _ form u b nothing_open o t i x e =
       let p = some_if (is_pad form || nat_le (length u + 1) (start + l.item)) ItemTooLong x e in
       let q = or_false (is_pad form) (nat_le (length u + 1) (start + l.item)) p.0 in
@@ -188,67 +202,89 @@ module _ (g : Catalog) (l : Limits) (c : List Slot) (start : ℕ) where
   unending_row _ _ form u b (named end id ms fs ks m) o t i x e = last_row (Named end id) ks u b form end refl o t i x e
   unending_row _ _ form u b (noted end ss fs ks m) o t i x e = last_row (Noted end) ks u b form end refl o t i x e
 
-  pub follows_stray : (fs : List Frame) (ks : List Container) (form : Form) (u : List ℕ) (b : ℕ) → Match c fs ks → Open g l c start ks u → opening_of b ≡ Sized form Follows → (x : Reason) → stray fs form ≡ Some x → Decides g l (u ++ b ∷ []) x
+  pub follows_stray : (fs : List Frame) (ks : List Container) (form : Form) (u : List ℕ) (b : ℕ) → Match c fs ks → Open g l c start ks u
+      → opening_of b ≡ Sized form Follows → (x : Reason) → stray fs form ≡ Some x → Decides g l (u ++ b ∷ []) x
   follows_stray fs ks form u b m o i = stray_row fs ks form Follows u b m o i
 
-  pub follows_name : (fs : List Frame) (ks : List Container) (form : Form) (u : List ℕ) (b : ℕ) → Match c fs ks → Open g l c start ks u → opening_of b ≡ Sized form Follows → (x : Reason) → nameless fs form ≡ Some x → Decides g l (u ++ b ∷ []) x
+  pub follows_name : (fs : List Frame) (ks : List Container) (form : Form) (u : List ℕ) (b : ℕ) → Match c fs ks → Open g l c start ks u
+      → opening_of b ≡ Sized form Follows → (x : Reason) → nameless fs form ≡ Some x → Decides g l (u ++ b ∷ []) x
   follows_name fs ks form u b m o i = name_row fs ks form u b m o (λ size p e. sized_pad form Follows size p (sym i ∙ e))
 
   -- a number that may not go on
-  going_row : (last : ℕ) (ks : List Container) (q : Number) (a : ℕ) (u : List ℕ) (b : ℕ) → deciding.InNumber g l c start ks q a u → b < 128 → LastOctet g l c start ks q last → (x : Reason) → cond (nat_lt (length u + 1) last) None (Some Malformed) ≡ Some x → Decides g l (u ++ b ∷ []) x
+  going_row : (last : ℕ) (ks : List Container) (q : Number) (a : ℕ) (u : List ℕ) (b : ℕ) → deciding.InNumber g l c start ks q a u → b < 128
+      → LastOctet g l c start ks q last → (x : Reason) → cond (nat_lt (length u + 1) last) None (Some Malformed) ≡ Some x → Decides g l (u ++ b ∷ []) x
   going_row last ks q a u b o h r x e =
       let p = some_if (nat_lt (length u + 1) last) Malformed x e in
       subst (Decides g l (u ++ b ∷ [])) p.1 (number_past c start last ks q a u b o h r (ltb-false (length u + 1) last p.0))
 
-  pub number_row : (ks : List Container) (q : Number) (fs : List Frame) (a : ℕ) (u : List ℕ) (b : ℕ) → InFrames c ks q fs → deciding.InNumber g l c start ks q a u → b < 128 → (x : Reason) → past l.item start fs (purpose_of q) (length u + 1) ≡ Some x → Decides g l (u ++ b ∷ []) x
+  pub number_row : (ks : List Container) (q : Number) (fs : List Frame) (a : ℕ) (u : List ℕ) (b : ℕ) → InFrames c ks q fs
+      → deciding.InNumber g l c start ks q a u → b < 128 → (x : Reason) → past l.item start fs (purpose_of q) (length u + 1) ≡ Some x
+      → Decides g l (u ++ b ∷ []) x
   number_row _ _ _ a u b (length_in _ form _ nothing_open) o h x e =
       let p = some_if (is_pad form || nat_le (length u + 1) (start + l.item)) ItemTooLong x e in
       let q = or_false (is_pad form) (nat_le (length u + 1) (start + l.item)) p.0 in
       subst (Decides g l (u ++ b ∷ [])) p.1 (header_too_long c start form a u b o q.0 h (leb-false (length u + 1) (start + l.item) q.1))
-  number_row _ _ _ a u b (length_in _ form _ (items end y vs fs ks m)) o h x e = going_row end (Items end ∷ ks) (Length form) a u b o h (of_container (Items end) ks form) x e
-  number_row _ _ _ a u b (length_in _ form _ (names end ms fs ks m)) o h x e = going_row end (Names end ∷ ks) (Length form) a u b o h (of_container (Names end) ks form) x e
-  number_row _ _ _ a u b (length_in _ form _ (named end id ms fs ks m)) o h x e = going_row end (Named end id ∷ ks) (Length form) a u b o h (of_container (Named end id) ks form) x e
-  number_row _ _ _ a u b (length_in _ form _ (noted end ss fs ks m)) o h x e = going_row end (Noted end ∷ ks) (Length form) a u b o h (of_container (Noted end) ks form) x e
+  number_row _ _ _ a u b (length_in _ form _ (items end y vs fs ks m)) o h x e =
+      going_row end (Items end ∷ ks) (Length form) a u b o h (of_container (Items end) ks form) x e
+  number_row _ _ _ a u b (length_in _ form _ (names end ms fs ks m)) o h x e =
+      going_row end (Names end ∷ ks) (Length form) a u b o h (of_container (Names end) ks form) x e
+  number_row _ _ _ a u b (length_in _ form _ (named end id ms fs ks m)) o h x e =
+      going_row end (Named end id ∷ ks) (Length form) a u b o h (of_container (Named end id) ks form) x e
+  number_row _ _ _ a u b (length_in _ form _ (noted end ss fs ks m)) o h x e =
+      going_row end (Noted end ∷ ks) (Length form) a u b o h (of_container (Noted end) ks form) x e
   number_row _ _ _ a u b (name_in _ _ _ (names end ms fs ks m)) o h x e = going_row end (Names end ∷ ks) Name a u b o h (of_struct end ks) x e
   number_row _ _ _ a u b (count_in ks end fs m) o h x e = going_row end ks (Count end) a u b o h (of_wrapper ks end) x e
   number_row _ _ _ a u b (id_in ks end stop ss fs m) o h x e = going_row stop ks (Id stop) a u b o h (of_annotations ks stop) x e
 
   -- what a number that ended is of
-  pub header_here : (ks : List Container) (q : Number) (fs : List Frame) (form : Form) (n : ℕ) (u : List ℕ) → InFrames c ks q fs → purpose_of q ≡ purposes.Length form → EndsNumber g l c start ks q n u → HeaderEnds fs form n u
-  header_here _ _ _ form n u (length_in ks f fs m) e o = record { ks = ks; match = m; ends = deciding.by_length u (subst (λ x. EndsNumber g l c start ks (Length x) n u) (let k : f ≡ form = cc in k) o) }
+  pub header_here : (ks : List Container) (q : Number) (fs : List Frame) (form : Form) (n : ℕ) (u : List ℕ) → InFrames c ks q fs
+      → purpose_of q ≡ purposes.Length form → EndsNumber g l c start ks q n u → HeaderEnds fs form n u
+  header_here _ _ _ form n u (length_in ks f fs m) e o = record {
+    ks = ks;
+    match = m;
+    ends =
+        deciding.by_length u (subst (λ x. EndsNumber g l c start ks (Length x) n u) (let k : f ≡ form = cc in k) o);
+  }
   header_here _ _ _ form n u (name_in end ks fs m) e o = absurd cc
   header_here _ _ _ form n u (count_in ks end fs m) e o = absurd cc
   header_here _ _ _ form n u (id_in ks end stop ss fs m) e o = absurd cc
 
-  pub value_row : (ks : List Container) (q : Number) (all fs : List Frame) (end n : ℕ) (ms : List _) (u : List ℕ) → InFrames c ks q all → all ≡ frames.Fields end ms ∷ fs → purpose_of q ≡ purposes.FieldName → EndsNumber g l c start ks q n u → end ≤ length u → Decides g l u Malformed
+  pub value_row : (ks : List Container) (q : Number) (all fs : List Frame) (end n : ℕ) (ms : List _) (u : List ℕ) → InFrames c ks q all
+      → all ≡ frames.Fields end ms ∷ fs → purpose_of q ≡ purposes.FieldName → EndsNumber g l c start ks q n u → end ≤ length u → Decides g l u Malformed
   value_row _ _ _ fs end n ms u (length_in ks f hs m) i e o h = absurd cc
   value_row _ _ _ fs end n ms u (name_in _ _ _ (names end' ms' hs ks m)) i e o h = let k : end' ≡ end = cc in no_value c start end' n ks u o (omega arith)
   value_row _ _ _ fs end n ms u (count_in ks end' hs m) i e o h = absurd cc
   value_row _ _ _ fs end n ms u (id_in ks end' stop ss hs m) i e o h = absurd cc
 
-  pub count_row : (ks : List Container) (q : Number) (all fs : List Frame) (end n : ℕ) (ss : List (Option (List ℕ))) (u : List ℕ) → InFrames c ks q all → all ≡ frames.Annotated end ss ∷ fs → purpose_of q ≡ purposes.AnnotationsLength → EndsNumber g l c start ks q n u → end ≤ length u + n → Decides g l u Malformed
+  pub count_row : (ks : List Container) (q : Number) (all fs : List Frame) (end n : ℕ) (ss : List (Option (List ℕ))) (u : List ℕ) → InFrames c ks q all
+      → all ≡ frames.Annotated end ss ∷ fs → purpose_of q ≡ purposes.AnnotationsLength → EndsNumber g l c start ks q n u → end ≤ length u + n
+      → Decides g l u Malformed
   count_row _ _ _ fs end n ss u (length_in ks f hs m) i e o h = absurd cc
   count_row _ _ _ fs end n ss u (name_in end' ks hs m) i e o h = absurd cc
   count_row _ _ _ fs end n ss u (count_in ks end' hs m) i e o h = let k : end' ≡ end = cc in annotations_past c start end' n ks u o (omega arith)
   count_row _ _ _ fs end n ss u (id_in ks end' stop ss' hs m) i e o h = absurd cc
 
-  pub none_row : (ks : List Container) (q : Number) (fs : List Frame) (n : ℕ) (u : List ℕ) → InFrames c ks q fs → purpose_of q ≡ purposes.AnnotationsLength → EndsNumber g l c start ks q n u → n ≡ 0 → Decides g l u Malformed
+  pub none_row : (ks : List Container) (q : Number) (fs : List Frame) (n : ℕ) (u : List ℕ) → InFrames c ks q fs → purpose_of q ≡ purposes.AnnotationsLength
+      → EndsNumber g l c start ks q n u → n ≡ 0 → Decides g l u Malformed
   none_row _ _ _ n u (length_in ks f hs m) e o h = absurd cc
   none_row _ _ _ n u (name_in end' ks hs m) e o h = absurd cc
   none_row _ _ _ n u (count_in ks end' hs m) e o h = no_annotations c start end' ks u (subst (λ x. EndsNumber g l c start ks (Count end') x u) h o)
   none_row _ _ _ n u (id_in ks end' stop ss' hs m) e o h = absurd cc
 
-  pub annotation_row : (ks : List Container) (q : Number) (fs : List Frame) (stop n : ℕ) (u : List ℕ) (x : Reason) → InFrames c ks q fs → purpose_of q ≡ purposes.Annotation stop → EndsNumber g l c start ks q n u → resolve c n ≡ Err x → Decides g l u x
+  pub annotation_row : (ks : List Container) (q : Number) (fs : List Frame) (stop n : ℕ) (u : List ℕ) (x : Reason) → InFrames c ks q fs
+      → purpose_of q ≡ purposes.Annotation stop → EndsNumber g l c start ks q n u → resolve c n ≡ Err x → Decides g l u x
   annotation_row _ _ _ stop n u x (length_in ks f hs m) e o h = absurd cc
   annotation_row _ _ _ stop n u x (name_in end' ks hs m) e o h = absurd cc
   annotation_row _ _ _ stop n u x (count_in ks end' hs m) e o h = absurd cc
   annotation_row _ _ _ stop n u x (id_in ks end' stop' ss' hs m) e o h = no_annotation c start stop' n ks u x o h
 
-  pub marker_row : (f : Frame) (fs : List Frame) (ks : List Container) (u : List ℕ) (b : ℕ) → Match c (f ∷ fs) ks → Open g l c start ks u → TakesValue ks → opening_of b ≡ Marker → Decides g l (u ++ b ∷ []) Malformed
+  pub marker_row : (f : Frame) (fs : List Frame) (ks : List Container) (u : List ℕ) (b : ℕ) → Match c (f ∷ fs) ks → Open g l c start ks u → TakesValue ks
+      → opening_of b ≡ Marker → Decides g l (u ++ b ∷ []) Malformed
   marker_row _ _ _ u b (items end y vs fs ks m) o t i = inner_marker c start (Items end) ks u b o t i
   marker_row _ _ _ u b (names end ms fs ks m) o t i = absurd t
   marker_row _ _ _ u b (named end id ms fs ks m) o t i = inner_marker c start (Named end id) ks u b o t i
   marker_row _ _ _ u b (noted end ss fs ks m) o t i = inner_marker c start (Noted end) ks u b o t i
 
-  pub deep_row : (fs : List Frame) (form : Form) (n : ℕ) (u : List ℕ) → HeaderEnds fs form n u → IsContainer form → l.depth ≤ machine.levels fs → Decides g l u Depth
+  pub deep_row : (fs : List Frame) (form : Form) (n : ℕ) (u : List ℕ) → HeaderEnds fs form n u → IsContainer form → l.depth ≤ machine.levels fs
+      → Decides g l u Depth
   deep_row fs form n u h i d = let s = same_levels c fs h.ks h.match in too_deep c start h.ks form n u h.ends i (omega arith)

@@ -42,7 +42,8 @@ named_one = annotated (Some (codes "name") ∷ []) (payloads.Int (pos 1))
 abbrev last_system_symbol : Value
 last_system_symbol = bare (payloads.Symbol (Some (codes "$ion_shared_symbol_table")))
 
--- 2. Documents and their streams: none; `[5,true]` with its length in the fewest octets, and in more; a pad behind a field name, whose id stands for nothing; an annotation; the greatest id of the system.
+-- 2. Documents and their streams: none; `[5,true]` with its length in the fewest octets, and in more; a pad behind a field name, whose id stands for nothing;
+-- an annotation; the greatest id of the system.
 abbrev pub worked_documents : List (List ℕ × List Value)
 worked_documents =
     (0xE0 ∷ 0x01 ∷ 0x00 ∷ 0xEA ∷ [], [])
@@ -80,21 +81,25 @@ module _ (c : List Slot) where
 
   long_list : Binary c (0xBE ∷ 0x83 ∷ 0x21 ∷ 0x05 ∷ 0x11 ∷ []) list_value
   unfolding opening_of descriptor_of
-  long_list = unannotated _ (payloads.List items) (is_listing (0xBE ∷ 0x83 ∷ []) (0x21 ∷ 0x05 ∷ 0x11 ∷ []) listings.List items (long 0xBE (0x83 ∷ []) refl (one_digit 3 (omega arith))) both)
+  long_list = unannotated _ (payloads.List items) (is_listing (0xBE ∷ 0x83 ∷ []) (0x21 ∷ 0x05 ∷ 0x11 ∷ []) listings.List items
+      (long 0xBE (0x83 ∷ []) refl (one_digit 3 (omega arith))) both)
 
   only_a_pad : Binary c (0xD2 ∷ 0x8A ∷ 0x00 ∷ []) empty_struct
   unfolding opening_of descriptor_of
-  only_a_pad = unannotated _ (payloads.Fields []) (is_struct (0xD2 ∷ []) (0x8A ∷ 0x00 ∷ []) [] (short 0xD2 refl) (padded_field [] (0x8A ∷ []) (0x00 ∷ []) [] 10 no_fields (one_digit 10 (omega arith)) (skipped (0x00 ∷ []) [] (short 0x00 refl))))
+  only_a_pad = unannotated _ (payloads.Fields []) (is_struct (0xD2 ∷ []) (0x8A ∷ 0x00 ∷ []) [] (short 0xD2 refl)
+      (padded_field [] (0x8A ∷ []) (0x00 ∷ []) [] 10 no_fields (one_digit 10 (omega arith)) (skipped (0x00 ∷ []) [] (short 0x00 refl))))
 
 annotated_one : Binary system_slots (0xE4 ∷ 0x81 ∷ 0x84 ∷ 0x21 ∷ 0x01 ∷ []) named_one
 unfolding opening_of descriptor_of system_slots system_texts slots.resolve
-annotated_one = wrapped (0xE4 ∷ []) (0x81 ∷ []) (0x84 ∷ []) (0x21 ∷ 0x01 ∷ []) (Some (codes "name") ∷ []) (payloads.Int (pos 1)) (short 0xE4 refl) (one_digit 1 (omega arith)) (omega arith)
+annotated_one = wrapped (0xE4 ∷ []) (0x81 ∷ []) (0x84 ∷ []) (0x21 ∷ 0x01 ∷ []) (Some (codes "name") ∷ []) (payloads.Int (pos 1)) (short 0xE4 refl)
+    (one_digit 1 (omega arith)) (omega arith)
     (one_id [] (0x84 ∷ []) [] 4 (Some (codes "name")) no_ids (one_digit 4 (omega arith)) refl)
     (is_scalar (0x21 ∷ []) (1 ∷ []) scalars.Int _ (short 0x21 refl) (is_int (omega arith)))
 
 system_symbol : Binary system_slots (0x71 ∷ 0x09 ∷ []) last_system_symbol
 unfolding opening_of descriptor_of system_slots system_texts slots.resolve
-system_symbol = unannotated _ (payloads.Symbol (Some (codes "$ion_shared_symbol_table"))) (is_scalar (0x71 ∷ []) (9 ∷ []) scalars.Symbol _ (short 0x71 refl) (is_symbol (Some (codes "$ion_shared_symbol_table")) (omega arith) refl))
+system_symbol = unannotated _ (payloads.Symbol (Some (codes "$ion_shared_symbol_table")))
+    (is_scalar (0x71 ∷ []) (9 ∷ []) scalars.Symbol _ (short 0x71 refl) (is_symbol (Some (codes "$ion_shared_symbol_table")) (omega arith) refl))
 
 -- 4. How deep the values go.
 list_depth : depth list_value ≤ 1
@@ -111,7 +116,8 @@ symbol_depth = rw (depth-at last_system_symbol _ refl, views.outs-Symbol (Some (
 
 -- 5. So each is a document.
 module _ (g : Catalog) (l : Limits) where
-  one_value : (w : List ℕ) (v : Value) → Binary system_slots w v → is_table v ≡ false → depth v ≤ 1 → 4 + length w ≤ l.item → Document g l (the_marker ++ w) (v ∷ [])
+  one_value : (w : List ℕ) (v : Value) → Binary system_slots w v → is_table v ≡ false → depth v ≤ 1 → 4 + length w ≤ l.item
+      → Document g l (the_marker ++ w) (v ∷ [])
   one_value w v b t d h = (system_slots, holds the_marker w [] system_slots v begins b t (let deep = l.deep.0 in omega arith) (omega arith))
 
   pub are_documents : AreDocuments g l worked_documents

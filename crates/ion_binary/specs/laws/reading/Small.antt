@@ -56,16 +56,20 @@ nodes-annotated ss p =
 
 pub ids_long : (c : List Slot) (us : List ℕ) (ss : List (Option (List ℕ))) → Ids c us ss → length ss ≤ length us
 ids_long c _ _ no_ids = omega arith
-ids_long c _ _ (one_id us w ss k s b v r) = let i = ids_long c us ss b in let j = length-append us w in let m = length-append ss (s ∷ []) in let n = length_VarUInt w k v in omega arith
+ids_long c _ _ (one_id us w ss k s b v r) = let i = ids_long c us ss b in let j = length-append us w in let m = length-append ss (s ∷ []) in let n =
+    length_VarUInt w k v in omega arith
 
 mutual
   plain_nodes : (c : List Slot) (w : List ℕ) (p : Payload) → Plain c w p → nodes (bare p) ≤ length w
   plain_nodes c _ _ (is_null b k d) = let n = nodes-Null k in omega arith
   plain_nodes c _ _ (is_truth b t d) = let n = nodes-Truth t in omega arith
   plain_nodes c _ _ (is_scalar h body t p d i) = let n = scalar_nodes c body t p i in let a = header_some _ _ h d in let e = length-append h body in omega arith
-  plain_nodes c _ _ (is_listing h body x vs d q) = let n = nodes-listed x vs in let a = header_some _ _ h d in let e = length-append h body in let i = sequence_nodes c body vs q in omega arith
-  plain_nodes c _ _ (is_struct h body ms d q) = let n = nodes-fields ms in let a = header_some _ _ h d in let e = length-append h body in let i = fields_nodes c body ms q in omega arith
-  plain_nodes c _ _ (is_ordered h body ms d k q) = let n = nodes-fields ms in let a = header_some _ _ h d in let e = length-append h body in let i = fields_nodes c body ms q in omega arith
+  plain_nodes c _ _ (is_listing h body x vs d q) = let n = nodes-listed x vs in let a = header_some _ _ h d in let e = length-append h body in let i =
+      sequence_nodes c body vs q in omega arith
+  plain_nodes c _ _ (is_struct h body ms d q) = let n = nodes-fields ms in let a = header_some _ _ h d in let e = length-append h body in let i =
+      fields_nodes c body ms q in omega arith
+  plain_nodes c _ _ (is_ordered h body ms d k q) = let n = nodes-fields ms in let a = header_some _ _ h d in let e = length-append h body in let i =
+      fields_nodes c body ms q in omega arith
 
   pub binary_nodes : (c : List Slot) (w : List ℕ) (v : Value) → Binary c w v → nodes v ≤ length w
   binary_nodes c _ _ (unannotated w p b) = plain_nodes c w p b
@@ -80,7 +84,8 @@ mutual
 
   pub sequence_nodes : (c : List Slot) (w : List ℕ) (vs : List Value) → Sequence c w vs → sum (map nodes vs) ≤ length w
   sequence_nodes c _ _ nothing = omega arith
-  sequence_nodes c _ _ (one_more us w vs v q b) = let a = sequence_nodes c us vs q in let e = binary_nodes c w v b in let l = length-append us w in let n = nodes-more vs v in omega arith
+  sequence_nodes c _ _ (one_more us w vs v q b) = let a = sequence_nodes c us vs q in let e = binary_nodes c w v b in let l = length-append us w in let n =
+      nodes-more vs v in omega arith
   sequence_nodes c _ _ (padded us w vs q b) = let a = sequence_nodes c us vs q in let l = length-append us w in omega arith
 
   pub fields_nodes : (c : List Slot) (w : List ℕ) (ms : List Field) → Fields c w ms → sum (map field_nodes ms) ≤ length w
@@ -105,9 +110,11 @@ spaced_on item from ((v, at) ∷ given) to later h e = (h.0, spaced_on item at g
 
 -- an item behind octets stands behind fewer of them
 span_behind : (item from to at : ℕ) (v : Value) → from ≤ to → HasSpan item to at v → HasSpan item from at v
-span_behind item from to at v e h = let behind = h.behind in record { start = h.start; end = h.end; behind = omega arith; within = h.within; fits = h.fits; holds = h.holds }
+span_behind item from to at v e h = let behind = h.behind in
+    record { start = h.start; end = h.end; behind = omega arith; within = h.within; fits = h.fits; holds = h.holds }
 
 -- one value more, whose item stands behind these octets
-pub spaced_more : (item from : ℕ) (given : List (Value × ℕ)) (to : ℕ) (v : Value) (later : ℕ) → Spaced item from given to → HasSpan item to later v → Spaced item from (given ++ (v, later) ∷ []) later
+pub spaced_more : (item from : ℕ) (given : List (Value × ℕ)) (to : ℕ) (v : Value) (later : ℕ) → Spaced item from given to → HasSpan item to later v
+    → Spaced item from (given ++ (v, later) ∷ []) later
 spaced_more item from [] to v later h e = (span_behind item from to later v h e, omega arith)
 spaced_more item from ((w, at) ∷ given) to v later h e = (h.0, spaced_more item at given to v later h.1 e)

@@ -24,7 +24,8 @@ not_failed r u s h = h.fine
 pub not_refused : (r : BinaryReader) (u : List ℕ) (s : List (Value × ℕ)) → Stands r u s → (trace r.catalog.now r.limits u).refused ≡ None
 not_refused r u s h = ap (λ (x : Run). (trace_of x).refused) h.ran
 
-so_far_within : (g : Catalog) (l : Limits) (start : ℕ) (c : List Slot) (s : List Value) (fs : List Frame) (body : List ℕ) (phase : Phase) (u : List ℕ) → Standing g l start c s fs (body_so_far phase body) phase u → length (body_so_far phase body) ≤ l.item
+so_far_within : (g : Catalog) (l : Limits) (start : ℕ) (c : List Slot) (s : List Value) (fs : List Frame) (body : List ℕ) (phase : Phase) (u : List ℕ)
+    → Standing g l start c s fs (body_so_far phase body) phase u → length (body_so_far phase body) ≤ l.item
 so_far_within g l start c s fs body (InBody t n) u o = body_within g l start c s fs body t n u o
 so_far_within g l start c s fs body (InMarker m good) u o = omega arith
 so_far_within g l start c s fs body Ready u o = omega arith

@@ -186,7 +186,8 @@ abbrev pub IfGood : Bool → Type 0 → Type 0
 IfGood true P = P
 IfGood false P = Unit {0}
 
-pub record MarkerStands (g : Catalog) (l : Limits) (start : ℕ) (c : List Slot) (s : List Value) (fs : List Frame) (m : Mark) (good : Bool) (u : List ℕ) : Type 0 where
+pub record MarkerStands (g : Catalog) (l : Limits) (start : ℕ) (c : List Slot) (s : List Value) (fs : List Frame) (m : Mark) (good : Bool) (u : List ℕ) : Type
+    0 where
   pub before : List ℕ
   pub came : List ℕ
   pub whole : u ≡ before ++ came
@@ -203,7 +204,8 @@ Going l start (f ∷ fs) form used = used < end_of f
 Going l start [] form used = TopRoom l.item start form used
 
 -- in the length of a form
-pub record LengthStands (g : Catalog) (l : Limits) (start : ℕ) (c : List Slot) (s : List Value) (fs : List Frame) (form : Form) (a : ℕ) (u : List ℕ) : Type 0 where
+pub record LengthStands (g : Catalog) (l : Limits) (start : ℕ) (c : List Slot) (s : List Value) (fs : List Frame) (form : Form) (a : ℕ) (u : List ℕ) : Type
+    0 where
   pub before : List ℕ
   pub b : ℕ
   pub digits : List ℕ
@@ -219,7 +221,8 @@ pub record LengthStands (g : Catalog) (l : Limits) (start : ℕ) (c : List Slot)
   pub going : Going l start fs form (length u)
 
 -- in the id of a field name
-pub record NameStands (g : Catalog) (l : Limits) (start : ℕ) (c : List Slot) (s : List Value) (fs : List Frame) (end : ℕ) (ms : List Field) (a : ℕ) (u : List ℕ) : Type 0 where
+pub record NameStands (g : Catalog) (l : Limits) (start : ℕ) (c : List Slot) (s : List Value) (fs : List Frame) (end : ℕ) (ms : List Field) (a : ℕ)
+    (u : List ℕ) : Type 0 where
   pub front : List ℕ
   pub digits : List ℕ
   pub whole : u ≡ front ++ digits
@@ -230,7 +233,8 @@ pub record NameStands (g : Catalog) (l : Limits) (start : ℕ) (c : List Slot) (
   pub going : length u < end
 
 -- in the number of the octets of annotations
-pub record CountStands (g : Catalog) (l : Limits) (start : ℕ) (c : List Slot) (s : List Value) (fs : List Frame) (end : ℕ) (ss : List (Option (List ℕ))) (a : ℕ) (u : List ℕ) : Type 0 where
+pub record CountStands (g : Catalog) (l : Limits) (start : ℕ) (c : List Slot) (s : List Value) (fs : List Frame) (end : ℕ) (ss : List (Option (List ℕ))) (a : ℕ)
+    (u : List ℕ) : Type 0 where
   pub front : List ℕ
   pub digits : List ℕ
   pub whole : u ≡ front ++ digits
@@ -243,7 +247,8 @@ pub record CountStands (g : Catalog) (l : Limits) (start : ℕ) (c : List Slot) 
   pub going : length u < end
 
 -- in the id of an annotation
-pub record AnnotationStands (g : Catalog) (l : Limits) (start : ℕ) (c : List Slot) (s : List Value) (fs : List Frame) (end : ℕ) (ss : List (Option (List ℕ))) (stop : ℕ) (a : ℕ) (u : List ℕ) : Type 0 where
+pub record AnnotationStands (g : Catalog) (l : Limits) (start : ℕ) (c : List Slot) (s : List Value) (fs : List Frame) (end : ℕ) (ss : List (Option (List ℕ)))
+    (stop : ℕ) (a : ℕ) (u : List ℕ) : Type 0 where
   pub front : List ℕ
   pub count : List ℕ
   pub ids : List ℕ
@@ -270,7 +275,8 @@ NumberStands g l start c s (frames.Annotated end ss ∷ fs) (purposes.Annotation
 NumberStands g l start c s _ _ a u = ⊥
 
 -- in a body of which `came` has come
-pub record BodyStands (g : Catalog) (l : Limits) (start : ℕ) (c : List Slot) (s : List Value) (fs : List Frame) (form : Form) (n : ℕ) (came : List ℕ) (u : List ℕ) : Type 0 where
+pub record BodyStands (g : Catalog) (l : Limits) (start : ℕ) (c : List Slot) (s : List Value) (fs : List Frame) (form : Form) (n : ℕ) (came : List ℕ)
+    (u : List ℕ) : Type 0 where
   pub before : List ℕ
   pub header : List ℕ
   pub whole : u ≡ before ++ (header ++ came)

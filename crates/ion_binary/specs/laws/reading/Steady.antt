@@ -75,26 +75,41 @@ turned_steady : (used start : ℕ) (P : Type 0) (r : Result (List Slot) Reason) 
 turned_steady used start P (Ok d) h f = record { from = h; to = omega arith }
 turned_steady used start P (Err e) h f = λ p. f
 
-deliver_steady : (setting : Setting) (spot : Spot) (fs : List Frame) (v : Value) → spot.start ≤ spot.used → Steady spot.start (FineFrames fs) (deliver setting spot fs v)
+deliver_steady : (setting : Setting) (spot : Spot) (fs : List Frame) (v : Value) → spot.start ≤ spot.used
+    → Steady spot.start (FineFrames fs) (deliver setting spot fs v)
 deliver_steady setting spot [] v h =
-    either (Steady spot.start (FineFrames [])) (is_table v) _ _ (turned_steady spot.used spot.start (FineFrames []) (next spot.context v setting.catalog) h (next_decides spot.context v setting.catalog)) (record { from = h; to = omega arith })
+    either (Steady spot.start (FineFrames [])) (is_table v) _ _
+    (turned_steady spot.used spot.start (FineFrames []) (next spot.context v setting.catalog) h (next_decides spot.context v setting.catalog))
+    (record { from = h; to = omega arith })
 deliver_steady setting spot (frames.Items end x vs ∷ fs) v h =
-    either (Steady spot.start (FineFrames (frames.Items end x vs ∷ fs))) (spot.used == end) _ _ (weaken spot.start (FineFrames (frames.Items end x vs ∷ fs)) (FineFrames fs) (deliver setting spot fs (bare (listed x (vs ++ v ∷ [])))) (λ p. p.1) (deliver_steady setting spot fs (bare (listed x (vs ++ v ∷ []))) h)) (record { from = omega arith; to = h })
+    either (Steady spot.start (FineFrames (frames.Items end x vs ∷ fs))) (spot.used == end) _ _
+    (weaken spot.start (FineFrames (frames.Items end x vs ∷ fs)) (FineFrames fs) (deliver setting spot fs (bare (listed x (vs ++ v ∷ [])))) (λ p. p.1)
+    (deliver_steady setting spot fs (bare (listed x (vs ++ v ∷ []))) h)) (record { from = omega arith; to = h })
 deliver_steady setting spot (frames.Fields end ms ∷ fs) v h = λ p. tt
 deliver_steady setting spot (frames.Named end ms (Ok s) ∷ fs) v h =
-    either (Steady spot.start (FineFrames (frames.Named end ms (Ok s) ∷ fs))) (spot.used == end) _ _ (weaken spot.start (FineFrames (frames.Named end ms (Ok s) ∷ fs)) (FineFrames fs) (deliver setting spot fs (bare (payloads.Fields (ms ++ field_of s v ∷ [])))) (λ p. p.1) (deliver_steady setting spot fs (bare (payloads.Fields (ms ++ field_of s v ∷ []))) h)) (record { from = omega arith; to = h })
+    either (Steady spot.start (FineFrames (frames.Named end ms (Ok s) ∷ fs))) (spot.used == end) _ _
+    (weaken spot.start (FineFrames (frames.Named end ms (Ok s) ∷ fs)) (FineFrames fs)
+    (deliver setting spot fs (bare (payloads.Fields (ms ++ field_of s v ∷ [])))) (λ p. p.1)
+    (deliver_steady setting spot fs (bare (payloads.Fields (ms ++ field_of s v ∷ []))) h)) (record { from = omega arith; to = h })
 deliver_steady setting spot (frames.Named end ms (Err e) ∷ fs) v h = λ p. p.0
 deliver_steady setting spot (frames.Annotated end ss ∷ fs) v h =
-    weaken spot.start (FineFrames (frames.Annotated end ss ∷ fs)) (FineFrames fs) (deliver setting spot fs (annotated ss v.payload)) (λ p. p.1) (deliver_steady setting spot fs (annotated ss v.payload) h)
+    weaken spot.start (FineFrames (frames.Annotated end ss ∷ fs)) (FineFrames fs) (deliver setting spot fs (annotated ss v.payload)) (λ p. p.1)
+    (deliver_steady setting spot fs (annotated ss v.payload) h)
 
 proceed_steady : (setting : Setting) (spot : Spot) (fs : List Frame) → spot.start ≤ spot.used → Steady spot.start (FineFrames fs) (proceed setting spot fs)
 proceed_steady setting spot [] h = record { from = h; to = omega arith }
 proceed_steady setting spot (frames.Items end x vs ∷ fs) h =
-    either (Steady spot.start (FineFrames (frames.Items end x vs ∷ fs))) (spot.used == end) _ _ (weaken spot.start (FineFrames (frames.Items end x vs ∷ fs)) (FineFrames fs) (deliver setting spot fs (bare (listed x vs))) (λ p. p.1) (deliver_steady setting spot fs (bare (listed x vs)) h)) (record { from = omega arith; to = h })
+    either (Steady spot.start (FineFrames (frames.Items end x vs ∷ fs))) (spot.used == end) _ _
+    (weaken spot.start (FineFrames (frames.Items end x vs ∷ fs)) (FineFrames fs) (deliver setting spot fs (bare (listed x vs))) (λ p. p.1)
+    (deliver_steady setting spot fs (bare (listed x vs)) h)) (record { from = omega arith; to = h })
 proceed_steady setting spot (frames.Fields end ms ∷ fs) h =
-    either (Steady spot.start (FineFrames (frames.Fields end ms ∷ fs))) (spot.used == end) _ _ (weaken spot.start (FineFrames (frames.Fields end ms ∷ fs)) (FineFrames fs) (deliver setting spot fs (bare (payloads.Fields ms))) (λ p. p.1) (deliver_steady setting spot fs (bare (payloads.Fields ms)) h)) (record { from = omega arith; to = h })
+    either (Steady spot.start (FineFrames (frames.Fields end ms ∷ fs))) (spot.used == end) _ _
+    (weaken spot.start (FineFrames (frames.Fields end ms ∷ fs)) (FineFrames fs) (deliver setting spot fs (bare (payloads.Fields ms))) (λ p. p.1)
+    (deliver_steady setting spot fs (bare (payloads.Fields ms)) h)) (record { from = omega arith; to = h })
 proceed_steady setting spot (frames.Named end ms name ∷ fs) h =
-    either (Steady spot.start (FineFrames (frames.Named end ms name ∷ fs))) (spot.used == end) _ _ (weaken spot.start (FineFrames (frames.Named end ms name ∷ fs)) (FineFrames fs) (deliver setting spot fs (bare (payloads.Fields ms))) (λ p. p.1) (deliver_steady setting spot fs (bare (payloads.Fields ms)) h)) (record { from = omega arith; to = h })
+    either (Steady spot.start (FineFrames (frames.Named end ms name ∷ fs))) (spot.used == end) _ _
+    (weaken spot.start (FineFrames (frames.Named end ms name ∷ fs)) (FineFrames fs) (deliver setting spot fs (bare (payloads.Fields ms))) (λ p. p.1)
+    (deliver_steady setting spot fs (bare (payloads.Fields ms)) h)) (record { from = omega arith; to = h })
 proceed_steady setting spot (frames.Annotated end ss ∷ fs) h = λ p. tt
 
 long_fine : (item start : ℕ) (form : Form) (to : ℕ) → Fine (too_long item start form to)
@@ -157,44 +172,60 @@ or_fine (Some e) b h k = h
 
 unfit_fine : (item start : ℕ) (fs : List Frame) (form : Form) (to : ℕ) → FineFrames fs → Fine (unfit item start fs form to)
 unfit_fine item start fs form to p =
-    or_fine (stray fs form) (or_else (misfits item start fs form to) (nameless fs form)) (stray_fine fs form) (or_fine (misfits item start fs form to) (nameless fs form) (misfits_fine item start fs form to) (nameless_fine fs form p))
+    or_fine (stray fs form) (or_else (misfits item start fs form to) (nameless fs form)) (stray_fine fs form)
+    (or_fine (misfits item start fs form to) (nameless fs form) (misfits_fine item start fs form to) (nameless_fine fs form p))
 
-judged_steady : (setting : Setting) (spot : Spot) (fs : List Frame) (r : Result Payload Reason) → spot.start ≤ spot.used → Decides r → Steady spot.start (FineFrames fs) (judged setting spot fs r)
+judged_steady : (setting : Setting) (spot : Spot) (fs : List Frame) (r : Result Payload Reason) → spot.start ≤ spot.used → Decides r
+    → Steady spot.start (FineFrames fs) (judged setting spot fs r)
 judged_steady setting spot fs (Ok p) h f = deliver_steady setting spot fs (bare p) h
 judged_steady setting spot fs (Err e) h f = λ p. f
 
 deeper_steady : (depth start : ℕ) (fs : List Frame) (r : Outcome) → Steady start (FineFrames fs) r → Steady start (FineFrames fs) (deeper depth fs r)
 deeper_steady depth start fs r h = either (Steady start (FineFrames fs)) (nat_lt (levels fs) depth) _ _ h (λ p. tt)
 
-struct_steady : (setting : Setting) (spot : Spot) (fs : List Frame) (n : ℕ) → spot.start ≤ spot.used → Steady spot.start (FineFrames fs) (open_struct setting spot fs n)
+struct_steady : (setting : Setting) (spot : Spot) (fs : List Frame) (n : ℕ) → spot.start ≤ spot.used
+    → Steady spot.start (FineFrames fs) (open_struct setting spot fs n)
 struct_steady setting spot fs n h =
-    deeper_steady setting.limits.depth spot.start fs _ (weaken spot.start (FineFrames fs) (FineFrames (frames.Fields (spot.used + n) [] ∷ fs)) (proceed setting spot (frames.Fields (spot.used + n) [] ∷ fs)) (λ p. (tt, p)) (proceed_steady setting spot (frames.Fields (spot.used + n) [] ∷ fs) h))
+    deeper_steady setting.limits.depth spot.start fs _ (weaken spot.start (FineFrames fs) (FineFrames (frames.Fields (spot.used + n) [] ∷ fs))
+    (proceed setting spot (frames.Fields (spot.used + n) [] ∷ fs)) (λ p. (tt, p)) (proceed_steady setting spot (frames.Fields (spot.used + n) [] ∷ fs) h))
 
-begin_steady : (setting : Setting) (spot : Spot) (fs : List Frame) (form : Form) (n : ℕ) → spot.start ≤ spot.used → Steady spot.start (FineFrames fs) (begin setting spot fs form n)
-begin_steady setting spot fs forms.Pad n h = either (Steady spot.start (FineFrames fs)) (n == 0) _ _ (proceed_steady setting spot fs h) (record { from = omega arith; to = h })
-begin_steady setting spot fs (forms.Scalar t) n h = either (Steady spot.start (FineFrames fs)) (n == 0) _ _ (judged_steady setting spot fs (judge spot.context t []) h (judge_decides spot.context t [])) (record { from = omega arith; to = h })
+begin_steady : (setting : Setting) (spot : Spot) (fs : List Frame) (form : Form) (n : ℕ) → spot.start ≤ spot.used
+    → Steady spot.start (FineFrames fs) (begin setting spot fs form n)
+begin_steady setting spot fs forms.Pad n h = either (Steady spot.start (FineFrames fs)) (n == 0) _ _ (proceed_steady setting spot fs h)
+    (record { from = omega arith; to = h })
+begin_steady setting spot fs (forms.Scalar t) n h = either (Steady spot.start (FineFrames fs)) (n == 0) _ _
+    (judged_steady setting spot fs (judge spot.context t []) h (judge_decides spot.context t [])) (record { from = omega arith; to = h })
 begin_steady setting spot fs (forms.Listing x) n h =
-    deeper_steady setting.limits.depth spot.start fs _ (weaken spot.start (FineFrames fs) (FineFrames (frames.Items (spot.used + n) x [] ∷ fs)) (proceed setting spot (frames.Items (spot.used + n) x [] ∷ fs)) (λ p. (tt, p)) (proceed_steady setting spot (frames.Items (spot.used + n) x [] ∷ fs) h))
+    deeper_steady setting.limits.depth spot.start fs _ (weaken spot.start (FineFrames fs) (FineFrames (frames.Items (spot.used + n) x [] ∷ fs))
+    (proceed setting spot (frames.Items (spot.used + n) x [] ∷ fs)) (λ p. (tt, p)) (proceed_steady setting spot (frames.Items (spot.used + n) x [] ∷ fs) h))
 begin_steady setting spot fs forms.Struct n h = struct_steady setting spot fs n h
 begin_steady setting spot fs forms.OrderedStruct n h = struct_steady setting spot fs n h
 begin_steady setting spot fs forms.Wrapper n h = record { from = omega arith; to = h }
 
-sized_steady : (setting : Setting) (spot : Spot) (fs : List Frame) (form : Form) (n : ℕ) → spot.start ≤ spot.used → Steady spot.start (FineFrames fs) (sized setting spot fs form n)
+sized_steady : (setting : Setting) (spot : Spot) (fs : List Frame) (form : Form) (n : ℕ) → spot.start ≤ spot.used
+    → Steady spot.start (FineFrames fs) (sized setting spot fs form n)
 sized_steady setting spot fs form n h =
     steady_unless spot.start (FineFrames fs) (hollow form n) _ (λ i. hollow_fine form n)
-    (steady_unless spot.start (FineFrames fs) (unfit setting.limits.item spot.start fs form (spot.used + n)) _ (unfit_fine setting.limits.item spot.start fs form (spot.used + n)) (begin_steady setting spot fs form n h))
+    (steady_unless spot.start (FineFrames fs) (unfit setting.limits.item spot.start fs form (spot.used + n)) _
+    (unfit_fine setting.limits.item spot.start fs form (spot.used + n)) (begin_steady setting spot fs form n h))
 
-longer_steady : (setting : Setting) (spot : Spot) (fs : List Frame) (p : Purpose) (a : ℕ) → spot.start ≤ spot.used → Steady spot.start (FineFrames fs) (longer setting spot fs p a)
-longer_steady setting spot fs p a h = steady_unless spot.start (FineFrames fs) (past setting.limits.item spot.start fs p spot.used) _ (λ i. past_fine setting.limits.item spot.start fs p spot.used) (record { from = omega arith; to = h })
+longer_steady : (setting : Setting) (spot : Spot) (fs : List Frame) (p : Purpose) (a : ℕ) → spot.start ≤ spot.used
+    → Steady spot.start (FineFrames fs) (longer setting spot fs p a)
+longer_steady setting spot fs p a h = steady_unless spot.start (FineFrames fs) (past setting.limits.item spot.start fs p spot.used) _
+    (λ i. past_fine setting.limits.item spot.start fs p spot.used) (record { from = omega arith; to = h })
 
-unsized_steady : (setting : Setting) (spot : Spot) (fs : List Frame) (form : Form) → spot.start ≤ spot.used → Steady spot.start (FineFrames fs) (unsized setting spot fs form)
+unsized_steady : (setting : Setting) (spot : Spot) (fs : List Frame) (form : Form) → spot.start ≤ spot.used
+    → Steady spot.start (FineFrames fs) (unsized setting spot fs form)
 unsized_steady setting spot fs form h =
     steady_unless spot.start (FineFrames fs) (stray fs form) _ (λ i. stray_fine fs form)
-    (steady_unless spot.start (FineFrames fs) (unending setting.limits.item spot.start fs form spot.used) _ (λ i. unending_fine setting.limits.item spot.start fs form spot.used)
+    (steady_unless spot.start (FineFrames fs) (unending setting.limits.item spot.start fs form spot.used) _
+    (λ i. unending_fine setting.limits.item spot.start fs form spot.used)
     (steady_unless spot.start (FineFrames fs) (nameless fs form) _ (nameless_fine fs form) (record { from = omega arith; to = h })))
 
-one_steady : (setting : Setting) (spot : Spot) (fs : List Frame) (p : Payload) → spot.start ≤ spot.used → Steady spot.start (FineFrames fs) (one_octet setting spot fs p)
-one_steady setting spot fs p h = steady_unless spot.start (FineFrames fs) (unfit setting.limits.item spot.start fs forms.Struct spot.used) _ (unfit_fine setting.limits.item spot.start fs forms.Struct spot.used) (deliver_steady setting spot fs (bare p) h)
+one_steady : (setting : Setting) (spot : Spot) (fs : List Frame) (p : Payload) → spot.start ≤ spot.used
+    → Steady spot.start (FineFrames fs) (one_octet setting spot fs p)
+one_steady setting spot fs p h = steady_unless spot.start (FineFrames fs) (unfit setting.limits.item spot.start fs forms.Struct spot.used) _
+    (unfit_fine setting.limits.item spot.start fs forms.Struct spot.used) (deliver_steady setting spot fs (bare p) h)
 
 -- why a descriptor is refused
 
@@ -204,8 +235,11 @@ with_fine t Follows = tt
 
 body_fine : (code : ℕ) (z : Size) → FineOpening (body_of code z)
 body_fine code z =
-    either FineOpening (code == 2) _ _ tt (either FineOpening (code == 3) _ _ (with_fine scalars.NegativeInt z) (either FineOpening (code == 5) _ _ tt (either FineOpening (code == 6) _ _ (with_fine scalars.Timestamp z)
-    (either FineOpening (code == 7) _ _ tt (either FineOpening (code == 8) _ _ tt (either FineOpening (code == 9) _ _ tt (either FineOpening (code == 10) _ _ tt (either FineOpening (code == 11) _ _ tt (either FineOpening (code == 12) _ _ tt
+    either FineOpening (code == 2) _ _ tt (either FineOpening (code == 3) _ _ (with_fine scalars.NegativeInt z)
+    (either FineOpening (code == 5) _ _ tt (either FineOpening (code == 6) _ _ (with_fine scalars.Timestamp z)
+    (either FineOpening (code == 7) _ _ tt (either FineOpening (code == 8) _ _ tt
+    (either FineOpening (code == 9) _ _ tt (either FineOpening (code == 10) _ _ tt
+    (either FineOpening (code == 11) _ _ tt (either FineOpening (code == 12) _ _ tt
     (either FineOpening (code == 13) _ _ tt (either FineOpening (code == 14) _ _ tt tt)))))))))))
 
 opens_fine : (d : Result Descriptor Reason) → Decides d → FineOpening (opens d)
@@ -233,7 +267,8 @@ opening_fine : (b : ℕ) → FineOpening (opening_of b)
 unfolding opening_of descriptor_of
 opening_fine b = opens_fine (descriptor_of b) (typed_fine (b / 16) (b % 16))
 
-descriptor_steady : (setting : Setting) (spot : Spot) (fs : List Frame) (d : Opening) → spot.start ≤ spot.used → FineOpening d → Steady spot.start (FineFrames fs) (on_descriptor setting spot fs d)
+descriptor_steady : (setting : Setting) (spot : Spot) (fs : List Frame) (d : Opening) → spot.start ≤ spot.used → FineOpening d
+    → Steady spot.start (FineFrames fs) (on_descriptor setting spot fs d)
 descriptor_steady setting spot fs (Refused e) h f = λ p. f
 descriptor_steady setting spot [] Marker h f = record { from = omega arith; to = h }
 descriptor_steady setting spot (k ∷ fs) Marker h f = λ p. tt
@@ -244,7 +279,8 @@ descriptor_steady setting spot fs (Sized form Follows) h f = unsized_steady sett
 
 name_steady : (spot : Spot) (fs : List Frame) (id : ℕ) → spot.start ≤ spot.used → Steady spot.start (FineFrames fs) (name_came spot fs id)
 name_steady spot [] id h = λ p. tt
-name_steady spot (frames.Fields end ms ∷ fs) id h = either (Steady spot.start (FineFrames (frames.Fields end ms ∷ fs))) (nat_lt spot.used end) _ _ (record { from = omega arith; to = h }) (λ p. tt)
+name_steady spot (frames.Fields end ms ∷ fs) id h = either (Steady spot.start (FineFrames (frames.Fields end ms ∷ fs))) (nat_lt spot.used end) _ _
+    (record { from = omega arith; to = h }) (λ p. tt)
 name_steady spot (frames.Items end x vs ∷ fs) id h = λ p. tt
 name_steady spot (frames.Named end ms name ∷ fs) id h = λ p. tt
 name_steady spot (frames.Annotated end ss ∷ fs) id h = λ p. tt
@@ -258,7 +294,8 @@ count_steady spot (frames.Fields end ms ∷ fs) n h = λ p. tt
 count_steady spot (frames.Items end x vs ∷ fs) n h = λ p. tt
 count_steady spot (frames.Named end ms name ∷ fs) n h = λ p. tt
 
-annotation_steady : (spot : Spot) (fs : List Frame) (stop : ℕ) (r : Result (Option (List ℕ)) Reason) → spot.start ≤ spot.used → Decides r → Steady spot.start (FineFrames fs) (annotation_came spot fs stop r)
+annotation_steady : (spot : Spot) (fs : List Frame) (stop : ℕ) (r : Result (Option (List ℕ)) Reason) → spot.start ≤ spot.used → Decides r
+    → Steady spot.start (FineFrames fs) (annotation_came spot fs stop r)
 annotation_steady spot [] stop r h f = λ p. tt
 annotation_steady spot (frames.Annotated end ss ∷ fs) stop (Ok s) h f = record { from = omega arith; to = h }
 annotation_steady spot (frames.Annotated end ss ∷ fs) stop (Err e) h f = λ p. f
@@ -266,19 +303,23 @@ annotation_steady spot (frames.Fields end ms ∷ fs) stop r h f = λ p. tt
 annotation_steady spot (frames.Items end x vs ∷ fs) stop r h f = λ p. tt
 annotation_steady spot (frames.Named end ms name ∷ fs) stop r h f = λ p. tt
 
-came_steady : (setting : Setting) (spot : Spot) (fs : List Frame) (p : Purpose) (n : ℕ) → spot.start ≤ spot.used → Steady spot.start (FineFrames fs) (number_came setting spot fs p n)
+came_steady : (setting : Setting) (spot : Spot) (fs : List Frame) (p : Purpose) (n : ℕ) → spot.start ≤ spot.used
+    → Steady spot.start (FineFrames fs) (number_came setting spot fs p n)
 came_steady setting spot fs (purposes.Length form) n h = sized_steady setting spot fs form n h
 came_steady setting spot fs purposes.FieldName n h = name_steady spot fs n h
 came_steady setting spot fs purposes.AnnotationsLength n h = count_steady spot fs n h
 came_steady setting spot fs (purposes.Annotation stop) n h = annotation_steady spot fs stop (resolve spot.context n) h (resolve_decides spot.context n)
 
-marker_steady : (spot : Spot) (fs : List Frame) (m : Mark) (good : Bool) (b : ℕ) → spot.start ≤ spot.used → Steady spot.start (FineFrames fs) (on_marker spot fs m good b)
+marker_steady : (spot : Spot) (fs : List Frame) (m : Mark) (good : Bool) (b : ℕ) → spot.start ≤ spot.used
+    → Steady spot.start (FineFrames fs) (on_marker spot fs m good b)
 marker_steady spot fs First good b h = either (Steady spot.start (FineFrames fs)) (b == 224) _ _ (record { from = omega arith; to = h }) (λ p. tt)
 marker_steady spot fs Second good b h = record { from = omega arith; to = h }
 marker_steady spot fs Third good b h = record { from = omega arith; to = h }
-marker_steady spot fs Fourth good b h = either (Steady spot.start (FineFrames fs)) (b == 234) _ _ (either (Steady spot.start (FineFrames fs)) good _ _ (record { from = h; to = omega arith }) (λ p. tt)) (λ p. tt)
+marker_steady spot fs Fourth good b h = either (Steady spot.start (FineFrames fs)) (b == 234) _ _
+    (either (Steady spot.start (FineFrames fs)) good _ _ (record { from = h; to = omega arith }) (λ p. tt)) (λ p. tt)
 
-phase_steady : (setting : Setting) (m : Machine) (p : Phase) (b : ℕ) → m.spot.start ≤ m.spot.used → Steady m.spot.start (FineFrames m.frames) (on_phase setting m p b)
+phase_steady : (setting : Setting) (m : Machine) (p : Phase) (b : ℕ) → m.spot.start ≤ m.spot.used
+    → Steady m.spot.start (FineFrames m.frames) (on_phase setting m p b)
 phase_steady setting m (InMarker mark good) b h = marker_steady m.spot m.frames mark good b h
 phase_steady setting m Ready b h = descriptor_steady setting m.spot m.frames (opening_of b) h (opening_fine b)
 phase_steady setting m (InNumber p a) b h =
@@ -288,8 +329,10 @@ phase_steady setting m (InNumber p a) b h =
     (either P (nat_lt (128 * a + (b - 128)) (2 ^ 63)) _ _ (came_steady setting m.spot m.frames p (128 * a + (b - 128)) h) (λ p. tt))
 phase_steady setting m (InBody t missing) b h =
     let body = m.body ++ b ∷ [] in
-    either (Steady m.spot.start (FineFrames m.frames)) (missing == 0) _ _ (judged_steady setting m.spot m.frames (judge m.spot.context t body) h (judge_decides m.spot.context t body)) (record { from = omega arith; to = h })
-phase_steady setting m (InPad missing) b h = either (Steady m.spot.start (FineFrames m.frames)) (missing == 0) _ _ (proceed_steady setting m.spot m.frames h) (record { from = omega arith; to = h })
+    either (Steady m.spot.start (FineFrames m.frames)) (missing == 0) _ _
+    (judged_steady setting m.spot m.frames (judge m.spot.context t body) h (judge_decides m.spot.context t body)) (record { from = omega arith; to = h })
+phase_steady setting m (InPad missing) b h = either (Steady m.spot.start (FineFrames m.frames)) (missing == 0) _ _ (proceed_steady setting m.spot m.frames h)
+    (record { from = omega arith; to = h })
 
 -- an octet leaves the start of the open piece where it is, or moves it on; where the ids of the open field names were looked up, it decides why it is refused
 pub feed_steady : (setting : Setting) (m : Machine) (b : ℕ) → m.spot.start ≤ m.spot.used → Steady m.spot.start (FineFrames m.frames) (feed setting m b)

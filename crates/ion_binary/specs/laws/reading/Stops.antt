@@ -14,11 +14,14 @@ use Rattle.ion_binary.specs.laws.reading.Steady.{Steady, FineFrames, feed_steady
 use Rattle.ion_binary.specs.laws.reading.Documents.{pieces_run}
 
 -- the start of the open piece never moves back
-pub run_onward : (g : Catalog) (l : Limits) (to : ℕ) (m : Machine) (w : List ℕ) (n : Machine) → m.spot.start ≤ m.spot.used → (run g l to m w).now ≡ Ok n → m.spot.start ≤ n.spot.start
+pub run_onward : (g : Catalog) (l : Limits) (to : ℕ) (m : Machine) (w : List ℕ) (n : Machine) → m.spot.start ≤ m.spot.used → (run g l to m w).now ≡ Ok n
+    → m.spot.start ≤ n.spot.start
 run_onward g l to m [] n h e = let k : m ≡ n = cc in subst (λ (x : Machine). m.spot.start ≤ x.spot.start) k (omega arith)
 run_onward g l to m (b ∷ bs) n h e = go (feed (under g l) m b) (feed_steady (under g l) m b h) (λ k i. run_onward g l (to + 1) k bs n i) e
   where
-    go : (o : Outcome) → Steady m.spot.start (FineFrames m.frames) o → ((k : Machine) → k.spot.start ≤ k.spot.used → (run g l (to + 1) k bs).now ≡ Ok n → k.spot.start ≤ n.spot.start) → (run_on (to + 1) (λ k. run g l (to + 1) k bs) o).now ≡ Ok n → m.spot.start ≤ n.spot.start
+    go : (o : Outcome) → Steady m.spot.start (FineFrames m.frames) o
+        → ((k : Machine) → k.spot.start ≤ k.spot.used → (run g l (to + 1) k bs).now ≡ Ok n → k.spot.start ≤ n.spot.start)
+        → (run_on (to + 1) (λ k. run g l (to + 1) k bs) o).now ≡ Ok n → m.spot.start ≤ n.spot.start
     go (goes k) s f e = let a = s.from in let b = f k s.to e in omega arith
     go (gives v k) s f e = let a = s.from in let b = f k s.to e in omega arith
     go (refuses x) s f e = absurd cc
@@ -41,7 +44,8 @@ stop_of g l to m (b ∷ bs) r h = go (feed (under g l) m b) refl (λ n. stop_of 
     on : List ℕ → Outcome → Run
     on ys o = run_on (to + 1) (λ n. run g l (to + 1) n ys) o
 
-    go : (o : Outcome) → feed (under g l) m b ≡ o → ((n : Machine) → (run g l (to + 1) n bs).now ≡ Err r → Stop g l (to + 1) n bs r) → (run_on (to + 1) (λ n. run g l (to + 1) n bs) o).now ≡ Err r → Stop g l to m (b ∷ bs) r
+    go : (o : Outcome) → feed (under g l) m b ≡ o → ((n : Machine) → (run g l (to + 1) n bs).now ≡ Err r → Stop g l (to + 1) n bs r)
+        → (run_on (to + 1) (λ n. run g l (to + 1) n bs) o).now ≡ Err r → Stop g l to m (b ∷ bs) r
     go (goes n) e rest h =
         let p = rest n h in
         let o = p.offset in
@@ -51,7 +55,8 @@ stop_of g l to m (b ∷ bs) r h = go (feed (under g l) m b) refl (λ n. stop_of 
           rest = p.rest;
           n = p.n;
           parts = ap (λ xs. b ∷ xs) p.parts;
-          ran = ap (run_on (to + 1) (λ n. run g l (to + 1) n p.before)) e ∙ (p.ran ∙ ap (λ o. record { given = (run_on (to + 1) (λ n. run g l (to + 1) n bs) o).given; now = Ok p.n }) (sym e));
+          ran = ap (run_on (to + 1) (λ n. run g l (to + 1) n p.before)) e
+              ∙ (p.ran ∙ ap (λ o. record { given = (run_on (to + 1) (λ n. run g l (to + 1) n bs) o).given; now = Ok p.n }) (sym e));
           offset = omega arith;
           refused = p.refused;
         }
@@ -64,7 +69,8 @@ stop_of g l to m (b ∷ bs) r h = go (feed (under g l) m b) refl (λ n. stop_of 
           rest = p.rest;
           n = p.n;
           parts = ap (λ xs. b ∷ xs) p.parts;
-          ran = ap (run_on (to + 1) (λ n. run g l (to + 1) n p.before)) e ∙ (ap (with_value v (to + 1)) p.ran ∙ ap (λ o. record { given = (run_on (to + 1) (λ n. run g l (to + 1) n bs) o).given; now = Ok p.n }) (sym e));
+          ran = ap (run_on (to + 1) (λ n. run g l (to + 1) n p.before)) e
+              ∙ (ap (with_value v (to + 1)) p.ran ∙ ap (λ o. record { given = (run_on (to + 1) (λ n. run g l (to + 1) n bs) o).given; now = Ok p.n }) (sym e));
           offset = omega arith;
           refused = p.refused;
         }
@@ -83,7 +89,8 @@ stop_of g l to m (b ∷ bs) r h = go (feed (under g l) m b) refl (λ n. stop_of 
         }
 
 -- the octets up to the refused one are refused
-pub stopped : (g : Catalog) (l : Limits) (u : List ℕ) (r : Refusal) (p : Stop g l 0 initial u r) → (run g l 0 initial (p.before ++ p.b ∷ [])).now ≡ Err (record { offset = length p.before + 1; reason = r.reason })
+pub stopped : (g : Catalog) (l : Limits) (u : List ℕ) (r : Refusal) (p : Stop g l 0 initial u r) → (run g l 0 initial (p.before ++ p.b ∷ [])).now
+    ≡ Err (record { offset = length p.before + 1; reason = r.reason })
 stopped g l u r p =
     ap (λ x. x.now) (run-append g l 0 (length p.before) p.before (p.b ∷ []) (omega arith) initial)
     ∙ (ap (λ x. (then_run x (λ n. run g l (length p.before) n (p.b ∷ []))).now) p.ran
@@ -98,7 +105,8 @@ begins_none g l u r h rest s d =
     absurd cc
 
 -- whole pieces at the front of octets end where the open piece starts, or before it
-pub whole_within : (g : Catalog) (l : Limits) (v rest : List ℕ) (t : List Value) (n : Machine) → Whole g l v t → (run g l 0 initial (v ++ rest)).now ≡ Ok n → length v ≤ n.spot.start
+pub whole_within : (g : Catalog) (l : Limits) (v rest : List ℕ) (t : List Value) (n : Machine) → Whole g l v t → (run g l 0 initial (v ++ rest)).now ≡ Ok n
+    → length v ≤ n.spot.start
 whole_within g l _ rest t n no_piece h = omega arith
 whole_within g l _ rest t n (document v s c d) h =
     let i = ap (λ x. x.now) (run-append g l 0 (length v) v rest (omega arith) initial) in

@@ -45,7 +45,8 @@ known (forms.Listing listings.List) n h k = opens_typed 11 n (omega arith) ∙ r
 known (forms.Listing listings.Sexp) n h k = opens_typed 12 n (omega arith) ∙ rw (below n 15 (omega arith), below n 14 k) refl
 known forms.Struct n h k = opens_typed 13 n (omega arith) ∙ rw (below n 15 (omega arith), below n 14 k, other n 1 h) refl
 known forms.OrderedStruct n h k = absurd h
-known forms.Wrapper n h k = opens_typed 14 n (omega arith) ∙ rw (below n 15 (omega arith), below n 14 k, above n 0 (omega arith), above n 1 (omega arith), above n 2 (omega arith)) refl
+known forms.Wrapper n h k = opens_typed 14 n (omega arith)
+    ∙ rw (below n 15 (omega arith), below n 14 k, above n 0 (omega arith), above n 1 (omega arith), above n 2 (omega arith)) refl
 known forms.Pad n h k = opens_typed 0 n (omega arith) ∙ rw (below n 15 (omega arith), below n 14 k) refl
 
 -- one of whose length stands behind the descriptor

@@ -38,7 +38,8 @@ layer_symbols (Payload-F.Sexp vs) = flat_map symbols_of vs
 layer_symbols (Payload-F.Fields fs) = flat_map field_symbols fs
 layer_symbols _ = []
 
-symbols_step-layer : (d : Layer) → symbols_step (map-Payload Payload Field Value Names Names Names payload_symbols_fold field_symbols_fold symbols_of d) ≡ layer_symbols d
+symbols_step-layer : (d : Layer) → symbols_step (map-Payload Payload Field Value Names Names Names payload_symbols_fold field_symbols_fold symbols_of d)
+    ≡ layer_symbols d
 symbols_step-layer (Payload-F.List vs) = flat_map-map (λ ss. ss) symbols_of vs
 symbols_step-layer (Payload-F.Sexp vs) = flat_map-map (λ ss. ss) symbols_of vs
 symbols_step-layer (Payload-F.Fields fs) = ap (λ sss. flat_map (λ ss. ss) sss) (fields_symbols fs) ∙ flat_map-map (λ ss. ss) field_symbols fs
@@ -49,7 +50,8 @@ pub symbols-out : (v : Value) → symbols_of v ≡ v.annotations ++ layer_symbol
 unfolding symbols_of
 symbols-out v =
     fold_out-Value Names Names Names symbols_step (λ f. f.name ∷ f.value) (λ v. v.annotations ++ v.payload) v
-    ∙ ap (λ ss. v.annotations ++ ss) (fold_out-Payload Names Names Names symbols_step (λ f. f.name ∷ f.value) (λ v. v.annotations ++ v.payload) v.payload ∙ symbols_step-layer (views.out-Payload v.payload))
+    ∙ ap (λ ss. v.annotations ++ ss) (fold_out-Payload Names Names Names symbols_step (λ f. f.name ∷ f.value) (λ v. v.annotations ++ v.payload) v.payload
+    ∙ symbols_step-layer (views.out-Payload v.payload))
 
 -- 2. Octets.
 
@@ -59,7 +61,8 @@ field_octets names f = named_octets names f.name (value_octets names f.value)
 
 module _ (names : Names) where
   abbrev payload_fold : Payload → List ℕ
-  payload_fold = fold-Payload (List ℕ) (List ℕ) (List ℕ) (octets_step names) (λ f. named_octets names f.name f.value) (λ v. wrapped names v.annotations v.payload)
+  payload_fold = fold-Payload (List ℕ) (List ℕ) (List ℕ) (octets_step names) (λ f. named_octets names f.name f.value)
+      (λ v. wrapped names v.annotations v.payload)
 
   abbrev field_fold : Field → List ℕ
   field_fold = fold-Field (List ℕ) (List ℕ) (List ℕ) (octets_step names) (λ f. named_octets names f.name f.value) (λ v. wrapped names v.annotations v.payload)
@@ -67,7 +70,11 @@ module _ (names : Names) where
   fields_octets : (fs : List Field) → map field_fold fs ≡ map (field_octets names) fs
   unfolding value_octets
   fields_octets [] = refl
-  fields_octets (f ∷ fs) = rw (fold_out-Field (List ℕ) (List ℕ) (List ℕ) (octets_step names) (λ f. named_octets names f.name f.value) (λ v. wrapped names v.annotations v.payload) f, fields_octets fs)
+  fields_octets (f ∷ fs) = rw (
+    fold_out-Field (List ℕ) (List ℕ) (List ℕ) (octets_step names) (λ f. named_octets names f.name f.value)
+        (λ v. wrapped names v.annotations v.payload) f,
+    fields_octets fs,
+  )
 
   -- the octets of one level
   abbrev pub layer_octets : Layer → List ℕ
@@ -84,7 +91,8 @@ module _ (names : Names) where
   layer_octets (Payload-F.Sexp vs) = framed 12 (flat_map (value_octets names) vs)
   layer_octets (Payload-F.Fields fs) = framed 13 (flat_map (field_octets names) fs)
 
-  octets_step-layer : (d : Layer) → octets_step names (map-Payload Payload Field Value (List ℕ) (List ℕ) (List ℕ) payload_fold field_fold (value_octets names) d) ≡ layer_octets d
+  octets_step-layer : (d : Layer) → octets_step names (map-Payload Payload Field Value (List ℕ) (List ℕ) (List ℕ) payload_fold field_fold (value_octets names)
+      d) ≡ layer_octets d
   octets_step-layer (Payload-F.List vs) = ap (framed 11) (flat_map-map (λ w. w) (value_octets names) vs)
   octets_step-layer (Payload-F.Sexp vs) = ap (framed 12) (flat_map-map (λ w. w) (value_octets names) vs)
   octets_step-layer (Payload-F.Fields fs) = ap (framed 13) (ap (λ ws. flat_map (λ w. w) ws) (fields_octets fs) ∙ flat_map-map (λ w. w) (field_octets names) fs)
@@ -95,4 +103,5 @@ module _ (names : Names) where
   unfolding value_octets
   octets-out v =
       fold_out-Value (List ℕ) (List ℕ) (List ℕ) (octets_step names) (λ f. named_octets names f.name f.value) (λ v. wrapped names v.annotations v.payload) v
-      ∙ ap (wrapped names v.annotations) (fold_out-Payload (List ℕ) (List ℕ) (List ℕ) (octets_step names) (λ f. named_octets names f.name f.value) (λ v. wrapped names v.annotations v.payload) v.payload ∙ octets_step-layer (views.out-Payload v.payload))
+      ∙ ap (wrapped names v.annotations) (fold_out-Payload (List ℕ) (List ℕ) (List ℕ) (octets_step names) (λ f. named_octets names f.name f.value)
+      (λ v. wrapped names v.annotations v.payload) v.payload ∙ octets_step-layer (views.out-Payload v.payload))

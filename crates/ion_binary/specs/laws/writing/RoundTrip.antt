@@ -38,15 +38,19 @@ begun names = record { names = names; begun = true }
 
 module _ (g : Catalog) (l : Limits) where
   abbrev Turns : List ℕ → List Value → Names → Names → Type 0
-  Turns u s names new = length new ≤ suc greatest_id → (length names < length new → 2 ≤ l.depth) → length (table_octets names new) ≤ l.item → Pieces g l (u ++ table_octets names new) s (slots new)
+  Turns u s names new = length new ≤ suc greatest_id → (length names < length new → 2 ≤ l.depth) → length (table_octets names new) ≤ l.item
+      → Pieces g l (u ++ table_octets names new) s (slots new)
 
-  turn : (u : List ℕ) (s : List Value) (names new more : Names) → new ≡ names ++ more → Starts names → AreAmong names table_symbols → AreKnown more → Pieces g l u s (slots names) → Turns u s names new
+  turn : (u : List ℕ) (s : List Value) (names new more : Names) → new ≡ names ++ more → Starts names → AreAmong names table_symbols → AreKnown more
+      → Pieces g l u s (slots names) → Turns u s names new
   turn u s names new more e b a k pieces =
       subst (Turns u s names) (sym e) (λ few deep fits. names_turn g l u s names more b a k few deep fits pieces)
 
   -- one value more, behind the table that it needs
-  one_value : (u : List ℕ) (s : List Value) (names : Names) (v : Value) → Starts names → AreAmong names table_symbols → IsKept v → is_table v ≡ false → ValueFits l names v → Grown names (symbols_of v) (names_after names v)
-      → Pieces g l u s (slots names) → Pieces g l (u ++ table_octets names (names_after names v) ++ value_octets (names_after names v) v) (s ++ v ∷ []) (slots (names_after names v))
+  one_value : (u : List ℕ) (s : List Value) (names : Names) (v : Value) → Starts names → AreAmong names table_symbols → IsKept v → is_table v ≡ false
+      → ValueFits l names v → Grown names (symbols_of v) (names_after names v)
+      → Pieces g l u s (slots names) → Pieces g l (u ++ table_octets names (names_after names v) ++ value_octets (names_after names v) v) (s ++ v ∷ [])
+      (slots (names_after names v))
   one_value u s names v b a k no_table fits n pieces =
       let new = names_after names v in
       let turned = turn u s names new n.more n.whole b a n.known pieces fits.ids fits.table_deep fits.table in
@@ -57,10 +61,14 @@ module _ (g : Catalog) (l : Limits) where
       let is = value_is (slots new) new v k (names_resolve new (symbols_of v) starts n.among (omega arith)) (omega arith) in
       holds (u ++ table_octets names new) (value_octets new v) s (slots new) v turned is no_table fits.value_deep fits.value
 
-  values_are : (vs : List Value) (u : List ℕ) (s : List Value) (names : Names) → Starts names → AreAmong names table_symbols → AreKept vs → NoTables vs → FitBehind l names vs → Pieces g l u s (slots names)
+  values_are : (vs : List Value) (u : List ℕ) (s : List Value) (names : Names) → Starts names → AreAmong names table_symbols → AreKept vs → NoTables vs
+      → FitBehind l names vs → Pieces g l u s (slots names)
       → Document g l (u ++ bin_from (begun names) vs) (s ++ vs)
-  values_are [] u s names b a k no_tables fits pieces =
-      (slots names, subst (λ (w : List ℕ). Pieces g l w (s ++ []) (slots names)) (sym (append-nil u)) (subst (λ (t : List Value). Pieces g l u t (slots names)) (sym (append-nil s)) pieces))
+  values_are [] u s names b a k no_tables fits pieces = (
+    slots names,
+    subst (λ (w : List ℕ). Pieces g l w (s ++ []) (slots names)) (sym (append-nil u))
+        (subst (λ (t : List Value). Pieces g l u t (slots names)) (sym (append-nil s)) pieces),
+  )
   values_are (v ∷ vs) u s names b a k no_tables fits pieces =
       let new = names_after names v in
       let t = table_octets names new in
@@ -82,7 +90,8 @@ module _ (g : Catalog) (l : Limits) where
   among_system = (refl, (refl, (refl, (refl, tt))))
 
   one_marker : (s : List Value) → AreKept s → NoTables s → FitsIn l s → Document g l (the_marker ++ bin_from (begun system_names) s) s
-  one_marker s k no_tables fits = values_are s the_marker [] system_names starts_system among_system k no_tables fits (subst (Pieces g l the_marker []) (sym slots_system) begins)
+  one_marker s k no_tables fits = values_are s the_marker [] system_names starts_system among_system k no_tables fits
+      (subst (Pieces g l the_marker []) (sym slots_system) begins)
 
   -- the document that is written for a stream of values has these values
   pub round_trip : (s : List Value) → AreKept s → NoTables s → FitsIn l s → Document g l (bin_of s) s

@@ -66,14 +66,16 @@ utf8_symbols = (codes "symbols", (refl, refl))
 kept_strings : (more : Names) → AreKnown more → KeptItems (map string_value more)
 kept_strings [] h = no_items
 kept_strings (None ∷ more) h = absurd h
-kept_strings (Some t ∷ more) h = an_item (string_value (Some t)) (map string_value more) (kept [] (payloads.Str t) tt (kept_string t h.0)) (kept_strings more h.1)
+kept_strings (Some t ∷ more) h = an_item (string_value (Some t)) (map string_value more) (kept [] (payloads.Str t) tt (kept_string t h.0))
+    (kept_strings more h.1)
 
 kept_table : (more : Names) → AreKnown more → IsKept (table_value more)
 kept_table more h =
     let imports = kept [] (payloads.Symbol table_word) tt (kept_symbol table_word utf8_table) in
     let symbols = kept [] (payloads.List (map string_value more)) tt (kept_list (map string_value more) (kept_strings more h)) in
     let last = a_field symbols_word (symbols_value more) [] utf8_symbols symbols no_fields in
-    kept (table_word ∷ []) (payloads.Fields (table_fields more)) (utf8_table, tt) (kept_fields (table_fields more) (a_field imports_word imports_value (field_of symbols_word (symbols_value more) ∷ []) utf8_imports imports last))
+    kept (table_word ∷ []) (payloads.Fields (table_fields more)) (utf8_table, tt)
+    (kept_fields (table_fields more) (a_field imports_word imports_value (field_of symbols_word (symbols_value more) ∷ []) utf8_imports imports last))
 
 is_table_written : (more : Names) → is_table (table_value more) ≡ true
 is_table_written more = ap (λ (d : Layer). is_table_of (table_word ∷ []) (layer_kind d)) (views.outs-Fields (table_fields more))
@@ -123,7 +125,8 @@ texts_back (Some t ∷ more) h =
 
 local_are : (more : Names) → AreKnown more → local_slots (Some (symbols_value more)) ≡ map local_slot more
 local_are more h =
-    ap (λ (d : Layer). map local_slot (map symbol_of (elements_in (Some d)))) (views.outs-List (map string_value more)) ∙ ap (map local_slot) (texts_back more h)
+    ap (λ (d : Layer). map local_slot (map symbol_of (elements_in (Some d)))) (views.outs-List (map string_value more))
+    ∙ ap (map local_slot) (texts_back more h)
 
 joined_ok : (c more : List Slot) → length c + length more ≤ greatest_id → joined c more ≡ Ok (c ++ more)
 joined_ok c more h = rw (le-leb (length c + length more) greatest_id h) refl
@@ -132,13 +135,16 @@ extended_of : List Slot → Catalog → Option Value → Layer → Result (List 
 extended_of c g symbols d =
     and_then (imported g (if appends_in (Some d) then c else system_slots) (elements_in (Some d))) (λ more. joined more (local_slots symbols))
 
-next_is : (c : List Slot) (g : Catalog) (more : Names) → AreKnown more → length c + length more ≤ greatest_id → next c (table_value more) g ≡ Ok (c ++ map local_slot more)
+next_is : (c : List Slot) (g : Catalog) (more : Names) → AreKnown more → length c + length more ≤ greatest_id → next c (table_value more) g
+    ≡ Ok (c ++ map local_slot more)
 unfolding next extended_of
 next_is c g more h few =
     let symbols = Some (symbols_value more) in
-    let e0 : next c (table_value more) g ≡ next_layer c (Payload-F.Fields (table_fields more)) g = ap (λ (d : Layer). next_layer c d g) (views.outs-Fields (table_fields more)) in
+    let e0 : next c (table_value more) g ≡ next_layer c (Payload-F.Fields (table_fields more)) g =
+    ap (λ (d : Layer). next_layer c d g) (views.outs-Fields (table_fields more)) in
     let e1 : next_layer c (Payload-F.Fields (table_fields more)) g ≡ extended_of c g symbols (views.out-Payload (payloads.Symbol table_word)) = refl in
-    let e2 : extended_of c g symbols (views.out-Payload (payloads.Symbol table_word)) ≡ joined c (local_slots symbols) = ap (extended_of c g symbols) (views.outs-Symbol table_word) in
+    let e2 : extended_of c g symbols (views.out-Payload (payloads.Symbol table_word)) ≡ joined c (local_slots symbols) =
+    ap (extended_of c g symbols) (views.outs-Symbol table_word) in
     let n = length-map more local_slot in
     e0 ∙ (e1 ∙ (e2 ∙ (ap (joined c) (local_are more h) ∙ joined_ok c (map local_slot more) (omega arith))))
 
@@ -150,8 +156,10 @@ slots_long (None ∷ names) b = let e = length-map names local_slot in omega ari
 slots_long (Some t ∷ names) b = absurd b
 
 module _ (g : Catalog) (l : Limits) where
-  table_turns : (u : List ℕ) (s : List Value) (names more : Names) → Starts names → AreAmong names table_symbols → AreKnown more → length (names ++ more) ≤ suc greatest_id → 2 ≤ l.depth
-      → length (value_octets (names ++ more) (table_value more)) ≤ l.item → Pieces g l u s (slots names) → Pieces g l (u ++ value_octets (names ++ more) (table_value more)) s (slots (names ++ more))
+  table_turns : (u : List ℕ) (s : List Value) (names more : Names) → Starts names → AreAmong names table_symbols → AreKnown more
+      → length (names ++ more) ≤ suc greatest_id → 2 ≤ l.depth
+      → length (value_octets (names ++ more) (table_value more)) ≤ l.item → Pieces g l u s (slots names)
+      → Pieces g l (u ++ value_octets (names ++ more) (table_value more)) s (slots (names ++ more))
   table_turns u s names more b a k few deep fits pieces =
       let long = slots_long names b in
       let both = length-append names more in
@@ -164,14 +172,16 @@ module _ (g : Catalog) (l : Limits) where
       (n ∙ ap (λ (c : List Slot). Ok c) (sym (slots_more names more b))) (omega arith) fits
 
   -- what comes before a value where it has new names
-  pub names_turn : (u : List ℕ) (s : List Value) (names more : Names) → Starts names → AreAmong names table_symbols → AreKnown more → length (names ++ more) ≤ suc greatest_id
+  pub names_turn : (u : List ℕ) (s : List Value) (names more : Names) → Starts names → AreAmong names table_symbols → AreKnown more
+      → length (names ++ more) ≤ suc greatest_id
       → (length names < length (names ++ more) → 2 ≤ l.depth) → length (table_octets names (names ++ more)) ≤ l.item → Pieces g l u s (slots names)
       → Pieces g l (u ++ table_octets names (names ++ more)) s (slots (names ++ more))
   names_turn u s names [] b a k few deep fits pieces =
       let e = append-nil names in
       let same = ap length e in
       let none : nat_lt (length names) (length (names ++ [])) ≡ false = le-ltb (length names) (length (names ++ [])) (omega arith) in
-      rw none (subst (λ (w : List ℕ). Pieces g l w s (slots (names ++ []))) (sym (append-nil u)) (subst (λ (ns : Names). Pieces g l u s (slots ns)) (sym e) pieces))
+      rw none (subst (λ (w : List ℕ). Pieces g l w s (slots (names ++ []))) (sym (append-nil u))
+      (subst (λ (ns : Names). Pieces g l u s (slots ns)) (sym e) pieces))
   names_turn u s names (x ∷ more) b a k few deep fits pieces =
       let both = length-append names (x ∷ more) in
       let longer : length names < length (names ++ x ∷ more) = omega arith in

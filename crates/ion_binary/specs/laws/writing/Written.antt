@@ -64,9 +64,11 @@ truth_is c true = is_truth 0x11 true refl
 
 -- 2. Scalars.
 
-framed_scalar : (c : List Slot) (t : Scalar) (body : List ℕ) (p : Payload) → IsBodyLength (forms.Scalar t) (length body) → IsScalar c body t p → length (framed (type_code (forms.Scalar t)) body) < 2 ^ 63 → Plain c (framed (type_code (forms.Scalar t)) body) p
+framed_scalar : (c : List Slot) (t : Scalar) (body : List ℕ) (p : Payload) → IsBodyLength (forms.Scalar t) (length body) → IsScalar c body t p
+    → length (framed (type_code (forms.Scalar t)) body) < 2 ^ 63 → Plain c (framed (type_code (forms.Scalar t)) body) p
 framed_scalar c t body p fits is small =
-    is_scalar (header (type_code (forms.Scalar t)) (length body)) body t p (header_is (forms.Scalar t) (length body) fits (omega (arith, framed_long (type_code (forms.Scalar t)) body))) is
+    is_scalar (header (type_code (forms.Scalar t)) (length body)) body t p
+    (header_is (forms.Scalar t) (length body) fits (omega (arith, framed_long (type_code (forms.Scalar t)) body))) is
 
 -- octets of a number that is not 0
 some_octets : (w : List ℕ) (n : ℕ) → positional 256 w ≡ n → 0 < n → 0 < length w
@@ -76,15 +78,19 @@ some_octets (b ∷ w) n e h = omega arith
 int_is : (c : List Slot) (z : ℤ) → IsWhole z → length (whole_octets z) < 2 ^ 63 → Plain c (whole_octets z) (payloads.Int z)
 int_is c (pos n) h small =
     let e = positional_digits_of 256 n (omega arith) in
-    let is : IsScalar c (uint_octets n) scalars.Int (payloads.Int (pos n)) = subst (λ (k : ℕ). IsScalar c (uint_octets n) scalars.Int (payloads.Int (pos k))) e (is_int (omega (arith, e, h))) in
+    let is : IsScalar c (uint_octets n) scalars.Int (payloads.Int (pos n)) =
+    subst (λ (k : ℕ). IsScalar c (uint_octets n) scalars.Int (payloads.Int (pos k))) e (is_int (omega (arith, e, h))) in
     let none : nat_lt n 0 ≡ false = le-ltb n 0 (omega arith) in
     rw none (framed_scalar c scalars.Int (uint_octets n) (payloads.Int (pos n)) tt is (rw none at small))
 int_is c (negsuc n) h small =
     let e = positional_digits_of 256 (suc n) (omega arith) in
-    let is : IsScalar c (uint_octets (suc n)) scalars.NegativeInt (payloads.Int (neg_ℤ (pos (suc n)))) = subst (λ (k : ℕ). IsScalar c (uint_octets (suc n)) scalars.NegativeInt (payloads.Int (neg_ℤ (pos k)))) e (is_negative (omega (arith, e, h)) (omega (arith, e))) in
+    let is : IsScalar c (uint_octets (suc n)) scalars.NegativeInt (payloads.Int (neg_ℤ (pos (suc n)))) =
+    subst (λ (k : ℕ). IsScalar c (uint_octets (suc n)) scalars.NegativeInt (payloads.Int (neg_ℤ (pos k)))) e
+    (is_negative (omega (arith, e, h)) (omega (arith, e))) in
     framed_scalar c scalars.NegativeInt (uint_octets (suc n)) (payloads.Int (negsuc n)) (some_octets (uint_octets (suc n)) (suc n) e (omega arith)) is small
 
-decimal_is : (c : List Slot) (d : DecimalParts) → IsDecimal d → length (framed 5 (decimal_octets d)) < 2 ^ 63 → Plain c (framed 5 (decimal_octets d)) (payloads.Decimal d)
+decimal_is : (c : List Slot) (d : DecimalParts) → IsDecimal d → length (framed 5 (decimal_octets d)) < 2 ^ 63
+    → Plain c (framed 5 (decimal_octets d)) (payloads.Decimal d)
 decimal_is c d h small = framed_scalar c scalars.Decimal (decimal_octets d) (payloads.Decimal d) tt (is_decimal d (decimal_spelled d (h.1, h.2)) h) small
 
 var_int_some : (w : List ℕ) (negative : Bool) (n : ℕ) → VarInt w negative n → 0 < length w
@@ -92,14 +98,17 @@ var_int_some _ _ _ (short octet h) = omega arith
 var_int_some _ _ _ (long octet digits last h s b) = omega arith
 
 body_some : (body : List ℕ) (t : TimestampParts) → IsTimestampBody body t → 0 < length body
-body_some body t h = let k = var_int_some h.ahead h.below h.minutes h.is_ahead in let e = length-append h.ahead h.fields in let whole = ap length h.cut in omega arith
+body_some body t h = let k = var_int_some h.ahead h.below h.minutes h.is_ahead in let e = length-append h.ahead h.fields in let whole = ap length h.cut in
+    omega arith
 
-timestamp_is : (c : List Slot) (t : TimestampParts) → IsTimestamp t → length (framed 6 (timestamp_octets t)) < 2 ^ 63 → Plain c (framed 6 (timestamp_octets t)) (payloads.Timestamp t)
+timestamp_is : (c : List Slot) (t : TimestampParts) → IsTimestamp t → length (framed 6 (timestamp_octets t)) < 2 ^ 63
+    → Plain c (framed 6 (timestamp_octets t)) (payloads.Timestamp t)
 timestamp_is c t h small =
     let body = timestamp_told (timestamp_octets t) t (timestamp_again t h) in
     framed_scalar c scalars.Timestamp (timestamp_octets t) (payloads.Timestamp t) (body_some (timestamp_octets t) t body) (is_timestamp t body) small
 
-symbol_is : (c : List Slot) (n : ℕ) (s : Option (List ℕ)) → resolve c n ≡ Ok s → n < 2 ^ 63 → length (framed 7 (uint_octets n)) < 2 ^ 63 → Plain c (framed 7 (uint_octets n)) (payloads.Symbol s)
+symbol_is : (c : List Slot) (n : ℕ) (s : Option (List ℕ)) → resolve c n ≡ Ok s → n < 2 ^ 63 → length (framed 7 (uint_octets n)) < 2 ^ 63
+    → Plain c (framed 7 (uint_octets n)) (payloads.Symbol s)
 symbol_is c n s r few small =
     let e = positional_digits_of 256 n (omega arith) in
     framed_scalar c scalars.Symbol (uint_octets n) (payloads.Symbol s) tt (is_symbol s (omega (arith, e)) (ap (resolve c) e ∙ r)) small
@@ -141,7 +150,8 @@ module _ (c : List Slot) (names : Names) where
   ids_from us before (s ∷ ss) i r =
       let w = var_uint_octets (id_of names s) in
       let rest = ids_from (us ++ w) (before ++ s ∷ []) ss (one_id us w before (id_of names s) s i (var_uint_spelled (id_of names s) r.0.1) r.0.0) r.1 in
-      subst (λ (x : List ℕ). Ids c x (before ++ s ∷ ss)) (append_assoc us w (ids_octets names ss)) (subst (Ids c (us ++ w ++ ids_octets names ss)) (append_assoc before (s ∷ []) ss) rest)
+      subst (λ (x : List ℕ). Ids c x (before ++ s ∷ ss)) (append_assoc us w (ids_octets names ss))
+      (subst (Ids c (us ++ w ++ ids_octets names ss)) (append_assoc before (s ∷ []) ss) rest)
 
   some_ids : (s : Option (List ℕ)) (ss : Names) → Resolves c names (s ∷ ss) → 0 < length (ids_octets names (s ∷ ss))
   some_ids s ss r =
@@ -151,7 +161,8 @@ module _ (c : List Slot) (names : Names) where
       omega arith
 
   -- annotations before a payload
-  wrapped_is : (ss : Names) (p : Payload) (w : List ℕ) → Resolves c names ss → Plain c w p → length (output.wrapped names ss w) < 2 ^ 63 → Binary c (output.wrapped names ss w) (annotated ss p)
+  wrapped_is : (ss : Names) (p : Payload) (w : List ℕ) → Resolves c names ss → Plain c w p → length (output.wrapped names ss w) < 2 ^ 63
+      → Binary c (output.wrapped names ss w) (annotated ss p)
   wrapped_is [] p w r b small = unannotated w p b
   wrapped_is (s ∷ ss) p w r b small =
       let ids = ids_octets names (s ∷ ss) in
@@ -184,11 +195,14 @@ module _ (c : List Slot) (names : Names) where
   by_layer : (p : Payload) (d : Layer) → views.out-Payload p ≡ d → PlainFor p d → PlainFor p (views.out-Payload p)
   by_layer p d e f = subst (PlainFor p) (sym e) f
 
-  listing_is : (x : Listing) (body : List ℕ) (vs : List Value) → Sequence c body vs → length (framed (type_code (forms.Listing x)) body) < 2 ^ 63 → Plain c (framed (type_code (forms.Listing x)) body) (listed x vs)
-  listing_is x body vs q small = is_listing (header (type_code (forms.Listing x)) (length body)) body x vs (header_is (forms.Listing x) (length body) tt (omega (arith, framed_long (type_code (forms.Listing x)) body))) q
+  listing_is : (x : Listing) (body : List ℕ) (vs : List Value) → Sequence c body vs → length (framed (type_code (forms.Listing x)) body) < 2 ^ 63
+      → Plain c (framed (type_code (forms.Listing x)) body) (listed x vs)
+  listing_is x body vs q small = is_listing (header (type_code (forms.Listing x)) (length body)) body x vs
+      (header_is (forms.Listing x) (length body) tt (omega (arith, framed_long (type_code (forms.Listing x)) body))) q
 
   struct_is : (body : List ℕ) (ms : List Field) → Fields c body ms → length (framed 13 body) < 2 ^ 63 → Plain c (framed 13 body) (payloads.Fields ms)
-  struct_is body ms q small = is_struct (header 13 (length body)) body ms (header_is forms.Struct (length body) (never_one c body ms q) (omega (arith, framed_long 13 body))) q
+  struct_is body ms q small = is_struct (header 13 (length body)) body ms
+      (header_is forms.Struct (length body) (never_one c body ms q) (omega (arith, framed_long 13 body))) q
 
   mutual
     pub value_is : (v : Value) → IsKept v → Resolves c names (symbols_of v) → length (value_octets names v) < 2 ^ 63 → Binary c (value_octets names v) v
@@ -198,7 +212,8 @@ module _ (c : List Slot) (names : Names) where
         let whole : length (output.wrapped names ss (layer_octets names (views.out-Payload p))) < 2 ^ 63 = omega (arith, ap length e, small) in
         let inside = wrapped_long ss (layer_octets names (views.out-Payload p)) in
         let plain = payload_is p k (resolves_rest ss (layer_symbols (views.out-Payload p)) r') (omega arith) in
-        subst (λ (w : List ℕ). Binary c w (annotated ss p)) (sym e) (wrapped_is ss p (layer_octets names (views.out-Payload p)) (resolves_front ss (layer_symbols (views.out-Payload p)) r') plain whole)
+        subst (λ (w : List ℕ). Binary c w (annotated ss p)) (sym e)
+        (wrapped_is ss p (layer_octets names (views.out-Payload p)) (resolves_front ss (layer_symbols (views.out-Payload p)) r') plain whole)
 
     payload_is : (p : Payload) → KeptPayload p → PlainFor p (views.out-Payload p)
     payload_is _ (kept_null k) = by_layer (payloads.Null k) _ (views.outs-Null k) (λ r small. null_is c k)
@@ -207,28 +222,40 @@ module _ (c : List Slot) (names : Names) where
     payload_is _ (kept_decimal d h) = by_layer (payloads.Decimal d) _ (views.outs-Decimal d) (λ r small. decimal_is c d h small)
     payload_is _ (kept_timestamp t h) = by_layer (payloads.Timestamp t) _ (views.outs-Timestamp t) (λ r small. timestamp_is c t h small)
     payload_is _ (kept_symbol s h) = by_layer (payloads.Symbol s) _ (views.outs-Symbol s) (λ r small. symbol_is c (id_of names s) s r.0.0 r.0.1 small)
-    payload_is _ (kept_string text h) = by_layer (payloads.Str text) _ (views.outs-Str text) (λ r small. framed_scalar c scalars.Str text (payloads.Str text) tt (is_string h) small)
-    payload_is _ (kept_clob body h) = by_layer (payloads.Clob body) _ (views.outs-Clob body) (λ r small. framed_scalar c scalars.Clob body (payloads.Clob body) tt is_clob small)
-    payload_is _ (kept_blob body h) = by_layer (payloads.Blob body) _ (views.outs-Blob body) (λ r small. framed_scalar c scalars.Blob body (payloads.Blob body) tt is_blob small)
+    payload_is _ (kept_string text h) = by_layer (payloads.Str text) _ (views.outs-Str text)
+        (λ r small. framed_scalar c scalars.Str text (payloads.Str text) tt (is_string h) small)
+    payload_is _ (kept_clob body h) = by_layer (payloads.Clob body) _ (views.outs-Clob body)
+        (λ r small. framed_scalar c scalars.Clob body (payloads.Clob body) tt is_clob small)
+    payload_is _ (kept_blob body h) = by_layer (payloads.Blob body) _ (views.outs-Blob body)
+        (λ r small. framed_scalar c scalars.Blob body (payloads.Blob body) tt is_blob small)
     payload_is _ (kept_list vs k) =
-        by_layer (payloads.List vs) _ (views.outs-List vs) (λ r small. listing_is listings.List _ vs (items_are [] [] vs nothing k r (omega (arith, framed_long 11 (flat_map (value_octets names) vs)))) small)
+        by_layer (payloads.List vs) _ (views.outs-List vs) (λ r small.
+        listing_is listings.List _ vs (items_are [] [] vs nothing k r (omega (arith, framed_long 11 (flat_map (value_octets names) vs)))) small)
     payload_is _ (kept_sexp vs k) =
-        by_layer (payloads.Sexp vs) _ (views.outs-Sexp vs) (λ r small. listing_is listings.Sexp _ vs (items_are [] [] vs nothing k r (omega (arith, framed_long 12 (flat_map (value_octets names) vs)))) small)
+        by_layer (payloads.Sexp vs) _ (views.outs-Sexp vs) (λ r small.
+        listing_is listings.Sexp _ vs (items_are [] [] vs nothing k r (omega (arith, framed_long 12 (flat_map (value_octets names) vs)))) small)
     payload_is _ (kept_fields ms k) =
-        by_layer (payloads.Fields ms) _ (views.outs-Fields ms) (λ r small. struct_is _ ms (fields_are [] [] ms grammar.no_fields k r (omega (arith, framed_long 13 (flat_map (field_octets names) ms)))) small)
+        by_layer (payloads.Fields ms) _ (views.outs-Fields ms)
+        (λ r small. struct_is _ ms (fields_are [] [] ms grammar.no_fields k r (omega (arith, framed_long 13 (flat_map (field_octets names) ms)))) small)
 
-    items_are : (us : List ℕ) (before vs : List Value) → Sequence c us before → KeptItems vs → Resolves c names (flat_map symbols_of vs) → length (flat_map (value_octets names) vs) < 2 ^ 63 → Sequence c (us ++ flat_map (value_octets names) vs) (before ++ vs)
-    items_are us before _ q no_items r small = subst (λ (w : List ℕ). Sequence c w (before ++ [])) (sym (append-nil us)) (subst (Sequence c us) (sym (append-nil before)) q)
+    items_are : (us : List ℕ) (before vs : List Value) → Sequence c us before → KeptItems vs → Resolves c names (flat_map symbols_of vs)
+        → length (flat_map (value_octets names) vs) < 2 ^ 63 → Sequence c (us ++ flat_map (value_octets names) vs) (before ++ vs)
+    items_are us before _ q no_items r small = subst (λ (w : List ℕ). Sequence c w (before ++ [])) (sym (append-nil us))
+        (subst (Sequence c us) (sym (append-nil before)) q)
     items_are us before _ q (an_item v vs k ks) r small =
         let w = value_octets names v in
         let rest = flat_map (value_octets names) vs in
         let e = length-append w rest in
         let one = value_is v k (resolves_front (symbols_of v) (flat_map symbols_of vs) r) (omega arith) in
-        let all = items_are (us ++ w) (before ++ v ∷ []) vs (one_more us w before v q one) ks (resolves_rest (symbols_of v) (flat_map symbols_of vs) r) (omega arith) in
-        subst (λ (x : List ℕ). Sequence c x (before ++ v ∷ vs)) (append_assoc us w rest) (subst (Sequence c (us ++ w ++ rest)) (append_assoc before (v ∷ []) vs) all)
+        let all = items_are (us ++ w) (before ++ v ∷ []) vs (one_more us w before v q one) ks (resolves_rest (symbols_of v) (flat_map symbols_of vs) r)
+        (omega arith) in
+        subst (λ (x : List ℕ). Sequence c x (before ++ v ∷ vs)) (append_assoc us w rest)
+        (subst (Sequence c (us ++ w ++ rest)) (append_assoc before (v ∷ []) vs) all)
 
-    fields_are : (us : List ℕ) (before ms : List Field) → Fields c us before → KeptFields ms → Resolves c names (flat_map field_symbols ms) → length (flat_map (field_octets names) ms) < 2 ^ 63 → Fields c (us ++ flat_map (field_octets names) ms) (before ++ ms)
-    fields_are us before _ q keeping.no_fields r small = subst (λ (w : List ℕ). Fields c w (before ++ [])) (sym (append-nil us)) (subst (Fields c us) (sym (append-nil before)) q)
+    fields_are : (us : List ℕ) (before ms : List Field) → Fields c us before → KeptFields ms → Resolves c names (flat_map field_symbols ms)
+        → length (flat_map (field_octets names) ms) < 2 ^ 63 → Fields c (us ++ flat_map (field_octets names) ms) (before ++ ms)
+    fields_are us before _ q keeping.no_fields r small = subst (λ (w : List ℕ). Fields c w (before ++ [])) (sym (append-nil us))
+        (subst (Fields c us) (sym (append-nil before)) q)
     fields_are us before _ q (a_field s v ms t k ks) r small =
         let id = var_uint_octets (id_of names s) in
         let w = value_octets names v in
@@ -237,5 +264,7 @@ module _ (c : List Slot) (names : Names) where
         let f = length-append id w in
         let one = value_is v k (resolves_front (symbols_of v) (flat_map field_symbols ms) r.1) (omega arith) in
         let more = one_field us id w before (id_of names s) s v q (var_uint_spelled (id_of names s) r.0.1) r.0.0 one in
-        let all = fields_are (us ++ (id ++ w)) (before ++ field_of s v ∷ []) ms more ks (resolves_rest (symbols_of v) (flat_map field_symbols ms) r.1) (omega arith) in
-        subst (λ (x : List ℕ). Fields c x (before ++ field_of s v ∷ ms)) (append_assoc us (id ++ w) rest) (subst (Fields c (us ++ (id ++ w) ++ rest)) (append_assoc before (field_of s v ∷ []) ms) all)
+        let all = fields_are (us ++ (id ++ w)) (before ++ field_of s v ∷ []) ms more ks (resolves_rest (symbols_of v) (flat_map field_symbols ms) r.1)
+        (omega arith) in
+        subst (λ (x : List ℕ). Fields c x (before ++ field_of s v ∷ ms)) (append_assoc us (id ++ w) rest)
+        (subst (Fields c (us ++ (id ++ w) ++ rest)) (append_assoc before (field_of s v ∷ []) ms) all)

@@ -40,7 +40,8 @@ loop-at-preserved g c =
                 let sofar = wrote plain in
                 let one = w.write_str.ensures.writes sofar.plain (search rules) in
                 let two = w.write_escape.ensures one.plain (search rules) in
-                has_written_of_eq _ _ _ _ _ (grind (arith, common_steps, append_assoc)) (has_written_append _ _ _ _ _ _ (has_written_append _ _ _ _ _ _ sofar one) two),
+                has_written_of_eq _ _ _ _ _ (grind (arith, common_steps, append_assoc))
+                (has_written_append _ _ _ _ _ _ (has_written_append _ _ _ _ _ _ sofar one) two),
           )
       | else-not-is_raw w ↦
           let raw : is_raw of_symbol (get_or s l.at 0) ≡ true = grind (arith, common_steps) in

@@ -31,7 +31,8 @@ returns c =
     let long = c.fits-octets.0 in
     let quotes = c.args.quotes in
     let greatest = c.greatest_raw-greatest.result in
-    let all = subst (λ g. (b : Bool) → T (holds_below (λ x. same (top 7 (said g b x)) (escaped quotes.ascii b x)) 256)) (sym c.greatest_raw-greatest.ensures) (agree quotes.ascii) in
+    let all = subst (λ g. (b : Bool) → T (holds_below (λ x. same (top 7 (said g b x)) (escaped quotes.ascii b x)) 256)) (sym c.greatest_raw-greatest.ensures)
+    (agree quotes.ascii) in
     masked_by (λ x. eqb x quotes.delimiter) (said greatest) (escaped quotes.ascii) all v _ (omega arith) c.fits-octets.1
     (zip2_of_maps bit_or _ _ v (zip2_of_maps bit_or _ _ v (zip2_of_maps bit_or _ _ v (zip2_of_maps bit_or _ _ v
     (zip2_splat below v 16 32 long)

@@ -8,11 +8,13 @@ loop-at-init c = at_start (is_raw c.args.quotes) c.args.octets.now
 
 pub loop-at-preserved : goal.loop-at-preserved
 loop-at-preserved c =
-    goes_through (is_raw c.args.quotes) c.args.octets.now c.loop-at.at 16 c.escaped_lanes-escaped.result c.loop-at.invariant (omega arith) c.escaped_lanes-escaped.ensures (omega arith)
+    goes_through (is_raw c.args.quotes) c.args.octets.now c.loop-at.at 16 c.escaped_lanes-escaped.result c.loop-at.invariant (omega arith)
+    c.escaped_lanes-escaped.ensures (omega arith)
 
 pub returns-then-escaped-ne0 : goal.returns-then-escaped-ne0
 returns-then-escaped-ne0 c =
-    stops_at (is_raw c.args.quotes) c.args.octets.now c.loop-at.at 16 c.escaped_lanes-escaped.result c.loop-at.invariant (omega arith) (omega arith) c.escaped_lanes-escaped.ensures (omega arith)
+    stops_at (is_raw c.args.quotes) c.args.octets.now c.loop-at.at 16 c.escaped_lanes-escaped.result c.loop-at.invariant (omega arith) (omega arith)
+    c.escaped_lanes-escaped.ensures (omega arith)
 
 pub returns-then-escaped-ne0-2 : goal.returns-then-escaped-ne0-2
 returns-then-escaped-ne0-2 c =

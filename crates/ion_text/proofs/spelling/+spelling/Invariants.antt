@@ -8,7 +8,8 @@ use Rattle.ion_text.proofs.spelling.+spelling.Given as goal
 -- what is written and what is left are all; and where those that are left are kept, all are
 abbrev pub invariant-put_separated-loop-item : goal.invariant-put_separated-loop-item
 invariant-put_separated-loop-item l = record {
-  octets : l.out.items ++ flat_map (λ v. l.between ∷ value_text v) (drop l.item-index l.others) ≡ l.initial.out.items ++ flat_map (λ v. l.between ∷ value_text v) l.others;
+  octets : l.out.items ++ flat_map (λ v. l.between ∷ value_text v) (drop l.item-index l.others) ≡ l.initial.out.items
+      ++ flat_map (λ v. l.between ∷ value_text v) l.others;
   kept : KeptItems (drop l.item-index l.others) → KeptItems l.others;
 }
 

@@ -13,7 +13,8 @@ returns-in-Truth-clause-ok c = part_text _ _ c.in-Truth.is _ c.put_truth.result 
 pub returns-in-Symbol-clause-ok : goal.returns-in-Symbol-clause-ok
 returns-in-Symbol-clause-ok c =
     let w = c.in-Symbol.text.now in
-    part_text _ _ c.in-Symbol.is _ c.put_known.result _ _ (views.outs-Symbol (Some w)) (subst (λ x. OnOk c.put_known.result (c.put_known.new.out.items ≡ c.args.out.now.items ++ x)) (sym (symbol_known w)) c.put_known.ensures.ok)
+    part_text _ _ c.in-Symbol.is _ c.put_known.result _ _ (views.outs-Symbol (Some w))
+    (subst (λ x. OnOk c.put_known.result (c.put_known.new.out.items ≡ c.args.out.now.items ++ x)) (sym (symbol_known w)) c.put_known.ensures.ok)
 
 pub returns-in-Str-clause-ok : goal.returns-in-Str-clause-ok
 returns-in-Str-clause-ok c =

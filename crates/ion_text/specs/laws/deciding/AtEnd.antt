@@ -52,11 +52,13 @@ use Rattle.ion_text.specs.laws.deciding.Turns.{Decided, TurnDecided, settled_dec
 -- 1. Tokens up to the end.
 
 -- tokens up to the end, and then what is left
-lexes_are : (ts : List Placed) (colon : Bool) (before : ℕ) (octets : List ℕ) → Lexes colon before octets ts → (after : Bool) × (end : ℕ) × (rest : List ℕ) × LexesTo colon before octets ts after end rest
+lexes_are : (ts : List Placed) (colon : Bool) (before : ℕ) (octets : List ℕ) → Lexes colon before octets ts → (after : Bool) × (end : ℕ) × (rest : List ℕ)
+    × LexesTo colon before octets ts after end rest
 lexes_are [] colon before octets h = (colon, before, octets, (refl, refl, refl))
 lexes_are (t ∷ ts) colon before octets (q, b, h) = let x = lexes_are ts (colon_behind t) t.lexeme.end q h in (x.0, x.1, x.2, (q, b, x.3))
 
-pub last_ends : (ts : List Placed) (t : Placed) (colon : Bool) (before : ℕ) (octets : List ℕ) (after : Bool) (end : ℕ) (rest : List ℕ) → LexesTo colon before octets (ts ++ t ∷ []) after end rest → t.lexeme.end ≡ end
+pub last_ends : (ts : List Placed) (t : Placed) (colon : Bool) (before : ℕ) (octets : List ℕ) (after : Bool) (end : ℕ) (rest : List ℕ)
+    → LexesTo colon before octets (ts ++ t ∷ []) after end rest → t.lexeme.end ≡ end
 last_ends [] t colon before octets after end rest (q, b, h) = h.1
 last_ends (x ∷ ts) t colon before octets after end rest (q, b, h) = last_ends ts t (colon_behind x) x.lexeme.end q after end rest h
 
@@ -158,7 +160,8 @@ module _ (g : Catalog) (l : Limits) (u : List ℕ) where
           begin : ℕ
           begin = begun_at r.start x.start r.frames r.notes
 
-          by : (b : Bool) → EndRows (end_turned g l used (if b then goes (at begin r.context (frames.Fields r.notes [] ∷ r.frames) [] nows.Name) else late reasons.Depth (at begin r.context (frames.Fields r.notes [] ∷ r.frames) [] nows.Name)))
+          by : (b : Bool) → EndRows (end_turned g l used (if b then goes (at begin r.context (frames.Fields r.notes [] ∷ r.frames) [] nows.Name) else late
+              reasons.Depth (at begin r.context (frames.Fields r.notes [] ∷ r.frames) [] nows.Name)))
           by true = λ i. absurd i
           by false = λ i. absurd i
       go (nows.Pending h e) = λ i. absurd i
@@ -168,7 +171,8 @@ module _ (g : Catalog) (l : Limits) (u : List ℕ) where
       go (nows.LongName w) = λ i. absurd i
       go (nows.Keyed s) = λ i. absurd i
 
-  module _ (vs : List Value) (s : Known) (r : Reading) (b : Behind g l Scanned u vs s r [] (NoLongText s.mode)) (used' : s.used ≡ length u) (wait : Waits g l s r.now) where
+  module _ (vs : List Value) (s : Known) (r : Reading) (b : Behind g l Scanned u vs s r [] (NoLongText s.mode)) (used' : s.used ≡ length u)
+      (wait : Waits g l s r.now) where
     abbrev ts : List Placed
     ts = b.front ++ b.item
 
@@ -177,7 +181,8 @@ module _ (g : Catalog) (l : Limits) (u : List ℕ) where
         let d : PendingFor r.context r.frames r.notes h b.item = subst (NowStands r.context r.frames r.notes b.item) e b.stands in
         let last : ts ≡ (b.front ++ d.before) ++ d.token ∷ [] = ap (λ y. b.front ++ y) d.whole ∙ sym (append_assoc b.front d.before (d.token ∷ [])) in
         awaits_colons (place r) s u ts [] b.scanned 0 (0 ∷ [], refl) (top_place r.frames r.now (ap is_top top))
-        (flag (place r) s u ts [] b.scanned 0 (0 ∷ [], refl) (b.front ++ d.before) d.token last (symbol_colon d.token.place d.token.lexeme.kind d.token.lexeme.octets d.said d.says.body d.named))
+        (flag (place r) s u ts [] b.scanned 0 (0 ∷ [], refl) (b.front ++ d.before) d.token last
+        (symbol_colon d.token.place d.token.lexeme.kind d.token.lexeme.octets d.said d.says.body d.named))
         (subst (Waits g l s) e wait) refl
 
     waited : TurnDecided g l (by_end u) (settle g l r)
@@ -193,7 +198,8 @@ module _ (g : Catalog) (l : Limits) (u : List ℕ) where
           let y = all_since (place r) s u ts b.scanned in
           all_are u ts (placed (place r) x)
           (subst (λ z. Lexes false 0 z (ts ++ placed (place r) x ∷ [])) (sym b.scanned.cut)
-          (ends_in_token b.scanned.behind s b.scanned.front ts b.scanned.left b.scanned.since y.0 (place r) x b.scanned.told b.scanned.pass y.1 b.scanned.ran e (said_passes x.kind x.octets c k)))
+          (ends_in_token b.scanned.behind s b.scanned.front ts b.scanned.left b.scanned.since y.0 (place r) x b.scanned.told b.scanned.pass y.1 b.scanned.ran e
+          (said_passes x.kind x.octets c k)))
           ((end_spans s (end_of (place r) s.mode) x e).1 ∙ used')
 
       closing : (m : Mark) → c ≡ Mark' m → is_closing (kinds.Mark m) ≡ true → (m ≡ marks.Colon → ⊥) → ⊥
@@ -230,7 +236,8 @@ module _ (g : Catalog) (l : Limits) (u : List ℕ) where
 
       -- behind it `::` may yet follow, where nothing else does
       settles : (t : Turn) → Reads g l AllAre u vs s [] (λ n. Unit {0}) t → SettlesToRow t
-      settles (goes m) h = settled_decided g l (by_end u) m.context h.front vs h.pieces m.start h.item m.frames m.notes m.now h.first h.stands (λ y end f top. record { rest = []; are = h.scanned; before = (codes "::", ([], [], blank_none, refl)); after = λ i. none_then i.0 i.1 i.3 })
+      settles (goes m) h = settled_decided g l (by_end u) m.context h.front vs h.pieces m.start h.item m.frames m.notes m.now h.first h.stands
+          (λ y end f top. record { rest = []; are = h.scanned; before = (codes "::", ([], [], blank_none, refl)); after = λ i. none_then i.0 i.1 i.3 })
       settles (gives v m) h = tt
       settles (refuses z) h = tt
       settles (late z m) h = tt
@@ -238,7 +245,8 @@ module _ (g : Catalog) (l : Limits) (u : List ℕ) where
       read : Reads g l AllAre u vs s [] (λ n. Unit {0}) (turn g l r (token_of x c))
       read =
           let fine = at_end_fine (place r) s x e in
-          token_read g l Scanned u vs s r [] (NoLongText s.mode) b x (λ a. (fine.0, λ t. left_none x.kind x.start x.end (fine.1 a.1))) AllAre u s [] (λ n. Unit {0}) c k (λ q. here) b.sane b.fine
+          token_read g l Scanned u vs s r [] (NoLongText s.mode) b x (λ a. (fine.0, λ t. left_none x.kind x.start x.end (fine.1 a.1))) AllAre u s []
+          (λ n. Unit {0}) c k (λ q. here) b.sane b.fine
 
       token_rows : (used : ℕ) → EndRows (end_turned g l used (turn g l r (token_of x c)))
       token_rows used = go (opens_struct c) refl
@@ -246,7 +254,8 @@ module _ (g : Catalog) (l : Limits) (u : List ℕ) where
           other : (c ≡ Mark' marks.FieldsOpen → ⊥) → EndRows (end_turned g l used (turn g l r (token_of x c)))
           other n =
               turned_rows used (turn g l r (token_of x c))
-              (token_decided g l (by_end u) r.context b.front vs b.pieces (placed (place r) x) x.start x.end r.start b.item r.frames r.notes c r.now b.deep b.first b.stands (record { place = refl; body = body })
+              (token_decided g l (by_end u) r.context b.front vs b.pieces (placed (place r) x) x.start x.end r.start b.item r.frames r.notes c r.now b.deep
+              b.first b.stands (record { place = refl; body = body })
               (subst (λ y. Shown (by_end u) y c) (append_assoc b.front b.item (placed (place r) x ∷ [])) (shown n)))
               (settles (turn g l r (token_of x c)) read)
 
@@ -254,7 +263,8 @@ module _ (g : Catalog) (l : Limits) (u : List ℕ) where
           go true f = subst (λ y. EndRows (end_turned g l used (turn g l r (token_of x y)))) (sym (opens_is c f)) (open_rows used r x)
           go false f = other (λ q. absurd (let z : true ≡ false = sym (ap opens_struct q) ∙ f in cc))
 
-    said_rows : (used : ℕ) (x : Lexeme) → at_end (place r) s ≡ Ok (Some x) → (c : Result Content Reason) → said x.kind x.octets ≡ c → EndRows (end_said g l used r x c)
+    said_rows : (used : ℕ) (x : Lexeme) → at_end (place r) s ≡ Ok (Some x) → (c : Result Content Reason) → said x.kind x.octets ≡ c
+        → EndRows (end_said g l used r x c)
     said_rows used x e (Ok c) k = token_rows x e c k used
     said_rows used x e (Err y) k = λ i. absurd (said_rowless x.kind x.octets y k i)
 
@@ -272,12 +282,15 @@ module _ (g : Catalog) (l : Limits) (u : List ℕ) where
     now_rows used nows.Name = ready_rows used (at_end (place r) s) refl
     now_rows used (nows.Keyed k) = ready_rows used (at_end (place r) s) refl
 
-  end_rows : (given : List (Value × ℕ)) (now : Result State Refusal) → StoodBehind g l u [] (record { given = given; now = now }) → EndsWaiting g l now → refused_of now ≡ None → EndRows (ends_of g l now)
+  end_rows : (given : List (Value × ℕ)) (now : Result State Refusal) → StoodBehind g l u [] (record { given = given; now = now }) → EndsWaiting g l now
+      → refused_of now ≡ None → EndRows (ends_of g l now)
   end_rows given (Ok m) b wait h = now_rows (plain given) m.scan m.reading b (stood_used g l u (plain given) m b) wait m.scan.used m.reading.now
   end_rows given (Err q) b wait h = absurd cc
 
 -- What the end refuses for such a reason is a row of the table.
-pub end_deciding : (g : Catalog) (l : Limits) (u : List ℕ) (r : Refusal) → (trace g l u).refused ≡ None → (trace g l u).ends ≡ Err r → HasRow r.reason → EndDecides g l u r.reason
+pub end_deciding : (g : Catalog) (l : Limits) (u : List ℕ) (r : Refusal) → (trace g l u).refused ≡ None → (trace g l u).ends ≡ Err r → HasRow r.reason
+    → EndDecides g l u r.reason
 end_deciding g l u r h e =
     let x = run g l 0 begun u in
-    subst (EndRows g l u) e (end_rows g l u x.given x.now (run_ran g l u [] [] 0 begun (begun_stood g l)) (run_waits g l u [] [] 0 begun (begun_stood g l) tt) h)
+    subst (EndRows g l u) e (end_rows g l u x.given x.now (run_ran g l u [] [] 0 begun (begun_stood g l)) (run_waits g l u [] [] 0 begun (begun_stood g l) tt)
+    h)

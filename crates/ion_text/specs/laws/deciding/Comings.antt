@@ -45,7 +45,8 @@ module _ (l : Limits) (c : List Slot) where
   pub place_there : (ks : List Container) (fs : List Frame) → containers fs ≡ ks → place_of ks ≡ value_place fs
   place_there ks fs e = sym (place_same fs ∙ ap place_of e)
 
-  noted_so : (ks : List Container) (fs : List Frame) (notes : List Placed) (ss : Symbols) → containers fs ≡ ks → Annotations c (place_of ks) notes ss → Annotations c (value_place fs) notes ss
+  noted_so : (ks : List Container) (fs : List Frame) (notes : List Placed) (ss : Symbols) → containers fs ≡ ks → Annotations c (place_of ks) notes ss
+      → Annotations c (value_place fs) notes ss
   noted_so ks fs notes ss e a = subst (λ p. Annotations c p notes ss) (place_there ks fs e) a
 
   says_so : (ks : List Container) (fs : List Frame) (t : Placed) (d : Content) → containers fs ≡ ks → Says (place_of ks) t d → Says (value_place fs) t d
@@ -57,7 +58,9 @@ module _ (l : Limits) (c : List Slot) where
   shallow : (ks : List Container) (fs : List Frame) (n : ℕ) → containers fs ≡ ks → n + suc (length ks) ≤ l.depth → n + suc (length fs) ≤ l.depth
   shallow ks fs n e h = omega (arith, h, same_levels ks fs e)
 
-  named_frames : (ks : List Container) (ts ns : List Placed) (s : Option (List ℕ)) (colon : Placed) (n : IsName c ns s) (k : Says places.Name colon (Mark' marks.Colon)) (fs : List Frame) → containers fs ≡ InStruct ∷ ks → Opened c fs ts true → Deep l.depth fs → Framed l c (InField ∷ ks) (ts ++ (ns ++ colon ∷ []))
+  named_frames : (ks : List Container) (ts ns : List Placed) (s : Option (List ℕ)) (colon : Placed) (n : IsName c ns s)
+      (k : Says places.Name colon (Mark' marks.Colon)) (fs : List Frame) → containers fs ≡ InStruct ∷ ks → Opened c fs ts true → Deep l.depth fs
+      → Framed l c (InField ∷ ks) (ts ++ (ns ++ colon ∷ []))
   named_frames ks ts ns s colon n k (frames.Fields ss ms ∷ fs) e o d =
       let rest : containers fs ≡ ks = cc in
       let name : List Placed = ns ++ colon ∷ [] in
@@ -71,7 +74,8 @@ module _ (l : Limits) (c : List Slot) where
           name = ns;
           open' = o.open';
           colon = colon;
-          whole = ap (λ x. x ++ name) o.whole ∙ (append_assoc o.front (o.notes ++ o.open' ∷ o.body) name ∙ ap (λ x. o.front ++ x) (append_assoc o.notes (o.open' ∷ o.body) name));
+          whole = ap (λ x. x ++ name) o.whole ∙ (append_assoc o.front (o.notes ++ o.open' ∷ o.body) name
+              ∙ ap (λ x. o.front ++ x) (append_assoc o.notes (o.open' ∷ o.body) name));
           outer = o.outer;
           receives = o.receives;
           noted = o.noted;
@@ -158,23 +162,33 @@ pub record JoinsNothing (d : Content) : Type 0 where
 
 module _ (g : Catalog) (l : Limits) where
   -- the first tokens of an open item
-  item_begins : (c : List Slot) (fs : List Frame) (ts us front notes body : List Placed) (ss : Symbols) (t : Placed) (d : Content) → ts ≡ front ++ (notes ++ t ∷ body) → Annotations c (value_place fs) notes ss → Says (value_place fs) t d → (d ≡ Mark' marks.Colons → ⊥)
+  item_begins : (c : List Slot) (fs : List Frame) (ts us front notes body : List Placed) (ss : Symbols) (t : Placed) (d : Content)
+      → ts ≡ front ++ (notes ++ t ∷ body) → Annotations c (value_place fs) notes ss → Says (value_place fs) t d → (d ≡ Mark' marks.Colons → ⊥)
       → ((x : List Placed) → Begins g l (value_place fs) x → Begins g l places.Top (front ++ x)) → Begins g l places.Top (ts ++ us)
   item_begins c fs ts us front notes body ss t d cut a says n f =
-      let whole : ts ++ us ≡ front ++ (notes ++ t ∷ (body ++ us)) = ap (λ x. x ++ us) cut ∙ (append_assoc front (notes ++ t ∷ body) us ∙ ap (λ x. front ++ x) (append_assoc notes (t ∷ body) us)) in
+      let whole : ts ++ us ≡ front ++ (notes ++ t ∷ (body ++ us)) =
+      ap (λ x. x ++ us) cut ∙ (append_assoc front (notes ++ t ∷ body) us ∙ ap (λ x. front ++ x) (append_assoc notes (t ∷ body) us)) in
       subst (Begins g l places.Top) (sym whole)
-      (f (notes ++ t ∷ (body ++ us)) (notes_begin g l c (value_place fs) notes (t ∷ (body ++ us)) ss a (record { first = t; later = body ++ us; said = d; cut = refl; says = says; no_colons = n })))
+      (f (notes ++ t ∷ (body ++ us)) (notes_begin g l c (value_place fs) notes (t ∷ (body ++ us)) ss a
+      (record { first = t; later = body ++ us; said = d; cut = refl; says = says; no_colons = n })))
 
-  opened_begins : (c : List Slot) (fs : List Frame) (ts us : List Placed) → Opened c fs ts true → Begins g l (value_place fs) us → Begins g l places.Top (ts ++ us)
+  opened_begins : (c : List Slot) (fs : List Frame) (ts us : List Placed) → Opened c fs ts true → Begins g l (value_place fs) us
+      → Begins g l places.Top (ts ++ us)
   opened_begins c [] ts us o b = subst (λ x. Begins g l places.Top (x ++ us)) (sym o) b
-  opened_begins c (frames.List ss vs ∷ fs) ts us o b = item_begins c fs ts us o.front o.notes o.body ss o.open' (Mark' marks.ListOpen) o.whole o.noted o.opens (λ e. cc) (λ x d. opened_begins c fs o.front x o.outer d)
-  opened_begins c (frames.Sexp ss vs ∷ fs) ts us o b = item_begins c fs ts us o.front o.notes o.body ss o.open' (Mark' marks.SexpOpen) o.whole o.noted o.opens (λ e. cc) (λ x d. opened_begins c fs o.front x o.outer d)
-  opened_begins c (frames.Fields ss ms ∷ fs) ts us o b = item_begins c fs ts us o.front o.notes o.body ss o.open' (Mark' marks.FieldsOpen) o.whole o.noted o.opens (λ e. cc) (λ x d. opened_begins c fs o.front x o.outer d)
-  opened_begins c (frames.Named ss ms s ∷ fs) ts us o b = item_begins c fs ts us o.front o.notes (o.body ++ (o.name ++ o.colon ∷ [])) ss o.open' (Mark' marks.FieldsOpen) o.whole o.noted o.opens (λ e. cc) (λ x d. opened_begins c fs o.front x o.outer d)
+  opened_begins c (frames.List ss vs ∷ fs) ts us o b = item_begins c fs ts us o.front o.notes o.body ss o.open' (Mark' marks.ListOpen) o.whole o.noted o.opens
+      (λ e. cc) (λ x d. opened_begins c fs o.front x o.outer d)
+  opened_begins c (frames.Sexp ss vs ∷ fs) ts us o b = item_begins c fs ts us o.front o.notes o.body ss o.open' (Mark' marks.SexpOpen) o.whole o.noted o.opens
+      (λ e. cc) (λ x d. opened_begins c fs o.front x o.outer d)
+  opened_begins c (frames.Fields ss ms ∷ fs) ts us o b = item_begins c fs ts us o.front o.notes o.body ss o.open' (Mark' marks.FieldsOpen) o.whole o.noted
+      o.opens (λ e. cc) (λ x d. opened_begins c fs o.front x o.outer d)
+  opened_begins c (frames.Named ss ms s ∷ fs) ts us o b = item_begins c fs ts us o.front o.notes (o.body ++ (o.name ++ o.colon ∷ [])) ss o.open'
+      (Mark' marks.FieldsOpen) o.whole o.noted o.opens (λ e. cc) (λ x d. opened_begins c fs o.front x o.outer d)
 
   -- behind a long string none that isn't open stands
-  stays_apart : (front item : List Placed) (t : Placed) (d : Content) (more : List Placed) (p : Place) → (ends_long front && begins_as_long item) ≡ false → Says p t d → JoinsNothing d → (ends_long front && begins_as_long (item ++ t ∷ more)) ≡ false
-  stays_apart front [] t d more p h says a = both_not (ends_long front) (begins_as_long (t ∷ more)) (neither true t.lexeme.start t.lexeme.end t.lexeme.kind t.lexeme.octets d a.long a.quoted says.body)
+  stays_apart : (front item : List Placed) (t : Placed) (d : Content) (more : List Placed) (p : Place) → (ends_long front && begins_as_long item) ≡ false
+      → Says p t d → JoinsNothing d → (ends_long front && begins_as_long (item ++ t ∷ more)) ≡ false
+  stays_apart front [] t d more p h says a = both_not (ends_long front) (begins_as_long (t ∷ more))
+      (neither true t.lexeme.start t.lexeme.end t.lexeme.kind t.lexeme.octets d a.long a.quoted says.body)
   stays_apart front (x ∷ item) t d more p h says a = h
 
   module _ (c : List Slot) (ks : List Container) (said : Content) (ts : List Placed) (h : Comes g l c ks said ts) where
@@ -199,7 +213,14 @@ module _ (g : Catalog) (l : Limits) where
       noted = noted_so l c ks f.held h.notes h.symbols f.same h.noted
 
       ready : ReadyFor c f.held h.symbols item
-      ready = record { front = h.item; notes = h.notes; whole = refl; outer = f.opened; receives = receives f.held (subst TakesValue (sym f.same) takes); noted = noted }
+      ready = record {
+        front = h.item;
+        notes = h.notes;
+        whole = refl;
+        outer = f.opened;
+        receives = receives f.held (subst TakesValue (sym f.same) takes);
+        noted = noted;
+      }
 
       pub came : Came g l before (place_of ks)
       came = subst (Came g l before) (sym here) (stands_read g l c h.front h.values f.held h.symbols nows.Ready item h.pieces f.deep ready h.apart)
@@ -208,18 +229,23 @@ module _ (g : Catalog) (l : Limits) where
       settles = ready_settles g l c h.front h.values f.held h.symbols item h.pieces f.deep ready h.apart
 
       -- A token that comes there is read there.
-      pub go_on : (t : Placed) (d : Content) (more : List Placed) → Says (place_of ks) t d → JoinsNothing d → (s : ℕ) × (reads g l (origin g l) (before ++ t ∷ more) ≡ adds_values h.values (reads g l (at s c f.held h.symbols nows.Ready) (t ∷ more)))
+      pub go_on : (t : Placed) (d : Content) (more : List Placed) → Says (place_of ks) t d → JoinsNothing d → (s : ℕ)
+          × (reads g l (origin g l) (before ++ t ∷ more) ≡ adds_values h.values (reads g l (at s c f.held h.symbols nows.Ready) (t ∷ more)))
       unfolding ready
       go_on t d more says a =
           let says' = says_so l c ks f.held t d f.same says in
-          let first = opened_begins c f.held h.item (h.notes ++ t ∷ more) f.opened (notes_begin g l c (value_place f.held) h.notes (t ∷ more) h.symbols noted (record { first = t; later = more; said = d; cut = refl; says = says'; no_colons = a.colons })) in
+          let first = opened_begins c f.held h.item (h.notes ++ t ∷ more) f.opened
+          (notes_begin g l c (value_place f.held) h.notes (t ∷ more) h.symbols noted
+          (record { first = t; later = more; said = d; cut = refl; says = says'; no_colons = a.colons })) in
           let join : h.item ++ (h.notes ++ t ∷ more) ≡ item ++ t ∷ more = sym (append_assoc h.item h.notes (t ∷ more)) in (
             starts g l (starts g l 0 [] h.item) f.held h.notes,
             ap (reads g l (origin g l)) (append_assoc h.front item (t ∷ more))
-                ∙ (more_read g l h.front (item ++ t ∷ more) h.values c (pieces_read g l h.front h.values c h.pieces) (subst (Begins g l places.Top) join first) (stays_apart h.front item t d more (place_of ks) h.apart says a)
+                ∙ (more_read g l h.front (item ++ t ∷ more) h.values c (pieces_read g l h.front h.values c h.pieces) (subst (Begins g l places.Top) join first)
+                (stays_apart h.front item t d more (place_of ks) h.apart says a)
                 ∙ ap (adds_values h.values)
                 (ap (reads g l (fresh c)) (sym join)
-                ∙ token_behind g l c f.held h.item f.opened (ready_outer g l c f.held h.symbols item f.deep ready) h.notes h.symbols noted t d more says' a.colons a.long)),
+                ∙ token_behind g l c f.held h.item f.opened (ready_outer g l c f.held h.symbols item f.deep ready) h.notes h.symbols noted t d more says'
+                a.colons a.long)),
           )
 
   -- where a name may come
@@ -230,7 +256,8 @@ module _ (g : Catalog) (l : Limits) where
     pub opened : Opened c (frames.Fields notes fields ∷ outer) ts true
     pub deep : Deep l.depth (frames.Fields notes fields ∷ outer)
 
-  struct_of : (c : List Slot) (ks : List Container) (ts : List Placed) (fs : List Frame) → containers fs ≡ InStruct ∷ ks → Opened c fs ts true → Deep l.depth fs → Struct c ts
+  struct_of : (c : List Slot) (ks : List Container) (ts : List Placed) (fs : List Frame) → containers fs ≡ InStruct ∷ ks → Opened c fs ts true → Deep l.depth fs
+      → Struct c ts
   struct_of c ks ts (frames.Fields ss ms ∷ fs) e o d = record { notes = ss; fields = ms; outer = fs; opened = o; deep = d }
   struct_of c ks ts [] e o d = absurd cc
   struct_of c ks ts (frames.List ss vs ∷ fs) e o d = absurd cc
@@ -254,17 +281,21 @@ module _ (g : Catalog) (l : Limits) where
     apart = subst (λ x. (ends_long h.front && begins_as_long x) ≡ false) bare h.apart
 
     pub came_name : Came g l up_to places.Name
-    came_name = stands_read g l c h.front h.values (frames.Fields struct.notes struct.fields ∷ struct.outer) [] nows.Name h.item h.pieces struct.deep (struct.opened, tt) apart
+    came_name = stands_read g l c h.front h.values (frames.Fields struct.notes struct.fields ∷ struct.outer) [] nows.Name h.item h.pieces struct.deep
+        (struct.opened, tt) apart
 
     pub settles_name : (s : ℕ) × SettlesTo g l up_to (at s c (frames.Fields struct.notes struct.fields ∷ struct.outer) [] nows.Name)
     settles_name = struct_settles g l c h.front h.values struct.notes struct.fields struct.outer h.item true h.pieces struct.deep struct.opened apart
 
-    pub go_on_name : (t : Placed) (d : Content) → Says places.Name t d → JoinsNothing d → (s : ℕ) × (reads g l (origin g l) (up_to ++ t ∷ []) ≡ adds_values h.values (reads g l (at s c (frames.Fields struct.notes struct.fields ∷ struct.outer) [] nows.Name) (t ∷ [])))
+    pub go_on_name : (t : Placed) (d : Content) → Says places.Name t d → JoinsNothing d → (s : ℕ)
+        × (reads g l (origin g l) (up_to ++ t ∷ []) ≡ adds_values h.values
+        (reads g l (at s c (frames.Fields struct.notes struct.fields ∷ struct.outer) [] nows.Name) (t ∷ [])))
     go_on_name t d says a =
         let b : Begins g l places.Name (t ∷ []) = record { first = t; later = []; said = d; cut = refl; says = says; no_colons = a.colons } in
         let first = opened_begins c (frames.Fields struct.notes struct.fields ∷ struct.outer) h.item (t ∷ []) struct.opened b in (
           starts g l 0 [] h.item,
           ap (reads g l (origin g l)) (append_assoc h.front h.item (t ∷ []))
-              ∙ (more_read g l h.front (h.item ++ t ∷ []) h.values c (pieces_read g l h.front h.values c h.pieces) first (stays_apart h.front h.item t d [] places.Name apart says a)
+              ∙ (more_read g l h.front (h.item ++ t ∷ []) h.values c (pieces_read g l h.front h.values c h.pieces) first
+              (stays_apart h.front h.item t d [] places.Name apart says a)
               ∙ ap (adds_values h.values) (name_there g l c struct.notes struct.fields struct.outer h.item struct.deep struct.opened [] (t ∷ []) b)),
         )

@@ -35,7 +35,8 @@ pub record UpToEnd (u : List ℕ) (ts : List Placed) : Type 0 where
   pub lexes : LexesTo false 0 u ts colon end rest
   pub blank : IsLastBlank rest
 
-up_to_end : (ts : List Placed) (colon : Bool) (before : ℕ) (octets : List ℕ) → Lexes colon before octets ts → (after : Bool) × (end : ℕ) × (rest : List ℕ) × IsLastBlank rest × LexesTo colon before octets ts after end rest
+up_to_end : (ts : List Placed) (colon : Bool) (before : ℕ) (octets : List ℕ) → Lexes colon before octets ts → (after : Bool) × (end : ℕ) × (rest : List ℕ)
+    × IsLastBlank rest × LexesTo colon before octets ts after end rest
 up_to_end [] colon before octets h = (colon, before, octets, h, (refl, refl, refl))
 up_to_end (t ∷ ts) colon before octets (q, b, h) = let x = up_to_end ts (colon_behind t) t.lexeme.end q h in (x.0, x.1, x.2, x.3, (q, b, x.4))
 
@@ -68,10 +69,12 @@ module _ (g : Catalog) (l : Limits) (u : List ℕ) (s : List Value) (d : Documen
       blank_none y.flag y.mid y.left x y.second.0 (subst IsLastBlank (sym one.2) theirs.blank) y.second.1
 
   -- Tokens of the octets that are read are a front of its tokens.
-  front_of : (ts : List Placed) (colon : Bool) (end : ℕ) (rest : List ℕ) (vs : List Value) (n : Reading) → LexesTo false 0 u ts colon end rest → reads g l (origin g l) ts ≡ walked vs n → (more : List Placed) × (d.tokens ≡ ts ++ more)
+  front_of : (ts : List Placed) (colon : Bool) (end : ℕ) (rest : List ℕ) (vs : List Value) (n : Reading) → LexesTo false 0 u ts colon end rest
+      → reads g l (origin g l) ts ≡ walked vs n → (more : List Placed) × (d.tokens ≡ ts ++ more)
   front_of ts colon end rest vs n lexes read =
       by (meet g l Any initial u ts (begins_completes ts false 0 u [] u initial (begins_lexed ts false 0 u colon end rest lexes) refl (λ p. refl))
-      d.tokens (begins_completes d.tokens false 0 u [] u initial (begins_lexed d.tokens false 0 u theirs.colon theirs.end theirs.rest theirs.lexes) refl (λ p. refl))
+      d.tokens (begins_completes d.tokens false 0 u [] u initial (begins_lexed d.tokens false 0 u theirs.colon theirs.end theirs.rest theirs.lexes) refl
+      (λ p. refl))
       (lexes_operators (λ colon before octets. IsLastBlank octets) d.tokens false 0 u d.lexed) (origin g l) s (record { vs = vs; n = n; read = read }) going)
     where
       by : OneIsFront ts d.tokens → (more : List Placed) × (d.tokens ≡ ts ++ more)
@@ -93,16 +96,21 @@ module _ (g : Catalog) (l : Limits) (u : List ℕ) (s : List Value) (d : Documen
       f = front_of x.front y.flag y.mid y.left x.came.values x.came.now y.first x.came.read
 
       go : (more : List Placed) → d.tokens ≡ x.front ++ more → ⊥
-      go [] e = none_behind t [] colon end rest (subst (λ z. LexesTo false 0 u (z ++ t ∷ []) colon end rest) (sym (e ∙ append-nil x.front)) (subst (λ z. LexesTo false 0 u z colon end rest) x.is lexes))
+      go [] e = none_behind t [] colon end rest (subst (λ z. LexesTo false 0 u (z ++ t ∷ []) colon end rest) (sym (e ∙ append-nil x.front))
+          (subst (λ z. LexesTo false 0 u z colon end rest) x.is lexes))
       go (z ∷ zs) e =
-          let w = parted x.front (z ∷ zs) false 0 u theirs.colon theirs.end theirs.rest (subst (λ q. LexesTo false 0 u q theirs.colon theirs.end theirs.rest) e theirs.lexes) in
+          let w = parted x.front (z ∷ zs) false 0 u theirs.colon theirs.end theirs.rest
+          (subst (λ q. LexesTo false 0 u q theirs.colon theirs.end theirs.rest) e theirs.lexes) in
           let one = lexes_once x.front false 0 u w.flag y.flag w.mid y.mid w.left y.left w.first y.first in
-          let rest' = behind_read g l x.front (z ∷ zs) (origin g l) x.came.now r.now x.came.values r.given x.came.read (ap (reads g l (origin g l)) (sym e) ∙ r.read) in
+          let rest' = behind_read g l x.front (z ∷ zs) (origin g l) x.came.now r.now x.came.values r.given x.came.read
+          (ap (reads g l (origin g l)) (sym e) ∙ r.read) in
           let here : z.place ≡ t.place = (walking_said g l x.came.now z zs (record { vs = rest'.0; n = r.now; read = rest'.1 })).0 ∙ x.came.here in
-          let b = subst (λ q. BeginsWith q y.mid y.left z w.second.0) one.0 (subst (λ (q : ℕ). BeginsWith w.flag q y.left z w.second.0) one.1 (subst (λ q. BeginsWith w.flag w.mid q z w.second.0) one.2 w.second.1)) in
+          let b = subst (λ q. BeginsWith q y.mid y.left z w.second.0) one.0
+          (subst (λ (q : ℕ). BeginsWith w.flag q y.left z w.second.0) one.1 (subst (λ q. BeginsWith w.flag w.mid q z w.second.0) one.2 w.second.1)) in
           let same : z ≡ t = placed_same Any g l z t here (begins_once y.flag y.mid y.left z t w.second.0 y.second.0 b y.second.1 here plain) in
           let all : d.tokens ≡ ts ++ zs = e ∙ (ap (λ q. x.front ++ q ∷ zs) same ∙ (sym (append_assoc x.front (t ∷ []) zs) ∙ ap (λ q. q ++ zs) (sym x.is))) in
-          let n : walked r.given r.now ≡ stopped = sym r.read ∙ (ap (reads g l (origin g l)) all ∙ (reads-append g l ts zs (origin g l) ∙ ap (λ q. then_walk q (λ k. reads g l k zs)) x.stops)) in
+          let n : walked r.given r.now ≡ stopped = sym r.read ∙
+          (ap (reads g l (origin g l)) all ∙ (reads-append g l ts zs (origin g l) ∙ ap (λ q. then_walk q (λ k. reads g l k zs)) x.stops)) in
           cc
 
   -- Nothing that waits at its end is.
@@ -115,8 +123,10 @@ module _ (g : Catalog) (l : Limits) (u : List ℕ) (s : List Value) (d : Documen
       go : (more : List Placed) → d.tokens ≡ ts ++ more → ⊥
       go [] e =
           let same = walked_now g l r.given p.values r.now (pend g l ts reason p) (sym r.read ∙ (ap (reads g l (origin g l)) (e ∙ append-nil ts) ∙ p.read)) in
-          let n : walked r.later (fresh d.context) ≡ stopped = sym r.settles ∙ (ap (λ q. on_turn (settle g l q) done) same.1 ∙ settling_stops g l ts reason p done) in
+          let n : walked r.later (fresh d.context) ≡ stopped = sym r.settles
+          ∙ (ap (λ q. on_turn (settle g l q) done) same.1 ∙ settling_stops g l ts reason p done) in
           cc
       go (x ∷ xs) e =
-          a.after (colons_shown u ts x xs a.are.0 theirs.colon a.are.1 theirs.end a.rest theirs.rest a.are.2 (subst (λ q. LexesTo false 0 u q theirs.colon theirs.end theirs.rest) e theirs.lexes)
+          a.after (colons_shown u ts x xs a.are.0 theirs.colon a.are.1 theirs.end a.rest theirs.rest a.are.2
+          (subst (λ q. LexesTo false 0 u q theirs.colon theirs.end theirs.rest) e theirs.lexes)
           (colons_next g l ts reason p x xs r.given r.now (ap (reads g l (origin g l)) (sym e) ∙ r.read)))

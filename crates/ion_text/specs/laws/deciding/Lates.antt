@@ -117,7 +117,8 @@ noticed_quiet l r s = go (shut r.now && not (is_idle s.mode)) (nat_le (reaches r
     go false true = tt
     go false false = λ i. i
 
-pub said_quiet : (k : TokenKind) (octets : List ℕ) (f : Content → Effect) → ((c : Content) → said k octets ≡ Ok c → NotLate (f c)) → NotLate (on_said (said k octets) f)
+pub said_quiet : (k : TokenKind) (octets : List ℕ) (f : Content → Effect) → ((c : Content) → said k octets ≡ Ok c → NotLate (f c))
+    → NotLate (on_said (said k octets) f)
 said_quiet k octets f h = go (said k octets) refl
   where
     go : (c : Result Content Reason) → said k octets ≡ c → NotLate (on_said c f)
@@ -128,8 +129,10 @@ said_quiet k octets f h = go (said k octets) refl
 
 -- behind a name, in a struct that a container holds, and behind the colons of an annotation
 pub data LateAs (said : Content) : Reading → Type 0 where
-  behind_name : BareSaid said → (start : ℕ) (c : List Slot) (fs : List Frame) (ss : Symbols) (s : Option (List ℕ)) → LateAs said (at start c fs ss (nows.Keyed s))
-  in_struct : BareSaid said → (start : ℕ) (c : List Slot) (rs : Symbols) (f : Frame) (fs : List Frame) → LateAs said (at start c (frames.Fields rs [] ∷ f ∷ fs) [] nows.Name)
+  behind_name : BareSaid said → (start : ℕ) (c : List Slot) (fs : List Frame) (ss : Symbols) (s : Option (List ℕ))
+      → LateAs said (at start c fs ss (nows.Keyed s))
+  in_struct : BareSaid said → (start : ℕ) (c : List Slot) (rs : Symbols) (f : Frame) (fs : List Frame)
+      → LateAs said (at start c (frames.Fields rs [] ∷ f ∷ fs) [] nows.Name)
   behind_colons : (n : Reading) → said ≡ Mark' marks.Colons → LateAs said n
 
 -- what a late reason goes on with
@@ -144,7 +147,8 @@ within_late P item start end t h = go (nat_le end (start + item))
     go true = h
     go false = tt
 
-top_late : (P : Reading → Type 0) (item start end : ℕ) (c : List Slot) (v : Value) (d : Result (List Slot) Reason) (b : Bool) → TurnLate P (if b then turned item start end d else within item start end (gives v (fresh c)))
+top_late : (P : Reading → Type 0) (item start end : ℕ) (c : List Slot) (v : Value) (d : Result (List Slot) Reason) (b : Bool)
+    → TurnLate P (if b then turned item start end d else within item start end (gives v (fresh c)))
 top_late P item start end c v (Ok d) true = within_late P item start end (goes (fresh d)) tt
 top_late P item start end c v (Err e) true = tt
 top_late P item start end c v d false = within_late P item start end (gives v (fresh c)) tt
@@ -156,7 +160,8 @@ ended_late P setting spot (frames.Sexp ss vs ∷ fs) v = tt
 ended_late P setting spot (frames.Named ss ms s ∷ fs) v = tt
 ended_late P setting spot (frames.Fields ss ms ∷ fs) v = tt
 
-resolved_late : (P : Reading → Type 0) (r : Result (Option (List ℕ)) Reason) (f : Option (List ℕ) → Turn) → ((s : Option (List ℕ)) → TurnLate P (f s)) → TurnLate P (resolved r f)
+resolved_late : (P : Reading → Type 0) (r : Result (Option (List ℕ)) Reason) (f : Option (List ℕ) → Turn) → ((s : Option (List ℕ)) → TurnLate P (f s))
+    → TurnLate P (resolved r f)
 resolved_late P (Ok s) f h = h s
 resolved_late P (Err e) f h = tt
 
@@ -205,31 +210,39 @@ module _ (g : Catalog) (l : Limits) where
   ready_late spot fs ss (Blob w) = ended_late (LateAs (Blob w)) (under g l) spot fs _
   ready_late spot fs ss (Mark' marks.ListOpen) = go (nat_lt (length fs) l.depth)
     where
-      go : (b : Bool) → TurnLate (LateAs (Mark' marks.ListOpen)) (if b then goes (at spot.start spot.context (frames.List ss [] ∷ fs) [] nows.Ready) else refuses reasons.Depth)
+      go : (b : Bool) → TurnLate (LateAs (Mark' marks.ListOpen))
+          (if b then goes (at spot.start spot.context (frames.List ss [] ∷ fs) [] nows.Ready) else refuses reasons.Depth)
       go true = tt
       go false = tt
   ready_late spot fs ss (Mark' marks.SexpOpen) = go (nat_lt (length fs) l.depth)
     where
-      go : (b : Bool) → TurnLate (LateAs (Mark' marks.SexpOpen)) (if b then goes (at spot.start spot.context (frames.Sexp ss [] ∷ fs) [] nows.Ready) else refuses reasons.Depth)
+      go : (b : Bool) → TurnLate (LateAs (Mark' marks.SexpOpen))
+          (if b then goes (at spot.start spot.context (frames.Sexp ss [] ∷ fs) [] nows.Ready) else refuses reasons.Depth)
       go true = tt
       go false = tt
   ready_late spot fs ss (Mark' marks.FieldsOpen) = go (nat_lt (length fs) l.depth) refl
     where
-      inside : (fs : List Frame) → nat_lt (length fs) l.depth ≡ false → LateAs (Mark' marks.FieldsOpen) (at spot.start spot.context (frames.Fields ss [] ∷ fs) [] nows.Name)
+      inside : (fs : List Frame) → nat_lt (length fs) l.depth ≡ false
+          → LateAs (Mark' marks.FieldsOpen) (at spot.start spot.context (frames.Fields ss [] ∷ fs) [] nows.Name)
       inside [] e = absurd (let n : true ≡ false = sym some_level ∙ e in cc)
       inside (f ∷ fs) e = in_struct tt spot.start spot.context ss f fs
 
-      go : (b : Bool) → nat_lt (length fs) l.depth ≡ b → TurnLate (LateAs (Mark' marks.FieldsOpen)) (if b then goes (at spot.start spot.context (frames.Fields ss [] ∷ fs) [] nows.Name) else late reasons.Depth (at spot.start spot.context (frames.Fields ss [] ∷ fs) [] nows.Name))
+      go : (b : Bool) → nat_lt (length fs) l.depth ≡ b → TurnLate (LateAs (Mark' marks.FieldsOpen))
+          (if b then goes (at spot.start spot.context (frames.Fields ss [] ∷ fs) [] nows.Name) else late reasons.Depth
+          (at spot.start spot.context (frames.Fields ss [] ∷ fs) [] nows.Name))
       go true e = tt
       go false e = inside fs e
-  ready_late spot fs ss (Mark' marks.ListClose) = bare_late (LateAs (Mark' marks.ListClose)) ss _ (list_late (LateAs (Mark' marks.ListClose)) (under g l) spot fs)
-  ready_late spot fs ss (Mark' marks.SexpClose) = bare_late (LateAs (Mark' marks.SexpClose)) ss _ (sexp_late (LateAs (Mark' marks.SexpClose)) (under g l) spot fs)
+  ready_late spot fs ss (Mark' marks.ListClose) = bare_late (LateAs (Mark' marks.ListClose)) ss _
+      (list_late (LateAs (Mark' marks.ListClose)) (under g l) spot fs)
+  ready_late spot fs ss (Mark' marks.SexpClose) = bare_late (LateAs (Mark' marks.SexpClose)) ss _
+      (sexp_late (LateAs (Mark' marks.SexpClose)) (under g l) spot fs)
   ready_late spot fs ss (Mark' marks.FieldsClose) = tt
   ready_late spot fs ss (Mark' marks.Comma) = tt
   ready_late spot fs ss (Mark' marks.Colon) = tt
   ready_late spot fs ss (Mark' marks.Colons) = tt
 
-  noted_late : (start : ℕ) (c : List Slot) (fs : List Frame) (ss : Symbols) (r : Result (Option (List ℕ)) Reason) → TurnLate (LateAs (Mark' marks.Colons)) (noted start c fs ss r)
+  noted_late : (start : ℕ) (c : List Slot) (fs : List Frame) (ss : Symbols) (r : Result (Option (List ℕ)) Reason)
+      → TurnLate (LateAs (Mark' marks.Colons)) (noted start c fs ss r)
   noted_late start c fs ss (Ok s) = tt
   noted_late start c fs ss (Err e) = behind_colons (at start c fs (ss ++ None ∷ []) nows.Ready) refl
 
@@ -249,7 +262,8 @@ module _ (g : Catalog) (l : Limits) where
   name_late : (spot : Spot) (fs : List Frame) (x : Content) → TurnLate (LateAs x) (on_name (under g l) spot fs x)
   name_late spot fs (Word w) = go (is_keyword w)
     where
-      go : (b : Bool) → TurnLate (LateAs (Word w)) (if b then late reasons.KeywordAsName (keyed spot.start spot.context fs (Some w)) else goes (keyed spot.start spot.context fs (Some w)))
+      go : (b : Bool) → TurnLate (LateAs (Word w)) (if b then late reasons.KeywordAsName (keyed spot.start spot.context fs (Some w)) else goes
+          (keyed spot.start spot.context fs (Some w)))
       go true = behind_name tt spot.start spot.context fs [] (Some w)
       go false = tt
   name_late spot fs (TypedNull k) = behind_name tt spot.start spot.context fs [] None
@@ -296,7 +310,9 @@ module _ (g : Catalog) (l : Limits) where
   -- 4. What comes of the octet there.
 
   -- an octet that is used at the scanner
-  used_quiet : (again : State → Effect) (p : Place) (s : Known) (o : ℕ) (r : Reading) → ((y : Lexeme) (t : Known) → feed p s o ≡ Given y t → (c : Content) → said y.kind y.octets ≡ Ok c → NotLate (behind_given l t (turn g l r (token_of y c))))
+  used_quiet : (again : State → Effect) (p : Place) (s : Known) (o : ℕ) (r : Reading)
+      → ((y : Lexeme) (t : Known) → feed p s o ≡ Given y t → (c : Content) → said y.kind y.octets ≡ Ok c
+      → NotLate (behind_given l t (turn g l r (token_of y c))))
       → (x : Outcome) → feed p s o ≡ x → IsUsed x → NotLate (on_scan g l again r x)
   used_quiet again p s o r f (Next t) e u = noticed_quiet l r t
   used_quiet again p s o r f (Given y t) e u = said_quiet y.kind y.octets (λ c. behind_given l t (turn g l r (token_of y c))) (f y t e)
@@ -319,12 +335,14 @@ module _ (g : Catalog) (l : Limits) where
   named_quiet t start c (frames.Named ss ms y ∷ fs) s = λ i. i
   named_quiet t start c [] s = λ i. i
 
-  keyed_given : (t : Known) (start : ℕ) (c : List Slot) (fs : List Frame) (s : Option (List ℕ)) (x : Content) → NotLate (behind_given l t (on_keyed start c fs s x))
+  keyed_given : (t : Known) (start : ℕ) (c : List Slot) (fs : List Frame) (s : Option (List ℕ)) (x : Content)
+      → NotLate (behind_given l t (on_keyed start c fs s x))
   keyed_given t start c fs s (Mark' marks.Colon) = named_quiet t start c fs s
   keyed_given t start c fs s _ = λ i. i
 
   -- behind a name
-  name_quiet : (n : ℕ) (s : Known) (o start : ℕ) (c : List Slot) (fs : List Frame) (ss : Symbols) (k : Option (List ℕ)) → UsedHere s o → NotLate (takes g l n (with_scan s (at start c fs ss (nows.Keyed k))) o)
+  name_quiet : (n : ℕ) (s : Known) (o start : ℕ) (c : List Slot) (fs : List Frame) (ss : Symbols) (k : Option (List ℕ)) → UsedHere s o
+      → NotLate (takes g l n (with_scan s (at start c fs ss (nows.Keyed k))) o)
   name_quiet zero s o start c fs ss k once = λ i. i
   name_quiet (suc n) s o start c fs ss k once =
       let r = at start c fs ss (nows.Keyed k) in
@@ -334,10 +352,12 @@ module _ (g : Catalog) (l : Limits) where
   closed_quiet : (t : Known) (spot : Spot) (f : Frame) (fs : List Frame) (v : Value) → NotLate (behind_given l t (ended (under g l) spot (f ∷ fs) v))
   closed_quiet t spot (frames.List ss vs) fs v = noticed_quiet l (at spot.start spot.context (frames.List ss (vs ++ v ∷ []) ∷ fs) [] nows.After) t
   closed_quiet t spot (frames.Sexp ss vs) fs v = noticed_quiet l (at spot.start spot.context (frames.Sexp ss (vs ++ v ∷ []) ∷ fs) [] nows.Ready) t
-  closed_quiet t spot (frames.Named ss ms s) fs v = noticed_quiet l (at spot.start spot.context (frames.Fields ss (ms ++ field_of s v ∷ []) ∷ fs) [] nows.After) t
+  closed_quiet t spot (frames.Named ss ms s) fs v = noticed_quiet l (at spot.start spot.context (frames.Fields ss (ms ++ field_of s v ∷ []) ∷ fs) [] nows.After)
+      t
   closed_quiet t spot (frames.Fields ss ms) fs v = λ i. i
 
-  struct_given : (t : Known) (spot : Spot) (rs : Symbols) (f : Frame) (fs : List Frame) (x : Content) → (BareSaid x → ⊥) → NotLate (behind_given l t (on_name (under g l) spot (frames.Fields rs [] ∷ f ∷ fs) x))
+  struct_given : (t : Known) (spot : Spot) (rs : Symbols) (f : Frame) (fs : List Frame) (x : Content) → (BareSaid x → ⊥)
+      → NotLate (behind_given l t (on_name (under g l) spot (frames.Fields rs [] ∷ f ∷ fs) x))
   struct_given t spot rs f fs (Word w) n = absurd (n tt)
   struct_given t spot rs f fs (Id id) n = absurd (n tt)
   struct_given t spot rs f fs (TypedNull k) n = absurd (n tt)
@@ -352,29 +372,34 @@ module _ (g : Catalog) (l : Limits) where
   GivesNoBare p s o = (y : Lexeme) (t : Known) → feed p s o ≡ Given y t → (c : Content) → said y.kind y.octets ≡ Ok c → BareSaid c → ⊥
 
   -- behind the brace of a struct
-  struct_quiet : (n : ℕ) (s : Known) (o start : ℕ) (c : List Slot) (rs : Symbols) (f : Frame) (fs : List Frame) → UsedHere s o → GivesNoBare places.Name s o → NotLate (takes g l n (with_scan s (at start c (frames.Fields rs [] ∷ f ∷ fs) [] nows.Name)) o)
+  struct_quiet : (n : ℕ) (s : Known) (o start : ℕ) (c : List Slot) (rs : Symbols) (f : Frame) (fs : List Frame) → UsedHere s o → GivesNoBare places.Name s o
+      → NotLate (takes g l n (with_scan s (at start c (frames.Fields rs [] ∷ f ∷ fs) [] nows.Name)) o)
   struct_quiet zero s o start c rs f fs once bare = λ i. i
   struct_quiet (suc n) s o start c rs f fs once bare =
       let r = at start c (frames.Fields rs [] ∷ f ∷ fs) [] nows.Name in
       still_quiet (λ m. takes g l n m o) (with_scan s r) (feed (place r) s o) refl
-      (used_quiet (λ m. takes g l n m o) (place r) s o r (λ y t e x i. struct_given t (spot_at y.end start c) rs f fs x (bare y t e x i)) (feed (place r) s o) refl (once (place r)))
+      (used_quiet (λ m. takes g l n m o) (place r) s o r (λ y t e x i. struct_given t (spot_at y.end start c) rs f fs x (bare y t e x i)) (feed (place r) s o)
+      refl (once (place r)))
 
   -- Where a token that was left is late, no reason of rows comes of the octet.
-  pub late_quiet : (n : ℕ) (s : Known) (o : ℕ) (x : Content) (r : Reading) → LateAs x r → (x ≡ Mark' marks.Colons → ⊥) → (BareSaid x → UsedHere s o) → GivesNoBare places.Name s o → NotLate (takes g l n (with_scan s r) o)
+  pub late_quiet : (n : ℕ) (s : Known) (o : ℕ) (x : Content) (r : Reading) → LateAs x r → (x ≡ Mark' marks.Colons → ⊥) → (BareSaid x → UsedHere s o)
+      → GivesNoBare places.Name s o → NotLate (takes g l n (with_scan s r) o)
   late_quiet n s o x _ (behind_name b start c fs ss k) colons once bare = name_quiet n s o start c fs ss k (once b)
   late_quiet n s o x _ (in_struct b start c rs f fs) colons once bare = struct_quiet n s o start c rs f fs (once b) bare
   late_quiet n s o x r (behind_colons _ e) colons once bare = absurd (colons e)
 
   -- 5. Behind the marker of another version.
 
-  fresh_ended : (t : Known) (start end : ℕ) (c : List Slot) (q : Payload) → NotLate (behind_given l t (ended (under g l) (spot_at end start c) [] (annotated [] q)))
+  fresh_ended : (t : Known) (start end : ℕ) (c : List Slot) (q : Payload)
+      → NotLate (behind_given l t (ended (under g l) (spot_at end start c) [] (annotated [] q)))
   fresh_ended t start end c q = go (nat_le end (start + l.item))
     where
       go : (b : Bool) → NotLate (behind_given l t (if b then gives (annotated [] q) (fresh c) else refuses reasons.ItemTooLong))
       go true = tt
       go false = λ i. i
 
-  fresh_given : (t : Known) (start end : ℕ) (c : List Slot) (x : Content) → (BareSaid x → ⊥) → NotLate (behind_given l t (on_ready (under g l) (spot_at end start c) [] [] x))
+  fresh_given : (t : Known) (start end : ℕ) (c : List Slot) (x : Content) → (BareSaid x → ⊥)
+      → NotLate (behind_given l t (on_ready (under g l) (spot_at end start c) [] [] x))
   fresh_given t start end c (Word w) n = absurd (n tt)
   fresh_given t start end c (Id id) n = absurd (n tt)
   fresh_given t start end c (TypedNull k) n = absurd (n tt)
@@ -386,19 +411,26 @@ module _ (g : Catalog) (l : Limits) where
   fresh_given t start end c (Clob w) n = fresh_ended t start end c (payloads.Clob w)
   fresh_given t start end c (Blob w) n = fresh_ended t start end c (payloads.Blob w)
   fresh_given t start end c (Mark' marks.ListOpen) n =
-      subst (λ b. NotLate (behind_given l t (if b then goes (at start c (frames.List [] [] ∷ []) [] nows.Ready) else refuses reasons.Depth))) (sym some_level) (noticed_quiet l (at start c (frames.List [] [] ∷ []) [] nows.Ready) t)
+      subst (λ b. NotLate (behind_given l t (if b then goes (at start c (frames.List [] [] ∷ []) [] nows.Ready) else refuses reasons.Depth))) (sym some_level)
+      (noticed_quiet l (at start c (frames.List [] [] ∷ []) [] nows.Ready) t)
   fresh_given t start end c (Mark' marks.SexpOpen) n =
-      subst (λ b. NotLate (behind_given l t (if b then goes (at start c (frames.Sexp [] [] ∷ []) [] nows.Ready) else refuses reasons.Depth))) (sym some_level) (noticed_quiet l (at start c (frames.Sexp [] [] ∷ []) [] nows.Ready) t)
+      subst (λ b. NotLate (behind_given l t (if b then goes (at start c (frames.Sexp [] [] ∷ []) [] nows.Ready) else refuses reasons.Depth))) (sym some_level)
+      (noticed_quiet l (at start c (frames.Sexp [] [] ∷ []) [] nows.Ready) t)
   fresh_given t start end c (Mark' marks.FieldsOpen) n = absurd (n tt)
   fresh_given t start end c (Mark' _) n = λ i. i
 
   -- Behind such a marker no reason of rows comes of the octet that shows that it is no annotation.
-  pub version_quiet : (again : State → Effect) (s : Known) (o : ℕ) (c : List Slot) → is_idle s.mode ≡ true → GivesNoBare places.Top s o → (x : Outcome) → feed places.Top s o ≡ x → NotLate (on_scan g l again (fresh c) x)
+  pub version_quiet : (again : State → Effect) (s : Known) (o : ℕ) (c : List Slot) → is_idle s.mode ≡ true → GivesNoBare places.Top s o → (x : Outcome)
+      → feed places.Top s o ≡ x → NotLate (on_scan g l again (fresh c) x)
   version_quiet again s o c idle bare (Next t) e = noticed_quiet l (fresh c) t
-  version_quiet again s o c idle bare (Given y t) e = said_quiet y.kind y.octets (λ x. behind_given l t (turn g l (fresh c) (token_of y x))) (λ x i. fresh_given t y.start y.end c x (bare y t e x i))
-  version_quiet again s o c idle bare (Left y t) e = said_quiet y.kind y.octets (λ x. behind_left again t (turn g l (fresh c) (token_of y x))) (λ x i. by x i (subst (IdleLeft places.Top s.used) e (idle_left places.Top s o idle)))
+  version_quiet again s o c idle bare (Given y t) e = said_quiet y.kind y.octets (λ x. behind_given l t (turn g l (fresh c) (token_of y x)))
+      (λ x i. fresh_given t y.start y.end c x (bare y t e x i))
+  version_quiet again s o c idle bare (Left y t) e = said_quiet y.kind y.octets (λ x. behind_left again t (turn g l (fresh c) (token_of y x)))
+      (λ x i. by x i (subst (IdleLeft places.Top s.used) e (idle_left places.Top s o idle)))
     where
-      by : (x : Content) → said y.kind y.octets ≡ Ok x → IdleLeft places.Top s.used (Left y t) → NotLate (behind_left again t (turn g l (fresh c) (token_of y x)))
-      by x i (inl k) = subst (λ z. NotLate (behind_left again t (turn g l (fresh c) (token_of y z)))) (sym (mark_said y.kind y.octets marks.Colon x k.0 (said_body y.kind y.octets x i))) (λ j. j)
+      by : (x : Content) → said y.kind y.octets ≡ Ok x → IdleLeft places.Top s.used (Left y t)
+          → NotLate (behind_left again t (turn g l (fresh c) (token_of y x)))
+      by x i (inl k) = subst (λ z. NotLate (behind_left again t (turn g l (fresh c) (token_of y z))))
+          (sym (mark_said y.kind y.octets marks.Colon x k.0 (said_body y.kind y.octets x i))) (λ j. j)
       by x i (inr k) = absurd (let n : false ≡ true = k.1 in cc)
   version_quiet again s o c idle bare (Refused n y) e = feed_rowless places.Top s o n y e

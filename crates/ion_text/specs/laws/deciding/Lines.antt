@@ -54,11 +54,24 @@ lexeme_line p colon w r kinds.Word kept (a, b, c, d) = (a, b, begins_line is_wor
 lexeme_line p colon w r kinds.KindName kept (a, b, c) = (a, b, begins_line is_word_octet r refl ∙ c)
 lexeme_line p colon w r kinds.Number kept (a, b, n) = (a, b, record { begun = n.begun; each = n.each; longest = by n.longest })
   where
-    by : (r ≡ []) ⊎ ((begins is_stop r ≡ true) ⊎ (begins_comment r ≡ true)) → (r ++ line ≡ []) ⊎ ((begins is_stop (r ++ line) ≡ true) ⊎ (begins_comment (r ++ line) ≡ true))
+    by : (r ≡ []) ⊎ ((begins is_stop r ≡ true) ⊎ (begins_comment r ≡ true)) → (r ++ line ≡ [])
+        ⊎ ((begins is_stop (r ++ line) ≡ true) ⊎ (begins_comment (r ++ line) ≡ true))
     by (inl e) = inr (inl (subst (λ z. begins is_stop (z ++ line) ≡ true) (sym e) refl))
     by (inr (inl h)) = inr (inl (stop_line r h))
     by (inr (inr h)) = inr (inr (comment_line r ∙ h))
-lexeme_line p colon w r kinds.Operator kept (a, b, n) = (a, b, record { some = n.some; each = n.each; apart = within_line w r ∙ n.apart; longest = by n.longest; no_number = λ e. begins_line is_digit r refl ∙ n.no_number e; no_float = λ e. infinity_line r ∙ n.no_float e })
+lexeme_line p colon w r kinds.Operator kept (a, b, n) = (
+  a,
+  b,
+  record {
+    some = n.some;
+    each = n.each;
+    apart = within_line w r ∙ n.apart;
+    longest =
+        by n.longest;
+    no_number = λ e. begins_line is_digit r refl ∙ n.no_number e;
+    no_float = λ e. infinity_line r ∙ n.no_float e;
+  },
+)
   where
     by : (begins is_operator_octet r ≡ false) ⊎ (begins_comment r ≡ true) → (begins is_operator_octet (r ++ line) ≡ false) ⊎ (begins_comment (r ++ line) ≡ true)
     by (inl h) = inl (begins_line is_operator_octet r refl ∙ h)
@@ -71,7 +84,8 @@ lexeme_line p colon w r kinds.Blob kept h = h
 lexeme_line p colon w r (kinds.Mark m) kept (a, b, c, d) = (a, b, c, mark_line m r d)
 
 -- They end where they did.
-pub lexes_line : (ts : List Placed) (colon : Bool) (before : ℕ) (octets : List ℕ) (after : Bool) (end : ℕ) (rest : List ℕ) → LexesTo colon before octets ts after end rest → LexesTo colon before (octets ++ line) ts after end (rest ++ line)
+pub lexes_line : (ts : List Placed) (colon : Bool) (before : ℕ) (octets : List ℕ) (after : Bool) (end : ℕ) (rest : List ℕ)
+    → LexesTo colon before octets ts after end rest → LexesTo colon before (octets ++ line) ts after end (rest ++ line)
 lexes_line [] colon before octets after end rest (c, b, o) = (c, b, ap (λ z. z ++ line) o)
 lexes_line (t ∷ ts) colon before octets after end rest (q, b, h) = (
   q ++ line,

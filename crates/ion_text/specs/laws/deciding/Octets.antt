@@ -61,22 +61,33 @@ module _ (g : Catalog) (l : Limits) where
   abbrev LateVersion : List Slot → List Frame → Now → Reading → Type 0
   LateVersion c fs now n = (fs ≡ []) × (n ≡ fresh c) × IsPending now
 
-  released_late : (start end : ℕ) (c : List Slot) (fs : List Frame) (ss : Symbols) (h : Held) (now : Now) → IsPending now → TurnLate (LateVersion c fs now) (released (under g l) (spot_at end start c) fs ss h)
+  released_late : (start end : ℕ) (c : List Slot) (fs : List Frame) (ss : Symbols) (h : Held) (now : Now) → IsPending now
+      → TurnLate (LateVersion c fs now) (released (under g l) (spot_at end start c) fs ss h)
   released_late start end c [] [] (helds.Version true s) now i = within_late (LateVersion c [] now) l.item start end (goes (fresh system_slots)) tt
   released_late start end c [] [] (helds.Version false s) now i = (refl, refl, i)
-  released_late start end c [] [] (helds.Symbol s) now i = ended_late (LateVersion c [] now) (under g l) (spot_at end start c) [] (annotated [] (payloads.Symbol s))
+  released_late start end c [] [] (helds.Symbol s) now i =
+      ended_late (LateVersion c [] now) (under g l) (spot_at end start c) [] (annotated [] (payloads.Symbol s))
   released_late start end c [] [] (helds.Null k) now i = ended_late (LateVersion c [] now) (under g l) (spot_at end start c) [] (annotated [] (payloads.Null k))
-  released_late start end c [] [] (helds.Truth b) now i = ended_late (LateVersion c [] now) (under g l) (spot_at end start c) [] (annotated [] (payloads.Truth b))
+  released_late start end c [] [] (helds.Truth b) now i = ended_late (LateVersion c [] now) (under g l) (spot_at end start c) []
+      (annotated [] (payloads.Truth b))
   released_late start end c [] [] helds.Nan now i = tt
-  released_late start end c [] (x ∷ ss) (helds.Version b s) now i = ended_late (LateVersion c [] now) (under g l) (spot_at end start c) [] (annotated (x ∷ ss) (payloads.Symbol s))
-  released_late start end c [] (x ∷ ss) (helds.Symbol s) now i = ended_late (LateVersion c [] now) (under g l) (spot_at end start c) [] (annotated (x ∷ ss) (payloads.Symbol s))
-  released_late start end c [] (x ∷ ss) (helds.Null k) now i = ended_late (LateVersion c [] now) (under g l) (spot_at end start c) [] (annotated (x ∷ ss) (payloads.Null k))
-  released_late start end c [] (x ∷ ss) (helds.Truth b) now i = ended_late (LateVersion c [] now) (under g l) (spot_at end start c) [] (annotated (x ∷ ss) (payloads.Truth b))
+  released_late start end c [] (x ∷ ss) (helds.Version b s) now i =
+      ended_late (LateVersion c [] now) (under g l) (spot_at end start c) [] (annotated (x ∷ ss) (payloads.Symbol s))
+  released_late start end c [] (x ∷ ss) (helds.Symbol s) now i =
+      ended_late (LateVersion c [] now) (under g l) (spot_at end start c) [] (annotated (x ∷ ss) (payloads.Symbol s))
+  released_late start end c [] (x ∷ ss) (helds.Null k) now i =
+      ended_late (LateVersion c [] now) (under g l) (spot_at end start c) [] (annotated (x ∷ ss) (payloads.Null k))
+  released_late start end c [] (x ∷ ss) (helds.Truth b) now i =
+      ended_late (LateVersion c [] now) (under g l) (spot_at end start c) [] (annotated (x ∷ ss) (payloads.Truth b))
   released_late start end c [] (x ∷ ss) helds.Nan now i = tt
-  released_late start end c (f ∷ fs) ss (helds.Version b s) now i = ended_late (LateVersion c (f ∷ fs) now) (under g l) (spot_at end start c) (f ∷ fs) (annotated ss (payloads.Symbol s))
-  released_late start end c (f ∷ fs) ss (helds.Symbol s) now i = ended_late (LateVersion c (f ∷ fs) now) (under g l) (spot_at end start c) (f ∷ fs) (annotated ss (payloads.Symbol s))
-  released_late start end c (f ∷ fs) ss (helds.Null k) now i = ended_late (LateVersion c (f ∷ fs) now) (under g l) (spot_at end start c) (f ∷ fs) (annotated ss (payloads.Null k))
-  released_late start end c (f ∷ fs) ss (helds.Truth b) now i = ended_late (LateVersion c (f ∷ fs) now) (under g l) (spot_at end start c) (f ∷ fs) (annotated ss (payloads.Truth b))
+  released_late start end c (f ∷ fs) ss (helds.Version b s) now i =
+      ended_late (LateVersion c (f ∷ fs) now) (under g l) (spot_at end start c) (f ∷ fs) (annotated ss (payloads.Symbol s))
+  released_late start end c (f ∷ fs) ss (helds.Symbol s) now i =
+      ended_late (LateVersion c (f ∷ fs) now) (under g l) (spot_at end start c) (f ∷ fs) (annotated ss (payloads.Symbol s))
+  released_late start end c (f ∷ fs) ss (helds.Null k) now i =
+      ended_late (LateVersion c (f ∷ fs) now) (under g l) (spot_at end start c) (f ∷ fs) (annotated ss (payloads.Null k))
+  released_late start end c (f ∷ fs) ss (helds.Truth b) now i =
+      ended_late (LateVersion c (f ∷ fs) now) (under g l) (spot_at end start c) (f ∷ fs) (annotated ss (payloads.Truth b))
   released_late start end c (f ∷ fs) ss helds.Nan now i = tt
 
   settled_late : (start : ℕ) (c : List Slot) (fs : List Frame) (ss : Symbols) (now : Now) → TurnLate (LateVersion c fs now) (settle g l (at start c fs ss now))
@@ -138,18 +149,22 @@ module _ (g : Catalog) (l : Limits) where
       WaitsAtTop s r = is_top r.frames ≡ true → Waits g l s r.now
 
       abbrev RowsAgain : ℕ → Type 0
-      RowsAgain n = (s : Known) (r : Reading) (ahead : List ℕ) → Continues (o ∷ []) ahead → Here s r ahead → WaitsAtTop s r → Rows (takes g l n (with_scan s r) o)
+      RowsAgain n = (s : Known) (r : Reading) (ahead : List ℕ) → Continues (o ∷ []) ahead → Here s r ahead → WaitsAtTop s r
+          → Rows (takes g l n (with_scan s r) o)
 
       module _ (n : ℕ) (again : RowsAgain n) (s : Known) (r : Reading) (ahead : List ℕ) (next : Continues (o ∷ []) ahead) (b : Here s r ahead) where
         abbrev ts : List Placed
         ts = b.front ++ b.item
 
-        turned : (x : Lexeme) (c : Content) → said x.kind x.octets ≡ Ok c → Shown (by_octet w) (ts ++ placed (place r) x ∷ []) c → TurnDecided g l (by_octet w) (turn g l r (token_of x c))
+        turned : (x : Lexeme) (c : Content) → said x.kind x.octets ≡ Ok c → Shown (by_octet w) (ts ++ placed (place r) x ∷ []) c
+            → TurnDecided g l (by_octet w) (turn g l r (token_of x c))
         turned x c k shown =
-            token_decided g l (by_octet w) r.context b.front vs b.pieces (placed (place r) x) x.start x.end r.start b.item r.frames r.notes c r.now b.deep b.first b.stands (record { place = refl; body = said_body x.kind x.octets c k })
+            token_decided g l (by_octet w) r.context b.front vs b.pieces (placed (place r) x) x.start x.end r.start b.item r.frames r.notes c r.now b.deep
+            b.first b.stands (record { place = refl; body = said_body x.kind x.octets c k })
             (subst (λ y. Shown (by_octet w) y c) (append_assoc b.front b.item (placed (place r) x ∷ [])) shown)
 
-        given_rows : (x : Lexeme) (s' : Known) → feed (place r) s o ≡ Given x s' → Rows (on_said (said x.kind x.octets) (λ c. behind_given l s' (turn g l r (token_of x c))))
+        given_rows : (x : Lexeme) (s' : Known) → feed (place r) s o ≡ Given x s'
+            → Rows (on_said (said x.kind x.octets) (λ c. behind_given l s' (turn g l r (token_of x c))))
         given_rows x s' e = go (said x.kind x.octets) refl
           where
             by : (t : Turn) → TurnDecided g l (by_octet w) t → Rows (behind_given l s' t)
@@ -160,7 +175,8 @@ module _ (g : Catalog) (l : Limits) where
 
             go : (c : Result Content Reason) → said x.kind x.octets ≡ c → Rows (on_said c (λ c. behind_given l s' (turn g l r (token_of x c))))
             go (Err y) k = λ i. absurd (said_rowless x.kind x.octets y k i)
-            go (Ok c) k = by (turn g l r (token_of x c)) (turned x c k (given_shown (place r) s u ts ahead b.scanned o next x s' (said_passes x.kind x.octets c k) c (said_body x.kind x.octets c k) e))
+            go (Ok c) k = by (turn g l r (token_of x c)) (turned x c k
+                (given_shown (place r) s u ts ahead b.scanned o next x s' (said_passes x.kind x.octets c k) c (said_body x.kind x.octets c k) e))
 
         -- a token that was left
         module _ (x : Lexeme) (s' : Known) (e : feed (place r) s o ≡ Left x s') (c : Content) (k : said x.kind x.octets ≡ Ok c) where
@@ -171,7 +187,8 @@ module _ (g : Catalog) (l : Limits) where
           body = said_body x.kind x.octets c k
 
           no_colons_left : c ≡ Mark' marks.Colons → ⊥
-          no_colons_left f = never (is_colons x.kind) (left_colons (place r) s s' o x b.sane e) (ap is_colons (mark_kind x.kind x.octets marks.Colons (subst (λ y. IsBody x.kind x.octets (Ok y)) f body)))
+          no_colons_left f = never (is_colons x.kind) (left_colons (place r) s s' o x b.sane e)
+              (ap is_colons (mark_kind x.kind x.octets marks.Colons (subst (λ y. IsBody x.kind x.octets (Ok y)) f body)))
 
           once : BareSaid c → UsedHere s' o
           once h = go (subst (Leaving o) e (feed_leaves (place r) s o b.fine)).0
@@ -182,10 +199,13 @@ module _ (g : Catalog) (l : Limits) where
 
           names_bare : GivesNoBare g l places.Name s' o
           names_bare y t f d j h =
-              given_bare places.Name s' u (ts ++ placed (place r) x ∷ []) (o ∷ []) (scanned_left (place r) s u ts ahead b.scanned o next s' x e (said_passes x.kind x.octets c k) places.Name) o ([], refl) y t (said_passes y.kind y.octets d j) f
+              given_bare places.Name s' u (ts ++ placed (place r) x ∷ []) (o ∷ [])
+              (scanned_left (place r) s u ts ahead b.scanned o next s' x e (said_passes x.kind x.octets c k) places.Name) o ([], refl) y t
+              (said_passes y.kind y.octets d j) f
               (said_bare y.kind y.octets d (said_body y.kind y.octets d j) h)
 
-          turned_left : (t : Turn) → TurnDecided g l (by_octet w) t → Reads g l Scanned u vs s' (o ∷ []) (λ m. ApartAt o s' m) t → Leading g l (λ m. is_top m.frames ≡ true → is_idle s'.mode ≡ true) t → TurnLate (LateAs c) t → Rows (behind_left (λ m. takes g l n m o) s' t)
+          turned_left : (t : Turn) → TurnDecided g l (by_octet w) t → Reads g l Scanned u vs s' (o ∷ []) (λ m. ApartAt o s' m) t
+              → Leading g l (λ m. is_top m.frames ≡ true → is_idle s'.mode ≡ true) t → TurnLate (LateAs c) t → Rows (behind_left (λ m. takes g l n m o) s' t)
           turned_left (goes m) d h i y = again s' m (o ∷ []) ([], refl) h (λ top. idle_waits g l s' m.now (i top))
           turned_left (gives v m) d h i y = fresh_waits s' m h.1
           turned_left (refuses z) d h i y = d
@@ -193,13 +213,17 @@ module _ (g : Catalog) (l : Limits) where
 
           left_by : Rows (behind_left (λ m. takes g l n m o) s' (turn g l r (token_of x c)))
           left_by =
-              turned_left (turn g l r (token_of x c)) (turned x c k (left_shown (place r) s u ts ahead b.scanned o next x s' (said_passes x.kind x.octets c k) c body b.sane e))
-              (left_reads g l u vs o s s' r ahead next b x e fine.3 fine c k) (left_idle g l u o vs s s' r x c b.sane b.fine e k) (turn_late g l r (token_of x c))
+              turned_left (turn g l r (token_of x c)) (turned x c k
+              (left_shown (place r) s u ts ahead b.scanned o next x s' (said_passes x.kind x.octets c k) c body b.sane e))
+              (left_reads g l u vs o s s' r ahead next b x e fine.3 fine c k) (left_idle g l u o vs s s' r x c b.sane b.fine e k)
+              (turn_late g l r (token_of x c))
 
-        left_rows : (x : Lexeme) (s' : Known) → feed (place r) s o ≡ Left x s' → Rows (on_said (said x.kind x.octets) (λ c. behind_left (λ m. takes g l n m o) s' (turn g l r (token_of x c))))
+        left_rows : (x : Lexeme) (s' : Known) → feed (place r) s o ≡ Left x s'
+            → Rows (on_said (said x.kind x.octets) (λ c. behind_left (λ m. takes g l n m o) s' (turn g l r (token_of x c))))
         left_rows x s' e = go (said x.kind x.octets) refl
           where
-            go : (c : Result Content Reason) → said x.kind x.octets ≡ c → Rows (on_said c (λ c. behind_left (λ m. takes g l n m o) s' (turn g l r (token_of x c))))
+            go : (c : Result Content Reason) → said x.kind x.octets ≡ c
+                → Rows (on_said c (λ c. behind_left (λ m. takes g l n m o) s' (turn g l r (token_of x c))))
             go (Err y) k = λ i. absurd (said_rowless x.kind x.octets y k i)
             go (Ok c) k = left_by x s' e c k
 
@@ -210,31 +234,39 @@ module _ (g : Catalog) (l : Limits) where
         scan_rows (Refused i y) e = λ j. absurd (feed_rowless (place r) s o i y e j)
 
       -- where it was settled before the octet
-      module _ (n : ℕ) (again : RowsAgain n) (s : Known) (r : Reading) (ahead : List ℕ) (next : Continues (o ∷ []) ahead) (b : Here s r ahead) (wait : WaitsAtTop s r) (open' : unsettled s r (feed (place r) s o) ≡ false) where
+      module _ (n : ℕ) (again : RowsAgain n) (s : Known) (r : Reading) (ahead : List ℕ) (next : Continues (o ∷ []) ahead) (b : Here s r ahead)
+          (wait : WaitsAtTop s r) (open' : unsettled s r (feed (place r) s o) ≡ false) where
         not_waiting : waits r (feed (place r) s o) ≡ false
         not_waiting = (or_parts (waits r (feed (place r) s o)) (in_segment r.now s) open').0
 
         colons : (h : Held) (end : ℕ) → r.now ≡ nows.Pending h end → r.frames ≡ [] → NoColons w (b.front ++ b.item)
         colons h end e top =
             let d : PendingFor r.context r.frames r.notes h b.item = subst (NowStands r.context r.frames r.notes b.item) e b.stands in
-            let last : b.front ++ b.item ≡ (b.front ++ d.before) ++ d.token ∷ [] = ap (λ y. b.front ++ y) d.whole ∙ sym (append_assoc b.front d.before (d.token ∷ [])) in
+            let last : b.front ++ b.item ≡ (b.front ++ d.before) ++ d.token ∷ [] =
+            ap (λ y. b.front ++ y) d.whole ∙ sym (append_assoc b.front d.before (d.token ∷ [])) in
             no_colons (place r) s u (b.front ++ b.item) ahead b.scanned o next (top_place r.frames r.now (ap is_top top))
-            (flag (place r) s u (b.front ++ b.item) ahead b.scanned o next (b.front ++ d.before) d.token last (symbol_colon d.token.place d.token.lexeme.kind d.token.lexeme.octets d.said d.says.body d.named))
+            (flag (place r) s u (b.front ++ b.item) ahead b.scanned o next (b.front ++ d.before) d.token last
+            (symbol_colon d.token.place d.token.lexeme.kind d.token.lexeme.octets d.said d.says.body d.named))
             (subst (Waits g l s) e (wait (ap is_top top))) b.sane (sym (ap (λ m. waits_now (is_top r.frames) m (feed (place r) s o)) e) ∙ not_waiting)
 
         bare : r.frames ≡ [] → GivesNoBare g l places.Top s o
         bare top =
             subst (λ p. GivesNoBare g l p s o) (top_place r.frames r.now (ap is_top top))
-            (λ y t f d j h. given_bare (place r) s u (b.front ++ b.item) ahead b.scanned o next y t (said_passes y.kind y.octets d j) f (said_bare y.kind y.octets d (said_body y.kind y.octets d j) h))
+            (λ y t f d j h. given_bare (place r) s u (b.front ++ b.item) ahead b.scanned o next y t (said_passes y.kind y.octets d j) f
+            (said_bare y.kind y.octets d (said_body y.kind y.octets d j) h))
 
         quiet : (m : Reading) → LateVersion r.context r.frames r.now m → NotLate (on_scan g l (λ k. takes g l n k o) m (feed (place r) s o))
         quiet m (top, is, pending) =
             subst (λ k. NotLate (on_scan g l (λ k. takes g l n k o) k (feed (place r) s o))) (sym is)
-            (version_quiet g l (λ k. takes g l n k o) s o r.context (pending_idle s r.now pending (wait (ap is_top top))) (bare top) (feed (place r) s o) (ap (λ p. feed p s o) (sym (top_place r.frames r.now (ap is_top top)))))
+            (version_quiet g l (λ k. takes g l n k o) s o r.context (pending_idle s r.now pending (wait (ap is_top top))) (bare top) (feed (place r) s o)
+            (ap (λ p. feed p s o) (sym (top_place r.frames r.now (ap is_top top)))))
 
-        by : (t : Turn) → TurnDecided g l (by_octet w) t → Reads g l Scanned u vs s ahead (λ m. ApartAt o s m) t → Leading g l (λ m. (place m ≡ place r) × (is_top m.frames ≡ is_top r.frames)) t → Leading g l (λ m. IsFree g l m.now) t → TurnLate (LateVersion r.context r.frames r.now) t
+        by : (t : Turn) → TurnDecided g l (by_octet w) t → Reads g l Scanned u vs s ahead (λ m. ApartAt o s m) t
+            → Leading g l (λ m. (place m ≡ place r) × (is_top m.frames ≡ is_top r.frames)) t → Leading g l (λ m. IsFree g l m.now) t
+            → TurnLate (LateVersion r.context r.frames r.now) t
             → Rows (on_settled g l (λ k. takes g l n k o) s (feed (place r) s o) t)
-        by (goes m) d h i j y = subst (λ p. Rows (on_scan g l (λ k. takes g l n k o) m (feed p s o))) i.0 (scan_rows n again s m ahead next h (feed (place m) s o) refl)
+        by (goes m) d h i j y = subst (λ p. Rows (on_scan g l (λ k. takes g l n k o) m (feed p s o))) i.0
+            (scan_rows n again s m ahead next h (feed (place m) s o) refl)
         by (gives v m) d h i j y = fresh_waits s m h.1
         by (refuses z) d h i j y = d
         by (late z m) d h i j y = worse_rows z (on_scan g l (λ k. takes g l n k o) m (feed (place r) s o)) d (quiet m y)
@@ -242,13 +274,17 @@ module _ (g : Catalog) (l : Limits) where
         settled_rows : Rows (on_settled g l (λ k. takes g l n k o) s (feed (place r) s o) (settle g l r))
         settled_rows =
             by (settle g l r) (settled_decided g l (by_octet w) r.context b.front vs b.pieces r.start b.item r.frames r.notes r.now b.first b.stands colons)
-            (settled_read g l Scanned u vs s ahead o r.start r.context r.frames r.notes r.now b not_waiting) (settle_same g l r.start r.context r.frames r.notes r.now)
+            (settled_read g l Scanned u vs s ahead o r.start r.context r.frames r.notes r.now b not_waiting)
+            (settle_same g l r.start r.context r.frames r.notes r.now)
             (settle_free g l r.start r.context r.frames r.notes r.now) (settled_late r.start r.context r.frames r.notes r.now)
 
-      octet_rows : (n : ℕ) → RowsAgain n → (s : Known) (r : Reading) (ahead : List ℕ) → Continues (o ∷ []) ahead → Here s r ahead → WaitsAtTop s r → Rows (on_octet g l (λ k. takes g l n k o) (with_scan s r) (feed (place r) s o))
+      octet_rows : (n : ℕ) → RowsAgain n → (s : Known) (r : Reading) (ahead : List ℕ) → Continues (o ∷ []) ahead → Here s r ahead → WaitsAtTop s r
+          → Rows (on_octet g l (λ k. takes g l n k o) (with_scan s r) (feed (place r) s o))
       octet_rows n again s r ahead next b wait = go (unsettled s r (feed (place r) s o)) refl
         where
-          go : (y : Bool) → unsettled s r (feed (place r) s o) ≡ y → Rows (if y then on_scan g l (λ k. takes g l n k o) r (feed (place r) s o) else on_settled g l (λ k. takes g l n k o) s (feed (place r) s o) (settle g l r))
+          go : (y : Bool) → unsettled s r (feed (place r) s o) ≡ y
+              → Rows (if y then on_scan g l (λ k. takes g l n k o) r (feed (place r) s o) else on_settled g l (λ k. takes g l n k o) s (feed (place r) s o)
+              (settle g l r))
           go true e = scan_rows n again s r ahead next b (feed (place r) s o) refl
           go false e = settled_rows n again s r ahead next b wait e
 
@@ -269,9 +305,11 @@ module _ (g : Catalog) (l : Limits) where
     unexpected : reasons.Unexpected ≡ r.reason → HasRow r.reason → Decides g l (u ++ o ∷ []) r.reason
     unexpected e i = absurd (subst HasRow (sym e) i)
 
-    last_rows : (vs : List Value) (n : State) → Stood g l u vs n → Waits g l n.scan n.reading.now → (run_on to (λ n. eats g l n o) (λ n. run g l (to + 1) n []) (eats g l n o)).now ≡ Err r → HasRow r.reason → Decides g l (u ++ o ∷ []) r.reason
+    last_rows : (vs : List Value) (n : State) → Stood g l u vs n → Waits g l n.scan n.reading.now
+        → (run_on to (λ n. eats g l n o) (λ n. run g l (to + 1) n []) (eats g l n o)).now ≡ Err r → HasRow r.reason → Decides g l (u ++ o ∷ []) r.reason
     unfolding reason_in open_at
-    last_rows vs n b wait = by (eats g l n o) (takes_rows u o vs 3 n.scan n.reading [] (o ∷ [], refl) (open_at g l u vs o n.scan n.reading b) (λ top. wait)) (eats_after g l u vs n o b)
+    last_rows vs n b wait = by (eats g l n o) (takes_rows u o vs 3 n.scan n.reading [] (o ∷ [], refl) (open_at g l u vs o n.scan n.reading b) (λ top. wait))
+        (eats_after g l u vs n o b)
       where
         again : (x : Effect) → Rows u o x → (once_more to (λ n. run g l (to + 1) n []) x).now ≡ Err r → HasRow r.reason → Decides g l (u ++ o ∷ []) r.reason
         again (uses m) h e i = absurd cc
@@ -279,15 +317,19 @@ module _ (g : Catalog) (l : Limits) where
         again (leaves v m) h e i = unexpected (ap (reason_in reasons.Unexpected) e) i
         again (fails y) h e i = named_so y (ap (reason_in y) e) h i
 
-        by : (x : Effect) → Rows u o x → After g l u vs o x → (run_on to (λ n. eats g l n o) (λ n. run g l (to + 1) n []) x).now ≡ Err r → HasRow r.reason → Decides g l (u ++ o ∷ []) r.reason
+        by : (x : Effect) → Rows u o x → After g l u vs o x → (run_on to (λ n. eats g l n o) (λ n. run g l (to + 1) n []) x).now ≡ Err r → HasRow r.reason
+            → Decides g l (u ++ o ∷ []) r.reason
         by (uses m) h a e i = absurd cc
         by (tells v m) h a e i = absurd cc
         by (fails y) h a e i = named_so y (ap (reason_in y) e) h i
         by (leaves v m) h a e i = again (eats g l m o) (takes_rows u o (vs ++ v ∷ []) 3 m.scan m.reading a.0 a.1 a.2 (λ top. h)) e i
 
-  ran_rows : (u : List ℕ) (o : ℕ) (r : Refusal) (given : List (Value × ℕ)) (now : Result State Refusal) (n : State) → StoodBehind g l u [] (record { given = given; now = now }) → EndsWaiting g l now → now ≡ Ok n
-      → (run_on (length u) (λ n. eats g l n o) (λ n. run g l (length u + 1) n []) (eats g l n o)).now ≡ Err r → HasRow r.reason → Decides g l (u ++ o ∷ []) r.reason
-  ran_rows u o r given (Ok m) n b wait e = subst (λ k. (run_on (length u) (λ n. eats g l n o) (λ n. run g l (length u + 1) n []) (eats g l k o)).now ≡ Err r → HasRow r.reason → Decides g l (u ++ o ∷ []) r.reason) (let same : m ≡ n = cc in same) (last_rows u o (length u) r (plain given) m b wait)
+  ran_rows : (u : List ℕ) (o : ℕ) (r : Refusal) (given : List (Value × ℕ)) (now : Result State Refusal) (n : State)
+      → StoodBehind g l u [] (record { given = given; now = now }) → EndsWaiting g l now → now ≡ Ok n
+      → (run_on (length u) (λ n. eats g l n o) (λ n. run g l (length u + 1) n []) (eats g l n o)).now ≡ Err r → HasRow r.reason
+      → Decides g l (u ++ o ∷ []) r.reason
+  ran_rows u o r given (Ok m) n b wait e = subst (λ k. (run_on (length u) (λ n. eats g l n o) (λ n. run g l (length u + 1) n []) (eats g l k o)).now ≡ Err r
+      → HasRow r.reason → Decides g l (u ++ o ∷ []) r.reason) (let same : m ≡ n = cc in same) (last_rows u o (length u) r (plain given) m b wait)
   ran_rows u o r given (Err q) n b wait e = absurd cc
 
   -- What is refused for such a reason is a row of the table.
@@ -295,6 +337,9 @@ module _ (g : Catalog) (l : Limits) where
   deciding u r h i =
       let p = stop_of g l u r (refused_run g l u r h) in
       let before = run g l 0 begun p.before in
-      let last : (run g l (length p.before) p.n (p.o ∷ [])).now ≡ Err r = sym (ap (λ (x : Run). x.now) (behind_run g l p.before (p.o ∷ [])) ∙ ap (λ y. (on_now before.given y (λ n. run g l (length p.before) n (p.o ∷ []))).now) p.ran) ∙ p.stopped in
+      let last : (run g l (length p.before) p.n (p.o ∷ [])).now ≡ Err r =
+      sym (ap (λ (x : Run). x.now) (behind_run g l p.before (p.o ∷ []))
+      ∙ ap (λ y. (on_now before.given y (λ n. run g l (length p.before) n (p.o ∷ []))).now) p.ran) ∙ p.stopped in
       subst (λ y. Decides g l y r.reason) (sym (stop_taken g l u r p))
-      (ran_rows p.before p.o r before.given before.now p.n (run_ran g l p.before [] [] 0 begun (begun_stood g l)) (run_waits g l p.before [] [] 0 begun (begun_stood g l) tt) p.ran last i)
+      (ran_rows p.before p.o r before.given before.now p.n (run_ran g l p.before [] [] 0 begun (begun_stood g l))
+      (run_waits g l p.before [] [] 0 begun (begun_stood g l) tt) p.ran last i)

@@ -30,12 +30,15 @@ pub data SeenEnd (g : Catalog) (l : Limits) (u : List ℕ) (e : Reason) : Type 0
   by_waiting : (ts : List Placed) → Pends g l ts e → AwaitsColons u ts → SeenEnd g l u e
 
 module _ (g : Catalog) (l : Limits) where
-  word_seen : (u : List ℕ) (ts : List Placed) (c : List Slot) (ks : List Container) (said : Content) (e : Reason) → Are u ts [] → (h : Comes g l c ks said ts) → BareSaid said → Stops g l ts h.token e → SeenEnd g l u e
-  word_seen u ts c ks said e are h bare s = by_word ts h.token s (subst (λ y. Are u y []) s.is are) (said_bare h.token.lexeme.kind h.token.lexeme.octets said h.says.body bare)
+  word_seen : (u : List ℕ) (ts : List Placed) (c : List Slot) (ks : List Container) (said : Content) (e : Reason) → Are u ts [] → (h : Comes g l c ks said ts)
+      → BareSaid said → Stops g l ts h.token e → SeenEnd g l u e
+  word_seen u ts c ks said e are h bare s = by_word ts h.token s (subst (λ y. Are u y []) s.is are)
+      (said_bare h.token.lexeme.kind h.token.lexeme.octets said h.says.body bare)
 
   pub end_seen : (u : List ℕ) (e : Reason) → EndDecides g l u e → SeenEnd g l u e
   end_seen u _ (no_symbol ts c ks id e shown h fails) = word_seen u ts c ks (Id id) e shown h tt (id_stops g l ts c ks id e h fails)
-  end_seen u _ (keyword_as_name ts c ks said shown h k) = word_seen u ts c (InStruct ∷ ks) said KeywordAsName shown h (keyword_bare said k) (keyword_stops g l ts c ks said h k)
+  end_seen u _ (keyword_as_name ts c ks said shown h k) = word_seen u ts c (InStruct ∷ ks) said KeywordAsName shown h (keyword_bare said k)
+      (keyword_stops g l ts c ks said h k)
   end_seen u _ (keyword_as_annotation ts colons c ks said shown h takes k says) = absurd shown
   end_seen u _ (other_version ts c w shown h none version other) = by_waiting ts (version_pends g l ts c w h none version other) shown
   end_seen u _ (null_table ts c ss k e shown h table fails) = by_waiting ts (null_pends g l ts c ss k e h table fails) shown
@@ -44,25 +47,38 @@ module _ (g : Catalog) (l : Limits) where
   end_seen u _ (bad_table ts c ss ms e shown h table fails) = absurd shown
 
   -- a line's end shows the word
-  word_line : (u : List ℕ) (ts : List Placed) (t : Placed) (e : Reason) (s : Stops g l ts t e) → Are u (s.front ++ t ∷ []) [] → IsBare t.lexeme.kind → Seen g l (u ++ line) e
+  word_line : (u : List ℕ) (ts : List Placed) (t : Placed) (e : Reason) (s : Stops g l ts t e) → Are u (s.front ++ t ∷ []) [] → IsBare t.lexeme.kind
+      → Seen g l (u ++ line) e
   word_line u ts t e s (c, i, a) bare =
       let are : Are (u ++ line) (s.front ++ t ∷ []) line = (c, i, lexes_line (s.front ++ t ∷ []) false 0 u c i [] a) in
       refused ts t line s are (ended_by_rest g l (u ++ line) s.front t line_feed [] (bare_plain t.lexeme.kind bare) are) (sym (bare_behind t.lexeme.kind bare))
 
   -- what waits has ended
-  waits_ended : (u : List ℕ) (ts : List Placed) (e : Reason) (p : Pends g l ts e) (a : AwaitsColons u ts) → (Are (u ++ line) (p.front ++ p.token ∷ []) (a.rest ++ line)) × HasEnded g l (u ++ line) p.token
+  waits_ended : (u : List ℕ) (ts : List Placed) (e : Reason) (p : Pends g l ts e) (a : AwaitsColons u ts)
+      → (Are (u ++ line) (p.front ++ p.token ∷ []) (a.rest ++ line)) × HasEnded g l (u ++ line) p.token
   waits_ended u ts e p a =
-      let are : Are (u ++ line) (p.front ++ p.token ∷ []) (a.rest ++ line) = (a.are.0, a.are.1, lexes_line (p.front ++ p.token ∷ []) false 0 u a.are.0 a.are.1 a.rest (subst (λ z. LexesTo false 0 u z a.are.0 a.are.1 a.rest) p.is a.are.2)) in
+      let are : Are (u ++ line) (p.front ++ p.token ∷ []) (a.rest ++ line) = (
+        a.are.0,
+        a.are.1,
+        lexes_line (p.front ++ p.token ∷ []) false 0 u a.are.0 a.are.1 a.rest
+            (subst (λ z. LexesTo false 0 u z a.are.0 a.are.1 a.rest) p.is a.are.2),
+      ) in
       (are, ended_by_rest g l (u ++ line) p.front p.token line_feed a.rest p.plain are)
 
   -- `::` doesn't stand behind it
-  none_behind : (u : List ℕ) (ts : List Placed) → AwaitsColons u ts → (x : Placed) (xs ws : List Placed) (rest : List ℕ) → Are u ws rest → ws ≡ ts ++ x ∷ xs → x.lexeme.kind ≡ kinds.Mark marks.Colons → ⊥
-  none_behind u ts a x xs ws rest are i k = a.after (colons_shown u ts x xs a.are.0 are.0 a.are.1 are.1 a.rest rest a.are.2 (subst (λ z. LexesTo false 0 u z are.0 are.1 rest) i are.2) k)
+  none_behind : (u : List ℕ) (ts : List Placed) → AwaitsColons u ts → (x : Placed) (xs ws : List Placed) (rest : List ℕ) → Are u ws rest → ws ≡ ts ++ x ∷ xs
+      → x.lexeme.kind ≡ kinds.Mark marks.Colons → ⊥
+  none_behind u ts a x xs ws rest are i k = a.after (colons_shown u ts x xs a.are.0 are.0 a.are.1 are.1 a.rest rest a.are.2
+      (subst (λ z. LexesTo false 0 u z are.0 are.1 rest) i are.2) k)
 
   -- 2. Two rows that the end shows.
 
-  word_waits : (u : List ℕ) (ts ws : List Placed) (t : Placed) (e f : Reason) (s : Stops g l ts t e) → Are u (s.front ++ t ∷ []) [] → IsBare t.lexeme.kind → (p : Pends g l ws f) → AwaitsColons u ws → ⊥
-  word_waits u ts ws t e f s are bare p a = by (agreed g l (u ++ line) [] s.front p.front t p.token ended s.came p.came (begins_lexed (s.front ++ t ∷ []) false 0 (u ++ line) there.0 there.1 line there.2) (subst (λ z. BeginsLexed false 0 z (p.front ++ p.token ∷ [])) (sym (append-nil (u ++ line))) (begins_lexed (p.front ++ p.token ∷ []) false 0 (u ++ line) other.0 other.1 (a.rest ++ line) other.2)))
+  word_waits : (u : List ℕ) (ts ws : List Placed) (t : Placed) (e f : Reason) (s : Stops g l ts t e) → Are u (s.front ++ t ∷ []) [] → IsBare t.lexeme.kind
+      → (p : Pends g l ws f) → AwaitsColons u ws → ⊥
+  word_waits u ts ws t e f s are bare p a = by (agreed g l (u ++ line) [] s.front p.front t p.token ended s.came p.came
+      (begins_lexed (s.front ++ t ∷ []) false 0 (u ++ line) there.0 there.1 line there.2)
+      (subst (λ z. BeginsLexed false 0 z (p.front ++ p.token ∷ [])) (sym (append-nil (u ++ line)))
+      (begins_lexed (p.front ++ p.token ∷ []) false 0 (u ++ line) other.0 other.1 (a.rest ++ line) other.2)))
     where
       there : Are (u ++ line) (s.front ++ t ∷ []) line
       there = (are.0, are.1, lexes_line (s.front ++ t ∷ []) false 0 u are.0 are.1 [] are.2)
@@ -81,11 +97,15 @@ module _ (g : Catalog) (l : Limits) where
 
       by : Either g l (s.front ++ t ∷ []) (p.front ++ p.token ∷ []) → ⊥
       by (inl (more, i)) = read_on g l u [] ws f p (s.front ++ t ∷ []) more stops i
-      by (inr ([], i)) = read_on g l u [] ws f p (s.front ++ t ∷ []) [] stops (sym (i ∙ append-nil (p.front ++ p.token ∷ [])) ∙ sym (append-nil (s.front ++ t ∷ [])))
+      by (inr ([], i)) = read_on g l u [] ws f p (s.front ++ t ∷ []) [] stops
+          (sym (i ∙ append-nil (p.front ++ p.token ∷ [])) ∙ sym (append-nil (s.front ++ t ∷ [])))
       by (inr (x ∷ xs, i)) = later x xs (i ∙ ap (λ z. z ++ x ∷ xs) (sym p.is))
 
   both_wait : (u : List ℕ) (ts ws : List Placed) (e f : Reason) (p : Pends g l ts e) → AwaitsColons u ts → (q : Pends g l ws f) → AwaitsColons u ws → e ≡ f
-  both_wait u ts ws e f p a q b = by (agreed g l (u ++ line) [] p.front q.front p.token q.token here.1 p.came q.came (begins_lexed (p.front ++ p.token ∷ []) false 0 (u ++ line) here.0.0 here.0.1 (a.rest ++ line) here.0.2) (subst (λ z. BeginsLexed false 0 z (q.front ++ q.token ∷ [])) (sym (append-nil (u ++ line))) (begins_lexed (q.front ++ q.token ∷ []) false 0 (u ++ line) there.0.0 there.0.1 (b.rest ++ line) there.0.2)))
+  both_wait u ts ws e f p a q b = by (agreed g l (u ++ line) [] p.front q.front p.token q.token here.1 p.came q.came
+      (begins_lexed (p.front ++ p.token ∷ []) false 0 (u ++ line) here.0.0 here.0.1 (a.rest ++ line) here.0.2)
+      (subst (λ z. BeginsLexed false 0 z (q.front ++ q.token ∷ [])) (sym (append-nil (u ++ line)))
+      (begins_lexed (q.front ++ q.token ∷ []) false 0 (u ++ line) there.0.0 there.0.1 (b.rest ++ line) there.0.2)))
     where
       here : (Are (u ++ line) (p.front ++ p.token ∷ []) (a.rest ++ line)) × HasEnded g l (u ++ line) p.token
       here = waits_ended u ts e p a
@@ -94,10 +114,12 @@ module _ (g : Catalog) (l : Limits) where
       there = waits_ended u ws f q b
 
       later : (x : Placed) (xs : List Placed) → ws ≡ ts ++ x ∷ xs → ⊥
-      later x xs i = none_behind u ts a x xs ws b.rest b.are i (colons_next g l ts e p x xs q.values (pend g l ws f q) (ap (reads g l (origin g l)) (sym i) ∙ q.read))
+      later x xs i = none_behind u ts a x xs ws b.rest b.are i
+          (colons_next g l ts e p x xs q.values (pend g l ws f q) (ap (reads g l (origin g l)) (sym i) ∙ q.read))
 
       earlier : (x : Placed) (xs : List Placed) → ts ≡ ws ++ x ∷ xs → ⊥
-      earlier x xs i = none_behind u ws b x xs ts a.rest a.are i (colons_next g l ws f q x xs p.values (pend g l ts e p) (ap (reads g l (origin g l)) (sym i) ∙ p.read))
+      earlier x xs i = none_behind u ws b x xs ts a.rest a.are i
+          (colons_next g l ws f q x xs p.values (pend g l ts e p) (ap (reads g l (origin g l)) (sym i) ∙ p.read))
 
       by : Either g l (p.front ++ p.token ∷ []) (q.front ++ q.token ∷ []) → e ≡ f
       by (inl ([], i)) = pends_once g l ts ws e f p q (p.is ∙ (sym (i ∙ append-nil (p.front ++ p.token ∷ [])) ∙ sym q.is))
@@ -106,7 +128,9 @@ module _ (g : Catalog) (l : Limits) where
       by (inr (x ∷ xs, i)) = absurd (earlier x xs (p.is ∙ (i ∙ ap (λ z. z ++ x ∷ xs) (sym q.is))))
 
   ends_met : (u : List ℕ) (e f : Reason) → SeenEnd g l u e → SeenEnd g l u f → e ≡ f
-  ends_met u e f (by_word ts t s are bare) (by_word ws w s' are' bare') = (met g l (u ++ line) [] e f (word_line u ts t e s are bare) (subst (λ z. Seen g l z f) (sym (append-nil (u ++ line))) (word_line u ws w f s' are' bare'))).1
+  ends_met u e f (by_word ts t s are bare) (by_word ws w s' are' bare') =
+      (met g l (u ++ line) [] e f (word_line u ts t e s are bare)
+      (subst (λ z. Seen g l z f) (sym (append-nil (u ++ line))) (word_line u ws w f s' are' bare'))).1
   ends_met u e f (by_word ts t s are bare) (by_waiting ws p a) = absurd (word_waits u ts ws t e f s are bare p a)
   ends_met u e f (by_waiting ws p a) (by_word ts t s are bare) = absurd (word_waits u ts ws t f e s are bare p a)
   ends_met u e f (by_waiting ts p a) (by_waiting ws q b) = both_wait u ts ws e f p a q b
@@ -118,15 +142,20 @@ module _ (g : Catalog) (l : Limits) where
   -- 3. A row that an octet shows, and one that the end shows.
 
   -- `::` didn't stand in fewer octets
-  none_fewer : (u v : List ℕ) (ts : List Placed) (e : Reason) → Pends g l ts e → AwaitsColons (u ++ v) ts → (x : Placed) (xs ws : List Placed) (rest : List ℕ) → Are u ws rest → ws ≡ ts ++ x ∷ xs → x.lexeme.kind ≡ kinds.Mark marks.Colons → ⊥
+  none_fewer : (u v : List ℕ) (ts : List Placed) (e : Reason) → Pends g l ts e → AwaitsColons (u ++ v) ts → (x : Placed) (xs ws : List Placed) (rest : List ℕ)
+      → Are u ws rest → ws ≡ ts ++ x ∷ xs → x.lexeme.kind ≡ kinds.Mark marks.Colons → ⊥
   none_fewer u v ts e p a x xs ws rest are i k =
       let lexes = subst (λ z. LexesTo false 0 u z are.0 are.1 rest) i are.2 in
       let y = parted ts (x ∷ xs) false 0 u are.0 are.1 rest lexes in
-      let same = left_same p.front p.token u v y.flag a.are.0 y.mid a.are.1 y.left a.rest (subst (λ z. LexesTo false 0 u z y.flag y.mid y.left) p.is y.first) (subst (λ z. LexesTo false 0 (u ++ v) z a.are.0 a.are.1 a.rest) p.is a.are.2) in
+      let same = left_same p.front p.token u v y.flag a.are.0 y.mid a.are.1 y.left a.rest (subst (λ z. LexesTo false 0 u z y.flag y.mid y.left) p.is y.first)
+      (subst (λ z. LexesTo false 0 (u ++ v) z a.are.0 a.are.1 a.rest) p.is a.are.2) in
       a.after (subst (BlankThen (codes "::")) same (colons_on y.left v (colons_shown u ts x xs y.flag are.0 y.mid are.1 y.left rest y.first lexes k)))
 
   octet_waits : (u v : List ℕ) (e f : Reason) → Seen g l u f → (ts : List Placed) (p : Pends g l ts e) → AwaitsColons (u ++ v) ts → ⊥
-  octet_waits u v e f (refused ws w left s are ended size) ts p a = by (agreed g l u (v ++ line) s.front p.front w p.token ended s.came p.came (begins_lexed (s.front ++ w ∷ []) false 0 u are.0 are.1 left are.2) (subst (λ z. BeginsLexed false 0 z (p.front ++ p.token ∷ [])) (append_assoc u v line) (begins_lexed (p.front ++ p.token ∷ []) false 0 ((u ++ v) ++ line) all.0 all.1 (a.rest ++ line) all.2)))
+  octet_waits u v e f (refused ws w left s are ended size) ts p a =
+      by (agreed g l u (v ++ line) s.front p.front w p.token ended s.came p.came (begins_lexed (s.front ++ w ∷ []) false 0 u are.0 are.1 left are.2)
+      (subst (λ z. BeginsLexed false 0 z (p.front ++ p.token ∷ [])) (append_assoc u v line)
+      (begins_lexed (p.front ++ p.token ∷ []) false 0 ((u ++ v) ++ line) all.0 all.1 (a.rest ++ line) all.2)))
     where
       all : Are ((u ++ v) ++ line) (p.front ++ p.token ∷ []) (a.rest ++ line)
       all = (waits_ended (u ++ v) ts e p a).0
@@ -139,9 +168,13 @@ module _ (g : Catalog) (l : Limits) where
 
       by : Either g l (s.front ++ w ∷ []) (p.front ++ p.token ∷ []) → ⊥
       by (inl (more, i)) = read_on g l u [] ts e p (s.front ++ w ∷ []) more stops i
-      by (inr ([], i)) = read_on g l u [] ts e p (s.front ++ w ∷ []) [] stops (sym (i ∙ append-nil (p.front ++ p.token ∷ [])) ∙ sym (append-nil (s.front ++ w ∷ [])))
+      by (inr ([], i)) = read_on g l u [] ts e p (s.front ++ w ∷ []) [] stops
+          (sym (i ∙ append-nil (p.front ++ p.token ∷ [])) ∙ sym (append-nil (s.front ++ w ∷ [])))
       by (inr (x ∷ xs, i)) = later x xs (i ∙ ap (λ z. z ++ x ∷ xs) (sym p.is))
-  octet_waits u v e f (unfollowed ws q none) ts p a = by (agreed g l u (v ++ line) q.front p.front q.token p.token ended q.came p.came (begins_lexed (q.front ++ q.token ∷ []) false 0 u there.0 there.1 (none.rest ++ none.o ∷ []) there.2) (subst (λ z. BeginsLexed false 0 z (p.front ++ p.token ∷ [])) (append_assoc u v line) (begins_lexed (p.front ++ p.token ∷ []) false 0 ((u ++ v) ++ line) all.0 all.1 (a.rest ++ line) all.2)))
+  octet_waits u v e f (unfollowed ws q none) ts p a = by (agreed g l u (v ++ line) q.front p.front q.token p.token ended q.came p.came
+      (begins_lexed (q.front ++ q.token ∷ []) false 0 u there.0 there.1 (none.rest ++ none.o ∷ []) there.2)
+      (subst (λ z. BeginsLexed false 0 z (p.front ++ p.token ∷ [])) (append_assoc u v line)
+      (begins_lexed (p.front ++ p.token ∷ []) false 0 ((u ++ v) ++ line) all.0 all.1 (a.rest ++ line) all.2)))
     where
       all : Are ((u ++ v) ++ line) (p.front ++ p.token ∷ []) (a.rest ++ line)
       all = (waits_ended (u ++ v) ts e p a).0
@@ -154,9 +187,11 @@ module _ (g : Catalog) (l : Limits) where
 
       same : ws ≡ ts → ⊥
       same i =
-          let left = left_same q.front q.token u v there.0 a.are.0 there.1 a.are.1 (none.rest ++ none.o ∷ []) a.rest there.2 (subst (λ z. LexesTo false 0 (u ++ v) z a.are.0 a.are.1 a.rest) (sym i ∙ q.is) a.are.2) in
+          let left = left_same q.front q.token u v there.0 a.are.0 there.1 a.are.1 (none.rest ++ none.o ∷ []) a.rest there.2
+          (subst (λ z. LexesTo false 0 (u ++ v) z a.are.0 a.are.1 a.rest) (sym i ∙ q.is) a.are.2) in
           none.after (v ++ a.before.0)
-          (subst (BlankThen (codes "::")) (ap (λ z. z ++ a.before.0) (sym left) ∙ (append_assoc (none.rest ++ none.o ∷ []) v a.before.0 ∙ append_assoc none.rest (none.o ∷ []) (v ++ a.before.0))) a.before.1)
+          (subst (BlankThen (codes "::")) (ap (λ z. z ++ a.before.0) (sym left)
+          ∙ (append_assoc (none.rest ++ none.o ∷ []) v a.before.0 ∙ append_assoc none.rest (none.o ∷ []) (v ++ a.before.0))) a.before.1)
 
       later : (x : Placed) (xs : List Placed) → ts ≡ ws ++ x ∷ xs → ⊥
       later x xs i =
@@ -164,7 +199,8 @@ module _ (g : Catalog) (l : Limits) where
           (colons_next g l ws f q x xs p.values (pend g l ts e p) (ap (reads g l (origin g l)) (sym i) ∙ p.read))
 
       earlier : (x : Placed) (xs : List Placed) → ws ≡ ts ++ x ∷ xs → ⊥
-      earlier x xs i = none_fewer u v ts e p a x xs ws (none.rest ++ none.o ∷ []) none.are i (colons_next g l ts e p x xs q.values (pend g l ws f q) (ap (reads g l (origin g l)) (sym i) ∙ q.read))
+      earlier x xs i = none_fewer u v ts e p a x xs ws (none.rest ++ none.o ∷ []) none.are i
+          (colons_next g l ts e p x xs q.values (pend g l ws f q) (ap (reads g l (origin g l)) (sym i) ∙ q.read))
 
       by : Either g l (q.front ++ q.token ∷ []) (p.front ++ p.token ∷ []) → ⊥
       by (inl ([], i)) = same (q.is ∙ (sym (i ∙ append-nil (q.front ++ q.token ∷ [])) ∙ sym p.is))
@@ -180,4 +216,5 @@ module _ (g : Catalog) (l : Limits) where
 
   -- No octet shows one where the end does.
   pub no_octet : (u : List ℕ) (k : ℕ) (e f : Reason) → Decides g l (take k u) f → EndDecides g l u e → ⊥
-  no_octet u k e f d d' = octet_ends (take k u) (drop k u) e f (seen g l (take k u) f d) (subst (λ z. SeenEnd g l z e) (sym (take-append-drop k u)) (end_seen u e d'))
+  no_octet u k e f d d' = octet_ends (take k u) (drop k u) e f (seen g l (take k u) f d)
+      (subst (λ z. SeenEnd g l z e) (sym (take-append-drop k u)) (end_seen u e d'))

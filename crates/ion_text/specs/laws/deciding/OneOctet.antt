@@ -48,7 +48,8 @@ bare_behind _ h = absurd h
 
 -- the last token is refused, or it waits for `::`, which doesn't follow
 pub data Seen (g : Catalog) (l : Limits) (u : List ℕ) (e : Reason) : Type 0 where
-  refused : (ts : List Placed) (t : Placed) (rest : List ℕ) → (s : Stops g l ts t e) → Are u (s.front ++ t ∷ []) rest → HasEnded g l u t → length rest ≡ behind_kind t.lexeme.kind → Seen g l u e
+  refused : (ts : List Placed) (t : Placed) (rest : List ℕ) → (s : Stops g l ts t e) → Are u (s.front ++ t ∷ []) rest → HasEnded g l u t
+      → length rest ≡ behind_kind t.lexeme.kind → Seen g l u e
   unfollowed : (ts : List Placed) → Pends g l ts e → NoColons u ts → Seen g l u e
 
 pub keyword_bare : (said : Content) → IsKeyword said → BareSaid said
@@ -57,33 +58,43 @@ keyword_bare (TypedNull k) i = tt
 keyword_bare _ k = absurd k
 
 module _ (g : Catalog) (l : Limits) (u : List ℕ) where
-  token_seen : (ts : List Placed) (t : Placed) (e : Reason) (rest : List ℕ) → Are u ts rest → Stops g l ts t e → ((front : List Placed) → Are u (front ++ t ∷ []) rest → HasEnded g l u t) → length rest ≡ behind_kind t.lexeme.kind → Seen g l u e
+  token_seen : (ts : List Placed) (t : Placed) (e : Reason) (rest : List ℕ) → Are u ts rest → Stops g l ts t e
+      → ((front : List Placed) → Are u (front ++ t ∷ []) rest → HasEnded g l u t) → length rest ≡ behind_kind t.lexeme.kind → Seen g l u e
   token_seen ts t e rest are s ended size =
       let all = subst (λ y. Are u y rest) s.is are in
       refused ts t rest s all (ended s.front all) size
 
   -- a word, or the brace of a struct, with the octet behind it
-  bare_seen : (ts : List Placed) (c : List Slot) (ks : List Container) (said : Content) (e : Reason) → (o : ℕ) × Are u ts (o ∷ []) → (h : Comes g l c ks said ts) → BareSaid said → Stops g l ts h.token e → Seen g l u e
+  bare_seen : (ts : List Placed) (c : List Slot) (ks : List Container) (said : Content) (e : Reason) → (o : ℕ) × Are u ts (o ∷ [])
+      → (h : Comes g l c ks said ts) → BareSaid said → Stops g l ts h.token e → Seen g l u e
   bare_seen ts c ks said e (o, are) h bare s =
       token_seen ts h.token e (o ∷ []) are s (λ front all. bare_ended g l u front h.token (place_of ks) said o [] h.says bare all)
       (sym (bare_behind h.token.lexeme.kind (said_bare h.token.lexeme.kind h.token.lexeme.octets said h.says.body bare)))
 
   -- a mark
-  mark_seen : (ts : List Placed) (t : Placed) (p : Place) (x : Mark) (e : Reason) → Are u ts [] → Says p t (Mark' x) → is_closing (kinds.Mark x) ≡ true → (x ≡ marks.Colon → ⊥) → behind_kind (kinds.Mark x) ≡ 0 → Stops g l ts t e → Seen g l u e
+  mark_seen : (ts : List Placed) (t : Placed) (p : Place) (x : Mark) (e : Reason) → Are u ts [] → Says p t (Mark' x) → is_closing (kinds.Mark x) ≡ true
+      → (x ≡ marks.Colon → ⊥) → behind_kind (kinds.Mark x) ≡ 0 → Stops g l ts t e → Seen g l u e
   mark_seen ts t p x e are says closing n none s =
-      token_seen ts t e [] are s (λ front all. mark_ended g l u p t x says closing n) (sym (ap behind_kind (mark_kind t.lexeme.kind t.lexeme.octets x says.body) ∙ none))
+      token_seen ts t e [] are s (λ front all. mark_ended g l u p t x says closing n)
+      (sym (ap behind_kind (mark_kind t.lexeme.kind t.lexeme.octets x says.body) ∙ none))
 
   pub seen : (e : Reason) → Decides g l u e → Seen g l u e
   seen _ (no_symbol ts c ks id e shown h fails) = bare_seen ts c ks (Id id) e shown h tt (id_stops g l ts c ks id e h fails)
-  seen _ (keyword_as_name ts c ks said shown h k) = bare_seen ts c (InStruct ∷ ks) said KeywordAsName shown h (keyword_bare said k) (keyword_stops g l ts c ks said h k)
-  seen _ (keyword_as_annotation ts colons c ks said shown h takes k says) = mark_seen (ts ++ colons ∷ []) colons (place_of ks) marks.Colons KeywordAsName shown says refl (λ e. cc) refl (keyword_note_stops g l ts colons c ks said h takes k says)
+  seen _ (keyword_as_name ts c ks said shown h k) = bare_seen ts c (InStruct ∷ ks) said KeywordAsName shown h (keyword_bare said k)
+      (keyword_stops g l ts c ks said h k)
+  seen _ (keyword_as_annotation ts colons c ks said shown h takes k says) =
+      mark_seen (ts ++ colons ∷ []) colons (place_of ks) marks.Colons KeywordAsName shown says refl (λ e. cc) refl
+      (keyword_note_stops g l ts colons c ks said h takes k says)
   seen _ (other_version ts c w shown h none version other) = unfollowed ts (version_pends g l ts c w h none version other) shown
   seen _ (null_table ts c ss k e shown h table fails) = unfollowed ts (null_pends g l ts c ss k e h table fails) shown
   seen _ (too_deep ts c ks said shown h takes (inl i) deep) =
-      mark_seen ts h.token (place_of ks) marks.ListOpen Depth shown (subst (Says (place_of ks) h.token) i h.says) refl (λ e. cc) refl (open_stops g l c ks said ts h takes marks.ListOpen i tt deep)
+      mark_seen ts h.token (place_of ks) marks.ListOpen Depth shown (subst (Says (place_of ks) h.token) i h.says) refl (λ e. cc) refl
+      (open_stops g l c ks said ts h takes marks.ListOpen i tt deep)
   seen _ (too_deep ts c ks said shown h takes (inr i) deep) =
-      mark_seen ts h.token (place_of ks) marks.SexpOpen Depth shown (subst (Says (place_of ks) h.token) i h.says) refl (λ e. cc) refl (open_stops g l c ks said ts h takes marks.SexpOpen i tt deep)
-  seen _ (struct_too_deep ts c ks shown h takes deep) = bare_seen ts c ks (Mark' marks.FieldsOpen) Depth shown h tt (open_stops g l c ks (Mark' marks.FieldsOpen) ts h takes marks.FieldsOpen refl tt deep)
+      mark_seen ts h.token (place_of ks) marks.SexpOpen Depth shown (subst (Says (place_of ks) h.token) i h.says) refl (λ e. cc) refl
+      (open_stops g l c ks said ts h takes marks.SexpOpen i tt deep)
+  seen _ (struct_too_deep ts c ks shown h takes deep) = bare_seen ts c ks (Mark' marks.FieldsOpen) Depth shown h tt
+      (open_stops g l c ks (Mark' marks.FieldsOpen) ts h takes marks.FieldsOpen refl tt deep)
   seen _ (bad_table ts c ss ms e shown h table fails) =
       let s = table_stops g l ts c ss ms e h table fails in
       mark_seen ts s.close (close_place s.more) marks.FieldsClose e shown s.closes refl (λ e. cc) refl s.at_close
@@ -91,7 +102,8 @@ module _ (g : Catalog) (l : Limits) (u : List ℕ) where
 -- 2. Octets behind tokens.
 
 -- what is left behind the same tokens
-pub left_same : (ts : List Placed) (t : Placed) (u v : List ℕ) (c d : Bool) (e f : ℕ) (rest left : List ℕ) → LexesTo false 0 u (ts ++ t ∷ []) c e rest → LexesTo false 0 (u ++ v) (ts ++ t ∷ []) d f left → rest ++ v ≡ left
+pub left_same : (ts : List Placed) (t : Placed) (u v : List ℕ) (c d : Bool) (e f : ℕ) (rest left : List ℕ) → LexesTo false 0 u (ts ++ t ∷ []) c e rest
+    → LexesTo false 0 (u ++ v) (ts ++ t ∷ []) d f left → rest ++ v ≡ left
 left_same ts t u v c d e f rest left a b =
     let x = lexed_front (ts ++ t ∷ []) false 0 u c e rest a in
     let y = lexed_front (ts ++ t ∷ []) false 0 (u ++ v) d f left b in
@@ -106,12 +118,15 @@ module _ (g : Catalog) (l : Limits) where
   -- 3. Tokens behind those of a row.
 
   -- behind a token that is refused none is read
-  beyond : (ts : List Placed) → reads g l (origin g l) ts ≡ stopped → (front : List Placed) (p : Place) → Came g l front p → (more : List Placed) → front ≡ ts ++ more → ⊥
+  beyond : (ts : List Placed) → reads g l (origin g l) ts ≡ stopped → (front : List Placed) (p : Place) → Came g l front p → (more : List Placed)
+      → front ≡ ts ++ more → ⊥
   beyond ts stops front p came more e =
-      let never : walked came.values came.now ≡ stopped = sym came.read ∙ (ap (reads g l (origin g l)) e ∙ (reads-append g l ts more (origin g l) ∙ ap (λ y. then_walk y (λ k. reads g l k more)) stops)) in
+      let never : walked came.values came.now ≡ stopped = sym came.read
+      ∙ (ap (reads g l (origin g l)) e ∙ (reads-append g l ts more (origin g l) ∙ ap (λ y. then_walk y (λ k. reads g l k more)) stops)) in
       cc
 
-  stops_beyond : (ts : List Placed) → reads g l (origin g l) ts ≡ stopped → (front : List Placed) (t x : Placed) (xs : List Placed) → Came g l front t.place → front ++ t ∷ [] ≡ ts ++ x ∷ xs → ⊥
+  stops_beyond : (ts : List Placed) → reads g l (origin g l) ts ≡ stopped → (front : List Placed) (t x : Placed) (xs : List Placed) → Came g l front t.place
+      → front ++ t ∷ [] ≡ ts ++ x ∷ xs → ⊥
   stops_beyond ts stops front t x xs came e = by (split front t ts x xs e)
     where
       by : ((front ≡ ts) × (t ≡ x)) ⊎ ((more : List Placed) × (front ≡ ts ++ x ∷ more)) → ⊥
@@ -119,7 +134,8 @@ module _ (g : Catalog) (l : Limits) where
       by (inr (more, i)) = beyond ts stops front t.place came (x ∷ more) i
 
   -- behind one that waits `::` is
-  pub pends_beyond : (ts : List Placed) (e f : Reason) (p : Pends g l ts e) (front : List Placed) (t x : Placed) (xs : List Placed) → Came g l front t.place → Why g l front t f → front ++ t ∷ [] ≡ ts ++ x ∷ xs → x.lexeme.kind ≡ kinds.Mark marks.Colons
+  pub pends_beyond : (ts : List Placed) (e f : Reason) (p : Pends g l ts e) (front : List Placed) (t x : Placed) (xs : List Placed) → Came g l front t.place
+      → Why g l front t f → front ++ t ∷ [] ≡ ts ++ x ∷ xs → x.lexeme.kind ≡ kinds.Mark marks.Colons
   pends_beyond ts e f p front t x xs came why cut = by (split front t ts x xs cut) why
     where
       by : ((front ≡ ts) × (t ≡ x)) ⊎ ((more : List Placed) × (front ≡ ts ++ x ∷ more)) → Why g l front t f → x.lexeme.kind ≡ kinds.Mark marks.Colons
@@ -141,18 +157,26 @@ module _ (g : Catalog) (l : Limits) where
 
   module _ (u v : List ℕ) where
     -- where `::` doesn't follow it doesn't in more octets
-    pub none_later : (ts : List Placed) (e : Reason) (p : Pends g l ts e) → NoColons u ts → (x : Placed) (xs : List Placed) (d : Bool) (f : ℕ) (left : List ℕ) → LexesTo false 0 (u ++ v) (ts ++ x ∷ xs) d f left → x.lexeme.kind ≡ kinds.Mark marks.Colons → ⊥
+    pub none_later : (ts : List Placed) (e : Reason) (p : Pends g l ts e) → NoColons u ts → (x : Placed) (xs : List Placed) (d : Bool) (f : ℕ) (left : List ℕ)
+        → LexesTo false 0 (u ++ v) (ts ++ x ∷ xs) d f left → x.lexeme.kind ≡ kinds.Mark marks.Colons → ⊥
     none_later ts e p none x xs d f left lexes k =
         let y = parted ts (x ∷ xs) false 0 (u ++ v) d f left lexes in
-        let same = left_same p.front p.token u v none.are.0 y.flag none.are.1 y.mid (none.rest ++ none.o ∷ []) y.left (subst (λ z. LexesTo false 0 u z none.are.0 none.are.1 (none.rest ++ none.o ∷ [])) p.is none.are.2) (subst (λ z. LexesTo false 0 (u ++ v) z y.flag y.mid y.left) p.is y.first) in
+        let same = left_same p.front p.token u v none.are.0 y.flag none.are.1 y.mid (none.rest ++ none.o ∷ []) y.left
+        (subst (λ z. LexesTo false 0 u z none.are.0 none.are.1 (none.rest ++ none.o ∷ [])) p.is none.are.2)
+        (subst (λ z. LexesTo false 0 (u ++ v) z y.flag y.mid y.left) p.is y.first) in
         none.after v
-        (subst (BlankThen (codes "::")) (sym same ∙ append_assoc none.rest (none.o ∷ []) v) (colons_shown (u ++ v) ts x xs y.flag d y.mid f y.left left y.first lexes k))
+        (subst (BlankThen (codes "::")) (sym same ∙ append_assoc none.rest (none.o ∷ []) v)
+        (colons_shown (u ++ v) ts x xs y.flag d y.mid f y.left left y.first lexes k))
 
     -- nor did it in fewer
-    none_before : (ts : List Placed) (e : Reason) (p : Pends g l ts e) → NoColons (u ++ v) ts → (x : Placed) (xs : List Placed) (d : Bool) (f : ℕ) (left : List ℕ) → LexesTo false 0 u (ts ++ x ∷ xs) d f left → x.lexeme.kind ≡ kinds.Mark marks.Colons → ⊥
+    none_before : (ts : List Placed) (e : Reason) (p : Pends g l ts e) → NoColons (u ++ v) ts
+        → (x : Placed) (xs : List Placed) (d : Bool) (f : ℕ) (left : List ℕ) → LexesTo false 0 u (ts ++ x ∷ xs) d f left
+        → x.lexeme.kind ≡ kinds.Mark marks.Colons → ⊥
     none_before ts e p none x xs d f left lexes k =
         let y = parted ts (x ∷ xs) false 0 u d f left lexes in
-        let same = left_same p.front p.token u v y.flag none.are.0 y.mid none.are.1 y.left (none.rest ++ none.o ∷ []) (subst (λ z. LexesTo false 0 u z y.flag y.mid y.left) p.is y.first) (subst (λ z. LexesTo false 0 (u ++ v) z none.are.0 none.are.1 (none.rest ++ none.o ∷ [])) p.is none.are.2) in
+        let same = left_same p.front p.token u v y.flag none.are.0 y.mid none.are.1 y.left (none.rest ++ none.o ∷ [])
+        (subst (λ z. LexesTo false 0 u z y.flag y.mid y.left) p.is y.first)
+        (subst (λ z. LexesTo false 0 (u ++ v) z none.are.0 none.are.1 (none.rest ++ none.o ∷ [])) p.is none.are.2) in
         none.after [] (subst (BlankThen (codes "::")) same (colons_on y.left v (colons_shown u ts x xs y.flag d y.mid f y.left left y.first lexes k)))
 
     -- the same octets, for one reason
@@ -164,18 +188,22 @@ module _ (g : Catalog) (l : Limits) where
     shown_once ts e p a b = go (eq-zero-or-pos (length v))
       where
         same : (a.rest ++ a.o ∷ []) ++ v ≡ b.rest ++ b.o ∷ []
-        same = left_same p.front p.token u v a.are.0 b.are.0 a.are.1 b.are.1 (a.rest ++ a.o ∷ []) (b.rest ++ b.o ∷ []) (subst (λ z. LexesTo false 0 u z a.are.0 a.are.1 (a.rest ++ a.o ∷ [])) p.is a.are.2) (subst (λ z. LexesTo false 0 (u ++ v) z b.are.0 b.are.1 (b.rest ++ b.o ∷ [])) p.is b.are.2)
+        same = left_same p.front p.token u v a.are.0 b.are.0 a.are.1 b.are.1 (a.rest ++ a.o ∷ []) (b.rest ++ b.o ∷ [])
+            (subst (λ z. LexesTo false 0 u z a.are.0 a.are.1 (a.rest ++ a.o ∷ [])) p.is a.are.2)
+            (subst (λ z. LexesTo false 0 (u ++ v) z b.are.0 b.are.1 (b.rest ++ b.o ∷ [])) p.is b.are.2)
 
         behind_it : (y : List ℕ) → b.rest ≡ (a.rest ++ a.o ∷ []) ++ y → ⊥
         behind_it y e =
             a.after (y ++ b.before.0)
-            (subst (BlankThen (codes "::")) (ap (λ z. z ++ b.before.0) e ∙ (append_assoc (a.rest ++ a.o ∷ []) y b.before.0 ∙ append_assoc a.rest (a.o ∷ []) (y ++ b.before.0))) b.before.1)
+            (subst (BlankThen (codes "::")) (ap (λ z. z ++ b.before.0) e
+            ∙ (append_assoc (a.rest ++ a.o ∷ []) y b.before.0 ∙ append_assoc a.rest (a.o ∷ []) (y ++ b.before.0))) b.before.1)
 
         none : 0 < length v → (z : List ℕ) → length z + length v ≡ 1 → z ≡ []
         none some [] e = refl
         none some (x ∷ z) e = absurd (omega (arith, e, some))
 
-        by : 0 < length v → ((y : List ℕ) × (b.rest ≡ (a.rest ++ a.o ∷ []) ++ y) × (y ++ b.o ∷ [] ≡ v)) ⊎ ((z : List ℕ) × (a.rest ++ a.o ∷ [] ≡ b.rest ++ z) × (z ++ v ≡ b.o ∷ [])) → ⊥
+        by : 0 < length v → ((y : List ℕ) × (b.rest ≡ (a.rest ++ a.o ∷ []) ++ y) × (y ++ b.o ∷ [] ≡ v))
+            ⊎ ((z : List ℕ) × (a.rest ++ a.o ∷ [] ≡ b.rest ++ z) × (z ++ v ≡ b.o ∷ [])) → ⊥
         by some (inl (y, e, f)) = behind_it y e
         by some (inr (z, e, f)) =
             let n = none some z (omega (arith, ap length f, length-append z v)) in
@@ -186,7 +214,8 @@ module _ (g : Catalog) (l : Limits) where
         go (inr some) = absurd (by some (parts_meet b.rest (b.o ∷ []) (a.rest ++ a.o ∷ []) v (sym same)))
 
     -- the same tokens, of which the last one is refused
-    refused_once : (front back : List Placed) (t w : Placed) (e f : Reason) (rest left : List ℕ) → Are u (front ++ t ∷ []) rest → Are (u ++ v) (back ++ w ∷ []) left → length rest ≡ behind_kind t.lexeme.kind → length left ≡ behind_kind w.lexeme.kind
+    refused_once : (front back : List Placed) (t w : Placed) (e f : Reason) (rest left : List ℕ) → Are u (front ++ t ∷ []) rest
+        → Are (u ++ v) (back ++ w ∷ []) left → length rest ≡ behind_kind t.lexeme.kind → length left ≡ behind_kind w.lexeme.kind
         → Came g l front t.place → Why g l front t e → Why g l back w f → front ++ t ∷ [] ≡ back ++ w ∷ [] → AtOneOctet e f
     refused_once front back t w e f rest left (c, i, a) (d, j, b) m n came why why' same = by (split front t back w [] same)
       where
@@ -224,9 +253,12 @@ module _ (g : Catalog) (l : Limits) where
     stops_so ts t e s = ap (reads g l (origin g l)) (sym s.is) ∙ s.stops
 
     -- no token is refused among those that are read
-    pub read_on : (ts : List Placed) (e : Reason) (p : Pends g l ts e) (front more : List Placed) → reads g l (origin g l) front ≡ stopped → p.front ++ p.token ∷ [] ≡ front ++ more → ⊥
+    pub read_on : (ts : List Placed) (e : Reason) (p : Pends g l ts e) (front more : List Placed) → reads g l (origin g l) front ≡ stopped
+        → p.front ++ p.token ∷ [] ≡ front ++ more → ⊥
     read_on ts e p front more stops cut =
-        let never : walked p.values (pend g l ts e p) ≡ stopped = sym p.read ∙ (ap (reads g l (origin g l)) (p.is ∙ cut) ∙ (reads-append g l front more (origin g l) ∙ ap (λ y. then_walk y (λ k. reads g l k more)) stops)) in
+        let never : walked p.values (pend g l ts e p) ≡ stopped =
+        sym p.read ∙ (ap (reads g l (origin g l)) (p.is ∙ cut)
+        ∙ (reads-append g l front more (origin g l) ∙ ap (λ y. then_walk y (λ k. reads g l k more)) stops)) in
         cc
 
     waited_ended : (ts : List Placed) (e : Reason) (p : Pends g l ts e) → NoColons u ts → HasEnded g l u p.token
@@ -234,7 +266,8 @@ module _ (g : Catalog) (l : Limits) where
 
     pub met : (e f : Reason) → Seen g l u e → Seen g l (u ++ v) f → AtOneOctet e f
     met e f (refused ts t rest s are ended size) (refused ws w left s' are' ended' size') =
-        by (agreed g l u v s.front s'.front t w ended s.came s'.came (lexes_front (s.front ++ t ∷ []) u rest are) (lexes_front (s'.front ++ w ∷ []) (u ++ v) left are'))
+        by (agreed g l u v s.front s'.front t w ended s.came s'.came (lexes_front (s.front ++ t ∷ []) u rest are)
+        (lexes_front (s'.front ++ w ∷ []) (u ++ v) left are'))
       where
         same : s.front ++ t ∷ [] ≡ s'.front ++ w ∷ [] → AtOneOctet e f
         same = refused_once s.front s'.front t w e f rest left are are' size size' s.came s.why s'.why
@@ -245,39 +278,49 @@ module _ (g : Catalog) (l : Limits) where
         by (inr ([], i)) = same (i ∙ append-nil (s'.front ++ w ∷ []))
         by (inr (x ∷ xs, i)) = absurd (stops_beyond (s'.front ++ w ∷ []) (stops_so ws w f s') s.front t x xs s.came i)
     met e f (refused ts t rest s are ended size) (unfollowed ws p none) =
-        absurd (by (agreed g l u v s.front p.front t p.token ended s.came p.came (lexes_front (s.front ++ t ∷ []) u rest are) (subst (BeginsLexed false 0 (u ++ v)) p.is (lexes_front ws (u ++ v) (none.rest ++ none.o ∷ []) none.are))))
+        absurd (by (agreed g l u v s.front p.front t p.token ended s.came p.came (lexes_front (s.front ++ t ∷ []) u rest are)
+        (subst (BeginsLexed false 0 (u ++ v)) p.is (lexes_front ws (u ++ v) (none.rest ++ none.o ∷ []) none.are))))
       where
         later : (x : Placed) (xs : List Placed) → s.front ++ t ∷ [] ≡ ws ++ x ∷ xs → ⊥
-        later x xs i = none_before ws f p none x xs are.0 are.1 rest (subst (λ z. LexesTo false 0 u z are.0 are.1 rest) i are.2) (pends_beyond ws f e p s.front t x xs s.came s.why i)
+        later x xs i = none_before ws f p none x xs are.0 are.1 rest (subst (λ z. LexesTo false 0 u z are.0 are.1 rest) i are.2)
+            (pends_beyond ws f e p s.front t x xs s.came s.why i)
 
         by : Either g l (s.front ++ t ∷ []) (p.front ++ p.token ∷ []) → ⊥
         by (inl (more, i)) = read_on ws f p (s.front ++ t ∷ []) more (stops_so ts t e s) i
-        by (inr ([], i)) = read_on ws f p (s.front ++ t ∷ []) [] (stops_so ts t e s) (sym (i ∙ append-nil (p.front ++ p.token ∷ [])) ∙ sym (append-nil (s.front ++ t ∷ [])))
+        by (inr ([], i)) = read_on ws f p (s.front ++ t ∷ []) [] (stops_so ts t e s)
+            (sym (i ∙ append-nil (p.front ++ p.token ∷ [])) ∙ sym (append-nil (s.front ++ t ∷ [])))
         by (inr (x ∷ xs, i)) = later x xs (i ∙ ap (λ z. z ++ x ∷ xs) (sym p.is))
     met e f (unfollowed ts p none) (refused ws w left s are ended size) =
-        absurd (by (agreed g l u v p.front s.front p.token w (waited_ended ts e p none) p.came s.came (subst (BeginsLexed false 0 u) p.is (lexes_front ts u (none.rest ++ none.o ∷ []) none.are)) (lexes_front (s.front ++ w ∷ []) (u ++ v) left are)))
+        absurd (by (agreed g l u v p.front s.front p.token w (waited_ended ts e p none) p.came s.came
+        (subst (BeginsLexed false 0 u) p.is (lexes_front ts u (none.rest ++ none.o ∷ []) none.are)) (lexes_front (s.front ++ w ∷ []) (u ++ v) left are)))
       where
         later : (x : Placed) (xs : List Placed) → s.front ++ w ∷ [] ≡ ts ++ x ∷ xs → ⊥
-        later x xs i = none_later ts e p none x xs are.0 are.1 left (subst (λ z. LexesTo false 0 (u ++ v) z are.0 are.1 left) i are.2) (pends_beyond ts e f p s.front w x xs s.came s.why i)
+        later x xs i = none_later ts e p none x xs are.0 are.1 left (subst (λ z. LexesTo false 0 (u ++ v) z are.0 are.1 left) i are.2)
+            (pends_beyond ts e f p s.front w x xs s.came s.why i)
 
         by : Either g l (p.front ++ p.token ∷ []) (s.front ++ w ∷ []) → ⊥
-        by (inl ([], i)) = read_on ts e p (s.front ++ w ∷ []) [] (stops_so ws w f s) (sym (i ∙ append-nil (p.front ++ p.token ∷ [])) ∙ sym (append-nil (s.front ++ w ∷ [])))
+        by (inl ([], i)) = read_on ts e p (s.front ++ w ∷ []) [] (stops_so ws w f s)
+            (sym (i ∙ append-nil (p.front ++ p.token ∷ [])) ∙ sym (append-nil (s.front ++ w ∷ [])))
         by (inl (x ∷ xs, i)) = later x xs (i ∙ ap (λ z. z ++ x ∷ xs) (sym p.is))
         by (inr (more, i)) = read_on ts e p (s.front ++ w ∷ []) more (stops_so ws w f s) i
     met e f (unfollowed ts p none) (unfollowed ws q none') =
-        by (agreed g l u v p.front q.front p.token q.token (waited_ended ts e p none) p.came q.came (subst (BeginsLexed false 0 u) p.is (lexes_front ts u (none.rest ++ none.o ∷ []) none.are)) (subst (BeginsLexed false 0 (u ++ v)) q.is (lexes_front ws (u ++ v) (none'.rest ++ none'.o ∷ []) none'.are)))
+        by (agreed g l u v p.front q.front p.token q.token (waited_ended ts e p none) p.came q.came
+        (subst (BeginsLexed false 0 u) p.is (lexes_front ts u (none.rest ++ none.o ∷ []) none.are))
+        (subst (BeginsLexed false 0 (u ++ v)) q.is (lexes_front ws (u ++ v) (none'.rest ++ none'.o ∷ []) none'.are)))
       where
         same : ts ≡ ws → AtOneOctet e f
         same i = (shown_once ts e p none (subst (NoColons (u ++ v)) (sym i) none'), pends_once ts ws e f p q i)
 
         later : (x : Placed) (xs : List Placed) → ws ≡ ts ++ x ∷ xs → ⊥
         later x xs i =
-            none_later ts e p none x xs none'.are.0 none'.are.1 (none'.rest ++ none'.o ∷ []) (subst (λ z. LexesTo false 0 (u ++ v) z none'.are.0 none'.are.1 (none'.rest ++ none'.o ∷ [])) i none'.are.2)
+            none_later ts e p none x xs none'.are.0 none'.are.1 (none'.rest ++ none'.o ∷ [])
+            (subst (λ z. LexesTo false 0 (u ++ v) z none'.are.0 none'.are.1 (none'.rest ++ none'.o ∷ [])) i none'.are.2)
             (colons_next g l ts e p x xs q.values (pend g l ws f q) (ap (reads g l (origin g l)) (sym i) ∙ q.read))
 
         earlier : (x : Placed) (xs : List Placed) → ts ≡ ws ++ x ∷ xs → ⊥
         earlier x xs i =
-            none_before ws f q none' x xs none.are.0 none.are.1 (none.rest ++ none.o ∷ []) (subst (λ z. LexesTo false 0 u z none.are.0 none.are.1 (none.rest ++ none.o ∷ [])) i none.are.2)
+            none_before ws f q none' x xs none.are.0 none.are.1 (none.rest ++ none.o ∷ [])
+            (subst (λ z. LexesTo false 0 u z none.are.0 none.are.1 (none.rest ++ none.o ∷ [])) i none.are.2)
             (colons_next g l ws f q x xs p.values (pend g l ts e p) (ap (reads g l (origin g l)) (sym i) ∙ p.read))
 
         by : Either g l (p.front ++ p.token ∷ []) (q.front ++ q.token ∷ []) → AtOneOctet e f
@@ -288,7 +331,8 @@ module _ (g : Catalog) (l : Limits) where
 
   -- in octets and in more of them
   within : (u : List ℕ) (j k : ℕ) (e f : Reason) → j ≤ k → k ≤ length u → Decides g l (take j u) e → Decides g l (take k u) f → (j ≡ k) × (e ≡ f)
-  within u j k e f less inside d d' = let m = met (take j u) (drop j (take k u)) e f (seen g l (take j u) e d) (subst (λ y. Seen g l y f) cut (seen g l (take k u) f d')) in (omega (arith, m.0, less, size, length-drop j (take k u)), m.1)
+  within u j k e f less inside d d' = let m = met (take j u) (drop j (take k u)) e f (seen g l (take j u) e d)
+      (subst (λ y. Seen g l y f) cut (seen g l (take k u) f d')) in (omega (arith, m.0, less, size, length-drop j (take k u)), m.1)
     where
       size : length (take k u) ≡ k
       size = length-take-le k u inside

@@ -56,7 +56,8 @@ may_note (frames.Sexp ss vs ∷ fs) notes h = tt
 may_note (frames.Fields ss ms ∷ fs) notes h = absurd h
 may_note (frames.Named ss ms s ∷ fs) notes h = tt
 
-pub noted_there : (c : List Slot) (fs : List Frame) (notes : List Placed) (ss : Symbols) → Annotations c (value_place fs) notes ss → Annotations c (place_of (containers fs)) notes ss
+pub noted_there : (c : List Slot) (fs : List Frame) (notes : List Placed) (ss : Symbols) → Annotations c (value_place fs) notes ss
+    → Annotations c (place_of (containers fs)) notes ss
 noted_there c fs notes ss h = subst (λ p. Annotations c p notes ss) (place_same fs) h
 
 pub says_there : (fs : List Frame) (t : Placed) (said : Content) → Says (value_place fs) t said → Says (place_of (containers fs)) t said
@@ -72,20 +73,24 @@ module _ (l : Limits) (c : List Slot) where
   opened_open [] ts d o = subst (Open l c []) (sym o) none_open
   opened_open (frames.List ss vs ∷ fs) ts d o =
       subst (Open l c (InList ∷ containers fs)) (sym o.whole)
-      (list_open (containers fs) o.front o.notes o.body ss o.open' vs (opened_open fs o.front d.1 o.outer) (takes_value fs o.receives) (noted_there c fs o.notes ss o.noted) (says_there fs o.open' (Mark' marks.ListOpen) o.opens) o.items (deeper fs _ d.0))
+      (list_open (containers fs) o.front o.notes o.body ss o.open' vs (opened_open fs o.front d.1 o.outer) (takes_value fs o.receives)
+      (noted_there c fs o.notes ss o.noted) (says_there fs o.open' (Mark' marks.ListOpen) o.opens) o.items (deeper fs _ d.0))
   opened_open (frames.Sexp ss vs ∷ fs) ts d o =
       subst (Open l c (InSexp ∷ containers fs)) (sym o.whole)
-      (sexp_open (containers fs) o.front o.notes o.body ss o.open' vs (opened_open fs o.front d.1 o.outer) (takes_value fs o.receives) (noted_there c fs o.notes ss o.noted) (says_there fs o.open' (Mark' marks.SexpOpen) o.opens) o.items (deeper fs _ d.0))
+      (sexp_open (containers fs) o.front o.notes o.body ss o.open' vs (opened_open fs o.front d.1 o.outer) (takes_value fs o.receives)
+      (noted_there c fs o.notes ss o.noted) (says_there fs o.open' (Mark' marks.SexpOpen) o.opens) o.items (deeper fs _ d.0))
   opened_open (frames.Fields ss ms ∷ fs) ts d o =
       subst (Open l c (InStruct ∷ containers fs)) (sym o.whole)
-      (struct_open (containers fs) o.front o.notes o.body ss o.open' ms (opened_open fs o.front d.1 o.outer) (takes_value fs o.receives) (noted_there c fs o.notes ss o.noted) (says_there fs o.open' (Mark' marks.FieldsOpen) o.opens) o.items (deeper fs _ d.0))
+      (struct_open (containers fs) o.front o.notes o.body ss o.open' ms (opened_open fs o.front d.1 o.outer) (takes_value fs o.receives)
+      (noted_there c fs o.notes ss o.noted) (says_there fs o.open' (Mark' marks.FieldsOpen) o.opens) o.items (deeper fs _ d.0))
   opened_open (frames.Named ss ms s ∷ fs) ts d o =
       let name : List Placed = o.name ++ o.colon ∷ [] in
       let cut : ts ≡ (o.front ++ (o.notes ++ o.open' ∷ o.body)) ++ name =
       o.whole ∙ (ap (λ x. o.front ++ x) (sym (append_assoc o.notes (o.open' ∷ o.body) name)) ∙ sym (append_assoc o.front (o.notes ++ o.open' ∷ o.body) name)) in
       subst (Open l c (InField ∷ containers fs)) (sym cut)
       (named (containers fs) (o.front ++ (o.notes ++ o.open' ∷ o.body)) o.name s o.colon
-      (struct_open (containers fs) o.front o.notes o.body ss o.open' ms (opened_open fs o.front d.1 o.outer) (takes_value fs o.receives) (noted_there c fs o.notes ss o.noted) (says_there fs o.open' (Mark' marks.FieldsOpen) o.opens) o.items (deeper fs _ d.0))
+      (struct_open (containers fs) o.front o.notes o.body ss o.open' ms (opened_open fs o.front d.1 o.outer) (takes_value fs o.receives)
+      (noted_there c fs o.notes ss o.noted) (says_there fs o.open' (Mark' marks.FieldsOpen) o.opens) o.items (deeper fs _ d.0))
       o.named o.colons)
 
 -- the first token stays so
@@ -100,7 +105,8 @@ begins_on a [] us i h = absurd i
 
 module _ (g : Catalog) (l : Limits) (c : List Slot) (front : List Placed) (vs : List Value) (pieces : Pieces g l front vs c) (t : Placed) (said : Content) where
   -- a token comes where a value may begin
-  abbrev pub value_comes : (fs : List Frame) (ss : Symbols) (item : List Placed) → Deep l.depth fs → (ends_long front && begins_as_long item) ≡ false → ReadyFor c fs ss item → Says (value_place fs) t said → Comes g l c (containers fs) said (front ++ (item ++ t ∷ []))
+  abbrev pub value_comes : (fs : List Frame) (ss : Symbols) (item : List Placed) → Deep l.depth fs → (ends_long front && begins_as_long item) ≡ false
+      → ReadyFor c fs ss item → Says (value_place fs) t said → Comes g l c (containers fs) said (front ++ (item ++ t ∷ []))
   value_comes fs ss item deep apart d h = record {
     front = front;
     item = d.front;
@@ -118,7 +124,8 @@ module _ (g : Catalog) (l : Limits) (c : List Slot) (front : List Placed) (vs : 
   }
 
   -- and where a name may
-  pub name_comes : (rs : Symbols) (ms : List Field) (fs : List Frame) (item : List Placed) → Deep l.depth (frames.Fields rs ms ∷ fs) → (ends_long front && begins_as_long item) ≡ false → Opened c (frames.Fields rs ms ∷ fs) item true → Says places.Name t said
+  pub name_comes : (rs : Symbols) (ms : List Field) (fs : List Frame) (item : List Placed) → Deep l.depth (frames.Fields rs ms ∷ fs)
+      → (ends_long front && begins_as_long item) ≡ false → Opened c (frames.Fields rs ms ∷ fs) item true → Says places.Name t said
       → Comes g l c (InStruct ∷ containers fs) said (front ++ (item ++ t ∷ []))
   name_comes rs ms fs item deep apart o h = record {
     front = front;
@@ -137,8 +144,10 @@ module _ (g : Catalog) (l : Limits) (c : List Slot) (front : List Placed) (vs : 
   }
 
 -- a struct of the top level is closed
-pub struct_ends : (g : Catalog) (l : Limits) (c : List Slot) (front : List Placed) (vs : List Value) (ss : Symbols) (ms : List Field) (item : List Placed) (more : Bool) (t : Placed) → Pieces g l front vs c → Deep l.depth (frames.Fields ss ms ∷ []) → (ends_long front && begins_as_long item) ≡ false
-    → Opened c (frames.Fields ss ms ∷ []) item more → Says (close_place more) t (Mark' marks.FieldsClose) → Ends g l c (annotated ss (payloads.Fields ms)) (front ++ (item ++ t ∷ []))
+pub struct_ends : (g : Catalog) (l : Limits) (c : List Slot) (front : List Placed) (vs : List Value) (ss : Symbols) (ms : List Field) (item : List Placed)
+    (more : Bool) (t : Placed) → Pieces g l front vs c → Deep l.depth (frames.Fields ss ms ∷ []) → (ends_long front && begins_as_long item) ≡ false
+    → Opened c (frames.Fields ss ms ∷ []) item more → Says (close_place more) t (Mark' marks.FieldsClose)
+    → Ends g l c (annotated ss (payloads.Fields ms)) (front ++ (item ++ t ∷ []))
 struct_ends g l c front vs ss ms item more t pieces deep apart o h =
     let alone : item ≡ o.notes ++ o.open' ∷ o.body = o.whole ∙ ap (λ x. x ++ (o.notes ++ o.open' ∷ o.body)) o.outer in
     let cut : item ++ t ∷ [] ≡ o.notes ++ (o.open' ∷ (o.body ++ t ∷ [])) = ap (λ x. x ++ t ∷ []) alone ∙ append_assoc o.notes (o.open' ∷ o.body) (t ∷ []) in
@@ -152,5 +161,6 @@ struct_ends g l c front vs ss ms item more t pieces deep apart o h =
       apart = begins_on (ends_long front) item (t ∷ []) (subst IsSome (sym alone) (some_more o.notes o.body o.open')) apart;
       means =
           subst (λ x. Means c places.Top x (annotated ss (payloads.Fields ms))) (sym cut)
-          (means places.Top o.notes (o.open' ∷ (o.body ++ t ∷ [])) ss (payloads.Fields ms) o.noted (is_struct places.Top o.open' t o.body ms more o.opens o.items h));
+          (means places.Top o.notes (o.open' ∷ (o.body ++ t ∷ [])) ss (payloads.Fields ms) o.noted
+          (is_struct places.Top o.open' t o.body ms more o.opens o.items h));
     }

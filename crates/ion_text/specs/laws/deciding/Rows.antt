@@ -41,8 +41,10 @@ module _ (g : Catalog) (l : Limits) (u : List ℕ) (vs : List Value) (m : State)
   row_refused e (unfollowed ts pends none) = pends_refused g l u vs m b wait ts e pends none
 
 -- Where a row stands, that octet is refused for the row's reason, or for one that no row has, and then it may be an octet before it.
-pub refuses : (g : Catalog) (l : Limits) (u : List ℕ) (k : ℕ) (e : Reason) → k ≤ length u → Decides g l (take k u) e → (r : Refusal) × ((trace g l u).refused ≡ Some r) × (r.offset ≤ k) × (HasRow r.reason → (r.offset ≡ k) × (r.reason ≡ e))
-refuses g l u k e within d = go x.given x.now refl (run_ran g l (take k u) [] [] 0 begun (begun_stood g l)) (run_waits g l (take k u) [] [] 0 begun (begun_stood g l) tt)
+pub refuses : (g : Catalog) (l : Limits) (u : List ℕ) (k : ℕ) (e : Reason) → k ≤ length u → Decides g l (take k u) e → (r : Refusal)
+    × ((trace g l u).refused ≡ Some r) × (r.offset ≤ k) × (HasRow r.reason → (r.offset ≡ k) × (r.reason ≡ e))
+refuses g l u k e within d = go x.given x.now refl (run_ran g l (take k u) [] [] 0 begun (begun_stood g l))
+    (run_waits g l (take k u) [] [] 0 begun (begun_stood g l) tt)
   where
     x : Run
     x = run g l 0 begun (take k u)
@@ -50,11 +52,14 @@ refuses g l u k e within d = go x.given x.now refl (run_ran g l (take k u) [] []
     here : (r : Refusal) → (trace g l u).refused ≡ Some r → r.offset ≤ k → HasRow r.reason → (r.offset ≡ k) × (r.reason ≡ e)
     here r stops early row = one_octet g l u r.offset k r.reason e (omega (arith, early, within)) within (deciding g l u r stops row) d
 
-    go : (given : List (Value × ℕ)) (now : Result State Refusal) → x.now ≡ now → StoodBehind g l (take k u) [] (record { given = given; now = now }) → EndsWaiting g l now → (r : Refusal) × ((trace g l u).refused ≡ Some r) × (r.offset ≤ k) × (HasRow r.reason → (r.offset ≡ k) × (r.reason ≡ e))
+    go : (given : List (Value × ℕ)) (now : Result State Refusal) → x.now ≡ now → StoodBehind g l (take k u) [] (record { given = given; now = now })
+        → EndsWaiting g l now → (r : Refusal) × ((trace g l u).refused ≡ Some r) × (r.offset ≤ k) × (HasRow r.reason → (r.offset ≡ k) × (r.reason ≡ e))
     go given (Ok m) same b wait = absurd (row_refused g l (take k u) (plain given) m b wait e (seen g l (take k u) e d))
     go given (Err r) same b wait =
-        let front : run g l 0 begun u ≡ on_now x.given x.now (λ n. run g l (length (take k u)) n (drop k u)) = ap (run g l 0 begun) (sym (take-append-drop k u)) ∙ behind_run g l (take k u) (drop k u) in
-        let stops : (run g l 0 begun u).now ≡ Err r = ap (λ (y : Run). y.now) front ∙ ap (λ y. (on_now x.given y (λ n. run g l (length (take k u)) n (drop k u))).now) same in
+        let front : run g l 0 begun u ≡ on_now x.given x.now (λ n. run g l (length (take k u)) n (drop k u)) = ap (run g l 0 begun) (sym (take-append-drop k u))
+        ∙ behind_run g l (take k u) (drop k u) in
+        let stops : (run g l 0 begun u).now ≡ Err r = ap (λ (y : Run). y.now) front
+        ∙ ap (λ y. (on_now x.given y (λ n. run g l (length (take k u)) n (drop k u))).now) same in
         let early : r.offset ≤ k = omega (arith, stop_within g l (take k u) r (stop_of g l (take k u) r same), length-take-le k u within) in
         (r, ap refused_of stops, early, here r (ap refused_of stops) early)
 
@@ -72,13 +77,17 @@ no_document g l u k e s within d h = go (run g l 0 begun u).now stops.0 (accepts
 -- 2. The end.
 
 module _ (g : Catalog) (l : Limits) (u : List ℕ) where
-  word_plain : (c : List Slot) (ks : List Container) (said : Content) (ts : List Placed) (h : Comes g l c ks said ts) → BareSaid said → h.token.lexeme.kind ≡ kinds.Operator → ⊥
+  word_plain : (c : List Slot) (ks : List Container) (said : Content) (ts : List Placed) (h : Comes g l c ks said ts) → BareSaid said
+      → h.token.lexeme.kind ≡ kinds.Operator → ⊥
   word_plain c ks said ts h bare = bare_plain h.token.lexeme.kind (said_bare h.token.lexeme.kind h.token.lexeme.octets said h.says.body bare)
 
   -- octets of which the end decides are no document
   pub end_never : (e : Reason) → EndDecides g l u e → (s : List Value) → Document g l u s → ⊥
-  end_never _ (no_symbol ts c ks id e shown h fails) s d = stops_never g l u s d ts h.token e [] shown (id_stops g l ts c ks id e h fails) (word_plain c ks (Id id) ts h tt)
-  end_never _ (keyword_as_name ts c ks said shown h k) s d = stops_never g l u s d ts h.token KeywordAsName [] shown (keyword_stops g l ts c ks said h k) (word_plain c (InStruct ∷ ks) said ts h (keyword_bare said k))
+  end_never _ (no_symbol ts c ks id e shown h fails) s d =
+      stops_never g l u s d ts h.token e [] shown (id_stops g l ts c ks id e h fails) (word_plain c ks (Id id) ts h tt)
+  end_never _ (keyword_as_name ts c ks said shown h k) s d =
+      stops_never g l u s d ts h.token KeywordAsName [] shown (keyword_stops g l ts c ks said h k)
+      (word_plain c (InStruct ∷ ks) said ts h (keyword_bare said k))
   end_never _ (keyword_as_annotation ts colons c ks said shown h takes k says) s d = absurd shown
   end_never _ (other_version ts c w shown h none version other) s d = pends_never g l u s d ts Version shown (version_pends g l ts c w h none version other)
   end_never _ (null_table ts c ss k e shown h table fails) s d = pends_never g l u s d ts e shown (null_pends g l ts c ss k e h table fails)
@@ -101,9 +110,12 @@ module _ (g : Catalog) (l : Limits) (u : List ℕ) where
           absurd (no_octet g l u q.offset e q.reason (deciding g l u q h (subst (λ (x : Refusal). HasRow x.reason) (sym same) row)) d)
 
   -- Where the end decides, it refuses, for the row's reason or for one that no row has.
-  pub end_refuses : (e : Reason) → EndDecides g l u e → (r : Refusal) × ((trace g l u).ends ≡ Err r) × (HasRow r.reason → (r.offset ≡ length u) × (r.reason ≡ e))
+  pub end_refuses : (e : Reason) → EndDecides g l u e → (r : Refusal) × ((trace g l u).ends ≡ Err r)
+      × (HasRow r.reason → (r.offset ≡ length u) × (r.reason ≡ e))
   end_refuses e d = go (trace g l u).ends refl
     where
-      go : (x : Result (Option Value) Refusal) → (trace g l u).ends ≡ x → (r : Refusal) × ((trace g l u).ends ≡ Err r) × (HasRow r.reason → (r.offset ≡ length u) × (r.reason ≡ e))
+      go : (x : Result (Option Value) Refusal) → (trace g l u).ends ≡ x → (r : Refusal) × ((trace g l u).ends ≡ Err r)
+          × (HasRow r.reason → (r.offset ≡ length u) × (r.reason ≡ e))
       go (Err r) h = (r, h, end_reason e d r h)
-      go (Ok last) h = absurd (end_never e d (plain (trace g l u).given ++ option_to_list last) (admits g l u (plain (trace g l u).given ++ option_to_list last) (record { last = last; ends = h; values = refl })))
+      go (Ok last) h = absurd (end_never e d (plain (trace g l u).given ++ option_to_list last)
+          (admits g l u (plain (trace g l u).given ++ option_to_list last) (record { last = last; ends = h; values = refl })))

@@ -31,13 +31,20 @@ use Rattle.ion_text.specs.laws.showing.tokens.Cuts.{OpenBehind, Is, behind_token
 use Rattle.ion_text.specs.laws.showing.refused.Halts.{symbol_colons}
 
 -- one token more
-lexes_more : (ts : List Placed) (colon : Bool) (before : ℕ) (octets : List ℕ) (after : Bool) (end : ℕ) (rest : List ℕ) (t : Placed) (r : List ℕ) → LexesTo colon before octets ts after end rest → BeginsWith after end rest t r
+lexes_more : (ts : List Placed) (colon : Bool) (before : ℕ) (octets : List ℕ) (after : Bool) (end : ℕ) (rest : List ℕ) (t : Placed) (r : List ℕ)
+    → LexesTo colon before octets ts after end rest → BeginsWith after end rest t r
     → LexesTo colon before octets (ts ++ t ∷ []) (colon_behind t) t.lexeme.end r
-lexes_more [] colon before octets after end rest t r (c, b, o) h = (r, subst (λ x. BeginsWith x before octets t r) (sym c) (subst (λ (x : ℕ). BeginsWith after x octets t r) (sym b) (subst (λ x. BeginsWith after end x t r) (sym o) h)), (refl, refl, refl))
+lexes_more [] colon before octets after end rest t r (c, b, o) h = (
+  r,
+  subst (λ x. BeginsWith x before octets t r) (sym c)
+      (subst (λ (x : ℕ). BeginsWith after x octets t r) (sym b) (subst (λ x. BeginsWith after end x t r) (sym o) h)),
+  (refl, refl, refl),
+)
 lexes_more (x ∷ ts) colon before octets after end rest t r (q, b, l) h = (q, b, lexes_more ts (colon_behind x) x.lexeme.end q after end rest t r l h)
 
 -- whether a colon may stand behind the last of them
-pub last_flag : (ts : List Placed) (t : Placed) (colon : Bool) (before : ℕ) (octets : List ℕ) (after : Bool) (end : ℕ) (rest : List ℕ) → LexesTo colon before octets (ts ++ t ∷ []) after end rest → colon_behind t ≡ after
+pub last_flag : (ts : List Placed) (t : Placed) (colon : Bool) (before : ℕ) (octets : List ℕ) (after : Bool) (end : ℕ) (rest : List ℕ)
+    → LexesTo colon before octets (ts ++ t ∷ []) after end rest → colon_behind t ≡ after
 last_flag [] t colon before octets after end rest (q, b, h) = h.0
 last_flag (x ∷ ts) t colon before octets after end rest (q, b, h) = last_flag ts t (colon_behind x) x.lexeme.end q after end rest h
 
@@ -49,7 +56,8 @@ IsBare (kinds.Mark marks.FieldsOpen) = Unit {0}
 IsBare _ = ⊥
 
 -- the first octet behind them shows it
-shorter : (p : Place) (colon : Bool) (w : List ℕ) (a : ℕ) (as' r : List ℕ) (k : TokenKind) (kept : List ℕ) → IsBare k → IsLexeme p colon w (a ∷ (as' ++ r)) k kept → IsLexeme p colon w (a ∷ as') k kept
+shorter : (p : Place) (colon : Bool) (w : List ℕ) (a : ℕ) (as' r : List ℕ) (k : TokenKind) (kept : List ℕ) → IsBare k
+    → IsLexeme p colon w (a ∷ (as' ++ r)) k kept → IsLexeme p colon w (a ∷ as') k kept
 shorter p colon w a as' r kinds.Word kept b h = h
 shorter p colon w a as' r kinds.KindName kept b h = h
 shorter p colon w a as' r (kinds.Mark marks.FieldsOpen) kept b h = h
@@ -84,7 +92,8 @@ said_bare kinds.Blob octets c b h = absurd (other_bare c (Blob octets) (let e : 
 said_bare (kinds.Mark m) octets c b h = mark_bare m (subst BareSaid (let e : c ≡ Mark' m = cc in e) h)
 
 -- `::` would have been told
-colons_told : (p : Place) (k : ℕ) (since : List ℕ) (s : Known) → is_idle s.mode ≡ true → run p since (at modes.Blank [] true k k) ≡ Next s → BlankThen (codes "::") since → ⊥
+colons_told : (p : Place) (k : ℕ) (since : List ℕ) (s : Known) → is_idle s.mode ≡ true → run p since (at modes.Blank [] true k k) ≡ Next s
+    → BlankThen (codes "::") since → ⊥
 colons_told p k since s idle ran (w, more, is, e) = by (subst (Is p x) ran (one_found true k since (placed p x) more token))
   where
     x : Lexeme
@@ -109,33 +118,45 @@ module _ (p : Place) (s : Known) (u : List ℕ) (ts : List Placed) (ahead : List
   all = k.lexes (o ∷ []) next
 
   -- behind a symbol at the top level an octet shows that no `::` follows
-  pub no_colons : p ≡ places.Top → k.colon ≡ true → is_idle s.mode ≡ true → is_sane s.mode ≡ true → symbol_waits (feed p s o) ≡ false → NoColons (u ++ o ∷ []) ts
+  pub no_colons : p ≡ places.Top → k.colon ≡ true → is_idle s.mode ≡ true → is_sane s.mode ≡ true → symbol_waits (feed p s o) ≡ false
+      → NoColons (u ++ o ∷ []) ts
   no_colons top colon idle sane shut =
-      let mode : InMode places.Top true k.end s.mode s.kept s.start k.since = subst (λ c. InMode places.Top c k.end s.mode s.kept s.start k.since) colon (subst (λ q. InMode q k.colon k.end s.mode s.kept s.start k.since) top k.holds.mode) in
+      let mode : InMode places.Top true k.end s.mode s.kept s.start k.since =
+      subst (λ c. InMode places.Top c k.end s.mode s.kept s.start k.since) colon
+      (subst (λ q. InMode q k.colon k.end s.mode s.kept s.start k.since) top k.holds.mode) in
       let close = colons_close k.end s.kept s.start s.used k.since s.mode idle mode in
       record {
         rest = k.since;
         o = o;
         are = (k.colon, k.end, all);
         before = (close.octets, close.shows);
-        after = octet_colons p k.end k.since s o sane (subst (λ c. run p k.since (at modes.Blank [] c k.end k.end) ≡ Next s) colon k.reached) (symbol_colons (feed p s o) shut);
+        after = octet_colons p k.end k.since s o sane (subst (λ c. run p k.since (at modes.Blank [] c k.end k.end) ≡ Next s) colon k.reached)
+            (symbol_colons (feed p s o) shut);
       }
 
   -- behind one `::` may follow
   pub awaits_colons : p ≡ places.Top → k.colon ≡ true → is_idle s.mode ≡ true → ahead ≡ [] → AwaitsColons u ts
   awaits_colons top colon idle none =
-      let mode : InMode places.Top true k.end s.mode s.kept s.start k.since = subst (λ c. InMode places.Top c k.end s.mode s.kept s.start k.since) colon (subst (λ q. InMode q k.colon k.end s.mode s.kept s.start k.since) top k.holds.mode) in
+      let mode : InMode places.Top true k.end s.mode s.kept s.start k.since =
+      subst (λ c. InMode places.Top c k.end s.mode s.kept s.start k.since) colon
+      (subst (λ q. InMode q k.colon k.end s.mode s.kept s.start k.since) top k.holds.mode) in
       let close = colons_close k.end s.kept s.start s.used k.since s.mode idle mode in
       let here : LexesTo false 0 (u ++ []) ts k.colon k.end (k.since ++ []) = k.lexes [] ([], sym (append-nil ahead ∙ none)) in
       record {
         rest = k.since;
-        are = (k.colon, k.end, subst (λ x. LexesTo false 0 x ts k.colon k.end k.since) (append-nil u) (subst (λ x. LexesTo false 0 (u ++ []) ts k.colon k.end x) (append-nil k.since) here));
+        are = (
+          k.colon,
+          k.end,
+          subst (λ x. LexesTo false 0 x ts k.colon k.end k.since) (append-nil u)
+              (subst (λ x. LexesTo false 0 (u ++ []) ts k.colon k.end x) (append-nil k.since) here),
+        );
         before = (close.octets, close.shows);
         after = colons_told p k.end k.since s idle (subst (λ c. run p k.since (at modes.Blank [] c k.end k.end) ≡ Next s) colon k.reached);
       }
 
   pub flag : (us : List Placed) (t : Placed) → ts ≡ us ++ t ∷ [] → colon_behind t ≡ true → k.colon ≡ true
-  flag us t e c = sym (last_flag us t false 0 (u ++ o ∷ []) k.colon k.end (k.since ++ o ∷ []) (subst (λ x. LexesTo false 0 (u ++ o ∷ []) x k.colon k.end (k.since ++ o ∷ [])) e all)) ∙ c
+  flag us t e c = sym (last_flag us t false 0 (u ++ o ∷ []) k.colon k.end (k.since ++ o ∷ [])
+      (subst (λ x. LexesTo false 0 (u ++ o ∷ []) x k.colon k.end (k.since ++ o ∷ [])) e all)) ∙ c
 
   module _ (x : Lexeme) (s' : Known) (pass : Passes x.kind x.octets) where
     -- 1. A token that ends with the octet.
@@ -178,10 +199,27 @@ module _ (p : Place) (s : Known) (u : List ℕ) (ts : List Placed) (ahead : List
     none_over b [] i = refl
     none_over b (a ∷ as') i =
         absurd (by (subst (Is p x) k.reached (one_found k.colon k.end k.since (placed p x) (a ∷ as')
-        (record { blank = i.front; token = i.token; is_blank = i.blank; cut = i.cut; start = i.start; end = i.end; is = shorter p k.colon i.token a as' (o ∷ []) x.kind x.octets b (i.found [] pass) }))))
+        (record {
+          blank = i.front;
+          token = i.token;
+          is_blank = i.blank;
+          cut = i.cut;
+          start = i.start;
+          end = i.end;
+          is =
+              shorter p k.colon i.token a as' (o ∷ []) x.kind x.octets b (i.found [] pass);
+        }))))
       where
         by : Is p x (Next s) → ⊥
-        by (inl e) = omega (arith, (end_spans s (end_of p s.mode) x e).1, i.end, k.holds.used, ap length i.cut, length-append (i.front ++ i.token) (a ∷ as'), length-append i.front i.token)
+        by (inl e) = omega (
+          arith,
+          (end_spans s (end_of p s.mode) x e).1,
+          i.end,
+          k.holds.used,
+          ap length i.cut,
+          length-append (i.front ++ i.token) (a ∷ as'),
+          length-append i.front i.token,
+        )
         by (inr e) = subst IsBare e.1 b
 
     pub left_ends : feed p s o ≡ Left x s' → IsBare x.kind → (z : ℕ) × Are (u ++ o ∷ []) (ts ++ placed p x ∷ []) (z ∷ [])
@@ -193,7 +231,16 @@ module _ (p : Place) (s : Known) (u : List ℕ) (ts : List Placed) (ahead : List
             colon_behind (placed p x),
             x.end,
             lexes_more ts false 0 (u ++ o ∷ []) k.colon k.end (k.since ++ o ∷ []) (placed p x) (o ∷ []) all
-                (record { blank = i.front; token = i.token; is_blank = i.blank; cut = ap (λ y. y ++ o ∷ []) (i.cut ∙ append-nil (i.front ++ i.token)); start = i.start; end = i.end; is = i.found [] pass }),
+                (record {
+                  blank = i.front;
+                  token = i.token;
+                  is_blank = i.blank;
+                  cut = ap (λ y. y ++ o ∷ []) (i.cut ∙ append-nil (i.front ++ i.token));
+                  start =
+                      i.start;
+                  end = i.end;
+                  is = i.found [] pass;
+                }),
           ),
         )
 
@@ -224,7 +271,8 @@ Shown sight ts (TypedNull k) = sight.word ts
 Shown sight ts (Mark' m) = MarkShown sight ts m
 Shown sight ts _ = Unit {0}
 
-module _ (p : Place) (s : Known) (u : List ℕ) (ts : List Placed) (ahead : List ℕ) (h : Scanned p s u ts ahead) (o : ℕ) (next : Continues (o ∷ []) ahead) (x : Lexeme) (s' : Known) (pass : Passes x.kind x.octets) (c : Content) (body : IsBody x.kind x.octets (Ok c)) where
+module _ (p : Place) (s : Known) (u : List ℕ) (ts : List Placed) (ahead : List ℕ) (h : Scanned p s u ts ahead) (o : ℕ) (next : Continues (o ∷ []) ahead)
+    (x : Lexeme) (s' : Known) (pass : Passes x.kind x.octets) (c : Content) (body : IsBody x.kind x.octets (Ok c)) where
   pub given_shown : feed p s o ≡ Given x s' → Shown (by_octet (u ++ o ∷ [])) (ts ++ placed p x ∷ []) c
   given_shown e = go c refl
     where

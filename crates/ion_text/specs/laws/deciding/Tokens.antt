@@ -60,7 +60,8 @@ use Rattle.ion_text.specs.laws.deciding.Comings.{JoinsNothing, same_levels, befo
 -- 1. Tokens that have ended.
 
 -- where octets are left behind the last token, it has ended
-pub ended_by_rest : (g : Catalog) (l : Limits) (u : List ℕ) (ts : List Placed) (t : Placed) (o : ℕ) (rest : List ℕ) → (t.lexeme.kind ≡ kinds.Operator → ⊥) → Are u (ts ++ t ∷ []) (rest ++ o ∷ []) → HasEnded g l u t
+pub ended_by_rest : (g : Catalog) (l : Limits) (u : List ℕ) (ts : List Placed) (t : Placed) (o : ℕ) (rest : List ℕ) → (t.lexeme.kind ≡ kinds.Operator → ⊥)
+    → Are u (ts ++ t ∷ []) (rest ++ o ∷ []) → HasEnded g l u t
 ended_by_rest g l u ts t o rest plain (colon, end, lexes) = record {
   plain = plain;
   word = λ k e. absurd (omega (arith, e, size));
@@ -70,7 +71,14 @@ ended_by_rest g l u ts t o rest plain (colon, end, lexes) = record {
     size : t.lexeme.end + (length rest + 1) ≡ length u
     size =
         let x = lexed_front (ts ++ t ∷ []) false 0 u colon end (rest ++ o ∷ []) lexes in
-        omega (arith, last_ends ts t false 0 u colon end (rest ++ o ∷ []) lexes, x.2, ap length x.1, length-append x.0 (rest ++ o ∷ []), length-append rest (o ∷ []))
+        omega (
+          arith,
+          last_ends ts t false 0 u colon end (rest ++ o ∷ []) lexes,
+          x.2,
+          ap length x.1,
+          length-append x.0 (rest ++ o ∷ []),
+          length-append rest (o ∷ []),
+        )
 
 -- what says a word or opens a struct is no operator
 pub bare_plain : (k : TokenKind) → IsBare k → k ≡ kinds.Operator → ⊥
@@ -85,11 +93,14 @@ bare_plain kinds.LongString b e = absurd b
 bare_plain kinds.Clob b e = absurd b
 bare_plain kinds.Blob b e = absurd b
 
-pub bare_ended : (g : Catalog) (l : Limits) (u : List ℕ) (ts : List Placed) (t : Placed) (p : Place) (d : Content) (o : ℕ) (rest : List ℕ) → Says p t d → BareSaid d → Are u (ts ++ t ∷ []) (rest ++ o ∷ []) → HasEnded g l u t
-bare_ended g l u ts t p d o rest says b are = ended_by_rest g l u ts t o rest (bare_plain t.lexeme.kind (said_bare t.lexeme.kind t.lexeme.octets d says.body b)) are
+pub bare_ended : (g : Catalog) (l : Limits) (u : List ℕ) (ts : List Placed) (t : Placed) (p : Place) (d : Content) (o : ℕ) (rest : List ℕ) → Says p t d
+    → BareSaid d → Are u (ts ++ t ∷ []) (rest ++ o ∷ []) → HasEnded g l u t
+bare_ended g l u ts t p d o rest says b are = ended_by_rest g l u ts t o rest (bare_plain t.lexeme.kind (said_bare t.lexeme.kind t.lexeme.octets d says.body b))
+    are
 
 -- a mark that the end doesn't end has ended with its last octet
-pub mark_ended : (g : Catalog) (l : Limits) (u : List ℕ) (p : Place) (t : Placed) (m : Mark) → Says p t (Mark' m) → is_closing (kinds.Mark m) ≡ true → (m ≡ marks.Colon → ⊥) → HasEnded g l u t
+pub mark_ended : (g : Catalog) (l : Limits) (u : List ℕ) (p : Place) (t : Placed) (m : Mark) → Says p t (Mark' m) → is_closing (kinds.Mark m) ≡ true
+    → (m ≡ marks.Colon → ⊥) → HasEnded g l u t
 mark_ended g l u p t m says closing n = record {
   plain = λ e. let k : kinds.Mark m ≡ kinds.Operator = sym kind ∙ e in absurd cc;
   word = λ e i. let k : kinds.Mark m ≡ kinds.Word = sym kind ∙ e in absurd cc;
@@ -147,7 +158,9 @@ keyword_held : (w : List ℕ) → is_keyword w ≡ true → held_symbol (held_wo
 keyword_held w h = go (bytes_eq w (codes "null")) (bytes_eq w (codes "true")) (bytes_eq w (codes "false")) (bytes_eq w (codes "nan")) h
   where
     go : (a b c d : Bool) → ((a || b) || (c || d)) ≡ true
-        → held_symbol (if a then helds.Null values.Null else (if b then helds.Truth true else (if c then helds.Truth false else (if d then helds.Nan else (if is_version w then helds.Version (bytes_eq w the_marker) (Some w) else helds.Symbol (Some w)))))) ≡ Err reasons.KeywordAsName
+        → held_symbol (if a then helds.Null values.Null else (if b then helds.Truth true else
+        (if c then helds.Truth false else (if d then helds.Nan else
+        (if is_version w then helds.Version (bytes_eq w the_marker) (Some w) else helds.Symbol (Some w)))))) ≡ Err reasons.KeywordAsName
     go true b c d h = refl
     go false true c d h = refl
     go false false true d h = refl
@@ -188,16 +201,20 @@ refusing_else e true t u i h = absurd cc
 refusing_unresolved : (e : Reason) (r : Result (Option (List ℕ)) Reason) (f : Option (List ℕ) → Turn) → r ≡ Err e → Refusing e (resolved r f)
 refusing_unresolved e r f h = subst (λ x. Refusing e (resolved x f)) (sym h) refl
 
-refusing_noted : (e : Reason) (start : ℕ) (c : List Slot) (fs : List Frame) (ss : Symbols) (r : Result (Option (List ℕ)) Reason) → r ≡ Err e → Refusing e (noted start c fs ss r)
+refusing_noted : (e : Reason) (start : ℕ) (c : List Slot) (fs : List Frame) (ss : Symbols) (r : Result (Option (List ℕ)) Reason) → r ≡ Err e
+    → Refusing e (noted start c fs ss r)
 refusing_noted e start c fs ss r h = subst (λ x. Refusing e (noted start c fs ss x)) (sym h) refl
 
 -- a token behind others is refused where it comes by itself, or as the `::` behind what waits
 pub data Why (g : Catalog) (l : Limits) (ts : List Placed) (t : Placed) (e : Reason) : Type 0 where
-  by_itself : (m : Reading) (c : Content) → SettlesTo g l ts m → said t.lexeme.kind t.lexeme.octets ≡ Ok c → (t.lexeme.kind ≡ kinds.Mark marks.Colons → ⊥) → Refusing e (turn g l m (token_of t.lexeme c)) → Why g l ts t e
-  as_colons : (n : Reading) (vs : List Value) → reads g l (origin g l) ts ≡ walked vs n → t.lexeme.kind ≡ kinds.Mark marks.Colons → Refusing e (turn g l n (token_of t.lexeme (Mark' marks.Colons))) → Why g l ts t e
+  by_itself : (m : Reading) (c : Content) → SettlesTo g l ts m → said t.lexeme.kind t.lexeme.octets ≡ Ok c → (t.lexeme.kind ≡ kinds.Mark marks.Colons → ⊥)
+      → Refusing e (turn g l m (token_of t.lexeme c)) → Why g l ts t e
+  as_colons : (n : Reading) (vs : List Value) → reads g l (origin g l) ts ≡ walked vs n → t.lexeme.kind ≡ kinds.Mark marks.Colons
+      → Refusing e (turn g l n (token_of t.lexeme (Mark' marks.Colons))) → Why g l ts t e
 
 not_colons : (p : Place) (t : Placed) (d : Content) → Says p t d → (d ≡ Mark' marks.Colons → ⊥) → t.lexeme.kind ≡ kinds.Mark marks.Colons → ⊥
-not_colons p t d says n k = let b : IsBody (kinds.Mark marks.Colons) t.lexeme.octets (Ok d) = subst (λ y. IsBody y t.lexeme.octets (Ok d)) k says.body in n (let e : d ≡ Mark' marks.Colons = cc in e)
+not_colons p t d says n k = let b : IsBody (kinds.Mark marks.Colons) t.lexeme.octets (Ok d) = subst (λ y. IsBody y t.lexeme.octets (Ok d)) k says.body in
+    n (let e : d ≡ Mark' marks.Colons = cc in e)
 
 -- for one reason
 pub why_once : (g : Catalog) (l : Limits) (ts : List Placed) (t : Placed) (d e : Reason) (p : Place) → Came g l ts p → Why g l ts t d → Why g l ts t e → d ≡ e
@@ -207,9 +224,11 @@ why_once g l ts t d e p came (by_itself m c s i n h) (by_itself m' c' s' i' n' h
     let same = walked_now g l a.0 b.0 m m' (sym a.1 ∙ b.1) in
     let k : Ok c ≡ Ok c' = sym i ∙ i' in
     let one : c ≡ c' = cc in
-    one_refusing d e (turn g l m' (token_of t.lexeme c')) (subst (λ x. Refusing d (turn g l x (token_of t.lexeme c'))) same.1 (subst (λ x. Refusing d (turn g l m (token_of t.lexeme x))) one h)) h'
+    one_refusing d e (turn g l m' (token_of t.lexeme c')) (subst (λ x. Refusing d (turn g l x (token_of t.lexeme c'))) same.1
+    (subst (λ x. Refusing d (turn g l m (token_of t.lexeme x))) one h)) h'
 why_once g l ts t d e p came (as_colons n vs r k h) (as_colons n' vs' r' k' h') =
-    one_refusing d e (turn g l n' (token_of t.lexeme (Mark' marks.Colons))) (subst (λ x. Refusing d (turn g l x (token_of t.lexeme (Mark' marks.Colons)))) (walked_now g l vs vs' n n' (sym r ∙ r')).1 h) h'
+    one_refusing d e (turn g l n' (token_of t.lexeme (Mark' marks.Colons)))
+    (subst (λ x. Refusing d (turn g l x (token_of t.lexeme (Mark' marks.Colons)))) (walked_now g l vs vs' n n' (sym r ∙ r')).1 h) h'
 why_once g l ts t d e p came (by_itself m c s i n h) (as_colons n' vs r k h') = absurd (n k)
 why_once g l ts t d e p came (as_colons n vs r k h) (by_itself m c s i n' h') = absurd (n' k)
 
@@ -229,7 +248,8 @@ module _ (g : Catalog) (l : Limits) where
     held = (f g l c ks said ts h).held
 
     -- which is refused there
-    value_stops : (e : Reason) → JoinsNothing said → ((s : ℕ) → Refusing e (turn g l (at s c held h.symbols nows.Ready) (token_of h.token.lexeme said))) → Stops g l ts h.token e
+    value_stops : (e : Reason) → JoinsNothing said → ((s : ℕ) → Refusing e (turn g l (at s c held h.symbols nows.Ready) (token_of h.token.lexeme said)))
+        → Stops g l ts h.token e
     value_stops e a refused =
         let w = settles g l c ks said ts h takes in
         let front = before g l c ks said ts h in
@@ -239,8 +259,11 @@ module _ (g : Catalog) (l : Limits) where
           front = front;
           is = is;
           came = subst (Came g l front) (sym h.says.place) (came g l c ks said ts h takes);
-          stops = ap (reads g l (origin g l)) is ∙ (x.1 ∙ ap (adds_values h.values) (first_token g l (place_of ks) (at x.0 c held h.symbols nows.Ready) h.token said [] h.says (here g l c ks said ts h takes) (inr refl) ∙ refusing_stops e (turn g l (at x.0 c held h.symbols nows.Ready) (token_of h.token.lexeme said)) done (refused x.0)));
-          why = by_itself (at w.0 c held h.symbols nows.Ready) said w.1 (said_ok g l (place_of ks) h.token said h.says) (not_colons (place_of ks) h.token said h.says a.colons) (refused w.0);
+          stops = ap (reads g l (origin g l)) is ∙ (x.1 ∙ ap (adds_values h.values)
+              (first_token g l (place_of ks) (at x.0 c held h.symbols nows.Ready) h.token said [] h.says (here g l c ks said ts h takes) (inr refl)
+              ∙ refusing_stops e (turn g l (at x.0 c held h.symbols nows.Ready) (token_of h.token.lexeme said)) done (refused x.0)));
+          why = by_itself (at w.0 c held h.symbols nows.Ready) said w.1 (said_ok g l (place_of ks) h.token said h.says)
+              (not_colons (place_of ks) h.token said h.says a.colons) (refused w.0);
         }
 
     -- a container that would be too deep
@@ -259,7 +282,8 @@ module _ (g : Catalog) (l : Limits) where
         by _ o s = absurd o
 
     -- one that waits for `::`
-    module _ (word : Held) (waits : (start end : ℕ) → on_ready (under g l) (spot_at end start c) held h.symbols said ≡ goes (at start c held h.symbols (nows.Pending word end))) (apart : JoinsNothing said) where
+    module _ (word : Held) (waits : (start end : ℕ) → on_ready (under g l) (spot_at end start c) held h.symbols said
+        ≡ goes (at start c held h.symbols (nows.Pending word end))) (apart : JoinsNothing said) where
       abbrev pub front : List Placed
       front = before g l c ks said ts h
 
@@ -283,7 +307,8 @@ module _ (g : Catalog) (l : Limits) where
       came_pending = let x = read_to [] in record { values = h.values ++ []; now = pending_word x.0; read = x.1; here = sym (at_pending x.0) }
 
       -- an annotation that is a keyword
-      note_stops : (colons : Placed) → Says (place_of ks) colons (Mark' marks.Colons) → held_symbol word ≡ Err reasons.KeywordAsName → Stops g l (ts ++ colons ∷ []) colons reasons.KeywordAsName
+      note_stops : (colons : Placed) → Says (place_of ks) colons (Mark' marks.Colons) → held_symbol word ≡ Err reasons.KeywordAsName
+          → Stops g l (ts ++ colons ∷ []) colons reasons.KeywordAsName
       note_stops colons says none =
           let x = read_to (colons ∷ []) in
           let y = read_to [] in
@@ -308,7 +333,8 @@ module _ (g : Catalog) (l : Limits) where
     abbrev inside : List Frame
     inside = let s = struct g l c ks said ts h in frames.Fields s.notes s.fields ∷ s.outer
 
-    name_stops : (e : Reason) → JoinsNothing said → ((s : ℕ) → Refusing e (turn g l (at s c inside [] nows.Name) (token_of h.token.lexeme said))) → Stops g l ts h.token e
+    name_stops : (e : Reason) → JoinsNothing said → ((s : ℕ) → Refusing e (turn g l (at s c inside [] nows.Name) (token_of h.token.lexeme said)))
+        → Stops g l ts h.token e
     name_stops e a refused =
         let w = settles_name g l c ks said ts h in
         let front = up_to g l c ks said ts h in
@@ -318,30 +344,40 @@ module _ (g : Catalog) (l : Limits) where
           front = front;
           is = is;
           came = subst (Came g l front) (sym h.says.place) (came_name g l c ks said ts h);
-          stops = ap (reads g l (origin g l)) is ∙ (x.1 ∙ ap (adds_values h.values) (first_token g l places.Name (at x.0 c inside [] nows.Name) h.token said [] h.says refl (inr refl) ∙ refusing_stops e (turn g l (at x.0 c inside [] nows.Name) (token_of h.token.lexeme said)) done (refused x.0)));
-          why = by_itself (at w.0 c inside [] nows.Name) said w.1 (said_ok g l places.Name h.token said h.says) (not_colons places.Name h.token said h.says a.colons) (refused w.0);
+          stops = ap (reads g l (origin g l)) is ∙ (x.1 ∙ ap (adds_values h.values)
+              (first_token g l places.Name (at x.0 c inside [] nows.Name) h.token said [] h.says refl (inr refl)
+              ∙ refusing_stops e (turn g l (at x.0 c inside [] nows.Name) (token_of h.token.lexeme said)) done (refused x.0)));
+          why = by_itself (at w.0 c inside [] nows.Name) said w.1 (said_ok g l places.Name h.token said h.says)
+              (not_colons places.Name h.token said h.says a.colons) (refused w.0);
         }
 
   -- 6. The rows of one token.
 
-  id_value : (ts : List Placed) (c : List Slot) (ks : List Container) (id : ℕ) (e : Reason) → TakesValue ks → (h : Comes g l c ks (Id id) ts) → resolve c id ≡ Err e → Stops g l ts h.token e
+  id_value : (ts : List Placed) (c : List Slot) (ks : List Container) (id : ℕ) (e : Reason) → TakesValue ks → (h : Comes g l c ks (Id id) ts)
+      → resolve c id ≡ Err e → Stops g l ts h.token e
   id_value ts c ks id e takes h fails = value_stops c ks (Id id) ts h takes e (id_apart id) (λ s. refusing_unresolved e (resolve c id) _ fails)
 
-  pub id_stops : (ts : List Placed) (c : List Slot) (ks : List Container) (id : ℕ) (e : Reason) → (h : Comes g l c ks (Id id) ts) → resolve c id ≡ Err e → Stops g l ts h.token e
+  pub id_stops : (ts : List Placed) (c : List Slot) (ks : List Container) (id : ℕ) (e : Reason) → (h : Comes g l c ks (Id id) ts) → resolve c id ≡ Err e
+      → Stops g l ts h.token e
   id_stops ts c (InStruct ∷ ks) id e h fails = name_stops c ks (Id id) ts h e (id_apart id) (λ s. refusing_unresolved e (resolve c id) _ fails)
   id_stops ts c [] id e h fails = id_value ts c [] id e tt h fails
   id_stops ts c (InList ∷ ks) id e h fails = id_value ts c (InList ∷ ks) id e tt h fails
   id_stops ts c (InSexp ∷ ks) id e h fails = id_value ts c (InSexp ∷ ks) id e tt h fails
   id_stops ts c (InField ∷ ks) id e h fails = id_value ts c (InField ∷ ks) id e tt h fails
 
-  pub keyword_stops : (ts : List Placed) (c : List Slot) (ks : List Container) (said : Content) → (h : Comes g l c (InStruct ∷ ks) said ts) → IsKeyword said → Stops g l ts h.token reasons.KeywordAsName
-  keyword_stops ts c ks (Word w) h k = name_stops c ks (Word w) ts h reasons.KeywordAsName (word_apart w) (λ s. refusing_then reasons.KeywordAsName (is_keyword w) _ _ k refl)
+  pub keyword_stops : (ts : List Placed) (c : List Slot) (ks : List Container) (said : Content) → (h : Comes g l c (InStruct ∷ ks) said ts) → IsKeyword said
+      → Stops g l ts h.token reasons.KeywordAsName
+  keyword_stops ts c ks (Word w) h k = name_stops c ks (Word w) ts h reasons.KeywordAsName (word_apart w)
+      (λ s. refusing_then reasons.KeywordAsName (is_keyword w) _ _ k refl)
   keyword_stops ts c ks (TypedNull k) h i = name_stops c ks (TypedNull k) ts h reasons.KeywordAsName (null_apart k) (λ s. refl)
   keyword_stops ts c ks _ h k = absurd k
 
-  pub keyword_note_stops : (ts : List Placed) (colons : Placed) (c : List Slot) (ks : List Container) (said : Content) → Comes g l c ks said ts → TakesValue ks → IsKeyword said → Says (place_of ks) colons (Mark' marks.Colons) → Stops g l (ts ++ colons ∷ []) colons reasons.KeywordAsName
-  keyword_note_stops ts colons c ks (Word w) h takes k says = note_stops c ks (Word w) ts h takes (held_word w) (λ start end. refl) (word_apart w) colons says (keyword_held w k)
-  keyword_note_stops ts colons c ks (TypedNull k) h takes i says = note_stops c ks (TypedNull k) ts h takes (helds.Null k) (λ start end. refl) (null_apart k) colons says refl
+  pub keyword_note_stops : (ts : List Placed) (colons : Placed) (c : List Slot) (ks : List Container) (said : Content) → Comes g l c ks said ts → TakesValue ks
+      → IsKeyword said → Says (place_of ks) colons (Mark' marks.Colons) → Stops g l (ts ++ colons ∷ []) colons reasons.KeywordAsName
+  keyword_note_stops ts colons c ks (Word w) h takes k says =
+      note_stops c ks (Word w) ts h takes (held_word w) (λ start end. refl) (word_apart w) colons says (keyword_held w k)
+  keyword_note_stops ts colons c ks (TypedNull k) h takes i says =
+      note_stops c ks (TypedNull k) ts h takes (helds.Null k) (λ start end. refl) (null_apart k) colons says refl
   keyword_note_stops ts colons c ks _ h takes k says = absurd k
 
   -- 7. A local symbol table.
@@ -357,7 +393,8 @@ module _ (g : Catalog) (l : Limits) where
     pub closes : Says (close_place more) close (Mark' marks.FieldsClose)
     pub at_close : Stops g l ts close e
 
-  pub table_stops : (ts : List Placed) (c : List Slot) (ss : Symbols) (ms : List Field) (e : Reason) → Ends g l c (annotated ss (payloads.Fields ms)) ts → is_table (annotated ss (payloads.Fields ms)) ≡ true
+  pub table_stops : (ts : List Placed) (c : List Slot) (ss : Symbols) (ms : List Field) (e : Reason) → Ends g l c (annotated ss (payloads.Fields ms)) ts
+      → is_table (annotated ss (payloads.Fields ms)) ≡ true
       → next c (annotated ss (payloads.Fields ms)) g ≡ Err e → TableStops ts e
   table_stops ts c ss ms e h table fails = value places.Top h.item (annotated ss (payloads.Fields ms)) h.means refl refl refl
     where
@@ -365,9 +402,17 @@ module _ (g : Catalog) (l : Limits) where
       other : (q : Payload) → q ≡ payloads.Fields ms → has_fields (views.out-Payload q) ≡ false → ⊥
       other q e n = never (has_fields (views.out-Payload q)) n (ap (λ x. has_fields (views.out-Payload x)) e ∙ ap has_fields (views.outs-Fields ms))
 
-      struct' : (notes body : List Placed) (rs : Symbols) (open' close : Placed) (more : Bool) → rs ≡ ss → Annotations c places.Top notes rs → Says places.Top open' (Mark' marks.FieldsOpen) → Members c body ms more → Says (close_place more) close (Mark' marks.FieldsClose)
+      struct' : (notes body : List Placed) (rs : Symbols) (open' close : Placed) (more : Bool) → rs ≡ ss → Annotations c places.Top notes rs
+          → Says places.Top open' (Mark' marks.FieldsOpen) → Members c body ms more → Says (close_place more) close (Mark' marks.FieldsClose)
           → h.item ≡ notes ++ open' ∷ (body ++ close ∷ []) → TableStops ts e
-      struct' notes body rs open' close more same a opens members closes cut = record { close = close; more = more; closes = closes; at_close = record { front = front; is = whole; came = subst (Came g l front) (sym closes.place) (came' more members closes); stops = stops; why = why } }
+      struct' notes body rs open' close more same a opens members closes cut =
+          record {
+            close = close;
+            more = more;
+            closes = closes;
+            at_close =
+                record { front = front; is = whole; came = subst (Came g l front) (sym closes.place) (came' more members closes); stops = stops; why = why };
+          }
         where
           inner : List Placed
           inner = notes ++ open' ∷ body
@@ -385,26 +430,44 @@ module _ (g : Catalog) (l : Limits) where
           deep = let k = h.deep in (omega (arith, k, depth-struct ss ms), tt)
 
           opened : (more : Bool) → Members c body ms more → Opened c (frames.Fields rs ms ∷ []) inner more
-          opened more members = record { front = []; notes = notes; body = body; open' = open'; whole = refl; outer = refl; receives = tt; noted = a; opens = opens; items = members }
+          opened more members = record {
+            front = [];
+            notes = notes;
+            body = body;
+            open' = open';
+            whole = refl;
+            outer = refl;
+            receives =
+                tt;
+            noted = a;
+            opens = opens;
+            items = members;
+          }
 
           apart : (ends_long h.front && begins_as_long inner) ≡ false
           apart = begins_so (ends_long h.front) inner (close ∷ []) (subst (λ x. (ends_long h.front && begins_as_long x) ≡ false) item_is h.apart)
 
           came' : (more : Bool) → Members c body ms more → Says (close_place more) close (Mark' marks.FieldsClose) → Came g l front (close_place more)
-          came' true members closes = stands_read g l c h.front h.values (frames.Fields rs ms ∷ []) [] nows.Name inner h.pieces deep (opened true members, tt) apart
-          came' false members closes = stands_read g l c h.front h.values (frames.Fields rs ms ∷ []) [] nows.After inner h.pieces deep (opened false members, refl, tt) apart
+          came' true members closes = stands_read g l c h.front h.values (frames.Fields rs ms ∷ []) [] nows.Name inner h.pieces deep (opened true members, tt)
+              apart
+          came' false members closes = stands_read g l c h.front h.values (frames.Fields rs ms ∷ []) [] nows.After inner h.pieces deep
+              (opened false members, refl, tt) apart
 
           refused : (s : ℕ) → ended (under g l) (spot_at close.lexeme.end s c) [] (annotated rs (payloads.Fields ms)) ≡ refuses e
-          refused s = subst (λ y. ended (under g l) (spot_at close.lexeme.end s c) [] (annotated y (payloads.Fields ms)) ≡ refuses e) (sym same) (cond-true _ _ _ table ∙ ap (turned l.item s close.lexeme.end) fails)
+          refused s = subst (λ y. ended (under g l) (spot_at close.lexeme.end s c) [] (annotated y (payloads.Fields ms)) ≡ refuses e) (sym same)
+              (cond-true _ _ _ table ∙ ap (turned l.item s close.lexeme.end) fails)
 
-          closed : (more : Bool) (s : ℕ) → Refusing e (turn g l (at s c (frames.Fields rs ms ∷ []) [] (struct_now g l more)) (token_of close.lexeme (Mark' marks.FieldsClose)))
+          closed : (more : Bool) (s : ℕ) → Refusing e (turn g l (at s c (frames.Fields rs ms ∷ []) [] (struct_now g l more))
+              (token_of close.lexeme (Mark' marks.FieldsClose)))
           closed true s = refusing_is e _ (refused s)
           closed false s = refusing_is e _ (refused s)
 
           why : Why g l front close e
           why =
               let w = struct_settles g l c h.front h.values rs ms [] inner more h.pieces deep (opened more members) apart in
-              by_itself (at w.0 c (frames.Fields rs ms ∷ []) [] (struct_now g l more)) (Mark' marks.FieldsClose) w.1 (said_ok g l (close_place more) close (Mark' marks.FieldsClose) closes) (not_colons (close_place more) close (Mark' marks.FieldsClose) closes (λ k. cc)) (closed more w.0)
+              by_itself (at w.0 c (frames.Fields rs ms ∷ []) [] (struct_now g l more)) (Mark' marks.FieldsClose) w.1
+              (said_ok g l (close_place more) close (Mark' marks.FieldsClose) closes)
+              (not_colons (close_place more) close (Mark' marks.FieldsClose) closes (λ k. cc)) (closed more w.0)
 
           s : ℕ
           s = begun_at (starts g l 0 [] notes) open'.lexeme.start [] rs
@@ -412,18 +475,22 @@ module _ (g : Catalog) (l : Limits) where
           stops : reads g l (origin g l) ts ≡ stopped
           stops =
               ap (reads g l (origin g l)) h.parts
-              ∙ (more_read g l h.front h.item h.values c (pieces_read g l h.front h.values c h.pieces) (means_begins g l c places.Top h.item (annotated ss (payloads.Fields ms)) h.means) h.apart
+              ∙ (more_read g l h.front h.item h.values c (pieces_read g l h.front h.values c h.pieces)
+              (means_begins g l c places.Top h.item (annotated ss (payloads.Fields ms)) h.means) h.apart
               ∙ ap (adds_values h.values)
               (ap (reads g l (fresh c)) cut
-              ∙ (read_behind g l (fresh c) (at (starts g l 0 [] notes) c [] rs nows.Ready) notes (open' ∷ (body ++ close ∷ [])) (notes_read g l c places.Top 0 [] notes rs refl a)
+              ∙ (read_behind g l (fresh c) (at (starts g l 0 [] notes) c [] rs nows.Ready) notes (open' ∷ (body ++ close ∷ []))
+              (notes_read g l c places.Top 0 [] notes rs refl a)
               ∙ (opened_struct g l c places.Top (starts g l 0 [] notes) s [] rs open' (body ++ close ∷ []) refl (omega (arith, deep.0)) opens refl
               ∙ (struct_ends g l c s [] rs body ms more close (members_read g l c s [] rs body ms more members deep.0) closes
               ∙ ap (λ x. on_turn x done) (refused s))))))
 
-      plain : (p : Place) (notes us : List Placed) (rs : Symbols) (q : Payload) → p ≡ places.Top → rs ≡ ss → Annotations c p notes rs → Plain c p us q → q ≡ payloads.Fields ms → h.item ≡ notes ++ us → TableStops ts e
+      plain : (p : Place) (notes us : List Placed) (rs : Symbols) (q : Payload) → p ≡ places.Top → rs ≡ ss → Annotations c p notes rs → Plain c p us q
+          → q ≡ payloads.Fields ms → h.item ≡ notes ++ us → TableStops ts e
       plain p notes _ rs _ top same a (is_struct p' open' close body fs more opens members closes) is cut =
           let k : fs ≡ ms = sym (ap fields_in (views.outs-Fields fs)) ∙ (ap (λ x. fields_in (views.out-Payload x)) is ∙ ap fields_in (views.outs-Fields ms)) in
-          struct' notes body rs open' close more same (subst (λ x. Annotations c x notes rs) top a) (subst (λ x. Says x open' (Mark' marks.FieldsOpen)) top opens) (subst (λ x. Members c body x more) k members) closes cut
+          struct' notes body rs open' close more same (subst (λ x. Annotations c x notes rs) top a)
+          (subst (λ x. Says x open' (Mark' marks.FieldsOpen)) top opens) (subst (λ x. Members c body x more) k members) closes cut
       plain p notes _ rs _ top same a (one_token p' t said q says scalar) is cut = absurd (no_fields said q scalar is)
         where
           no_fields : (said : Content) (q : Payload) → IsScalar c said q → q ≡ payloads.Fields ms → ⊥
@@ -443,7 +510,8 @@ module _ (g : Catalog) (l : Limits) where
       plain p notes _ rs _ top same a (is_list p' open' close body xs more opens items closes) is cut = absurd (other _ is (ap has_fields (views.outs-List xs)))
       plain p notes _ rs _ top same a (is_sexp p' open' close body xs opens items closes) is cut = absurd (other _ is (ap has_fields (views.outs-Sexp xs)))
 
-      value : (p : Place) (us : List Placed) (v : Value) → Means c p us v → p ≡ places.Top → v ≡ annotated ss (payloads.Fields ms) → us ≡ h.item → TableStops ts e
+      value : (p : Place) (us : List Placed) (v : Value) → Means c p us v → p ≡ places.Top → v ≡ annotated ss (payloads.Fields ms) → us ≡ h.item
+          → TableStops ts e
       value p _ _ (means p' notes us rs q a d) top is cut =
           let k = payload_same rs ss q (payloads.Fields ms) is in
           plain p notes us rs q top k.0 a d k.1 (sym cut)

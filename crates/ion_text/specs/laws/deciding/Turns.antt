@@ -65,7 +65,9 @@ not_less a b h = grind (arith, nat_tests)
 word_keyword : (w : List ℕ) (e : Reason) → held_symbol (held_word w) ≡ Err e → (is_keyword w ≡ true) × (reasons.KeywordAsName ≡ e)
 word_keyword w e h = go (bytes_eq w (codes "null")) (bytes_eq w (codes "true")) (bytes_eq w (codes "false")) (bytes_eq w (codes "nan")) (is_version w) h
   where
-    go : (a b c d v : Bool) → held_symbol (if a then helds.Null values.Null else (if b then helds.Truth true else (if c then helds.Truth false else (if d then helds.Nan else (if v then helds.Version (bytes_eq w the_marker) (Some w) else helds.Symbol (Some w)))))) ≡ Err e
+    go : (a b c d v : Bool) → held_symbol (if a then helds.Null values.Null else
+        (if b then helds.Truth true else (if c then helds.Truth false else
+        (if d then helds.Nan else (if v then helds.Version (bytes_eq w the_marker) (Some w) else helds.Symbol (Some w)))))) ≡ Err e
         → (((a || b) || (c || d)) ≡ true) × (reasons.KeywordAsName ≡ e)
     go true b c d v h = (refl, let k : reasons.KeywordAsName ≡ e = cc in k)
     go false true c d v h = (refl, let k : reasons.KeywordAsName ≡ e = cc in k)
@@ -74,11 +76,16 @@ word_keyword w e h = go (bytes_eq w (codes "null")) (bytes_eq w (codes "true")) 
     go false false false false true h = absurd cc
     go false false false false false h = absurd cc
 
-held_keyword : (c : List Slot) (said : Content) (h : Held) (e : Reason) → symbol_said said ≡ true → IsHeld c said h → held_symbol h ≡ Err e → IsKeyword said × (reasons.KeywordAsName ≡ e)
+held_keyword : (c : List Slot) (said : Content) (h : Held) (e : Reason) → symbol_said said ≡ true → IsHeld c said h → held_symbol h ≡ Err e → IsKeyword said
+    × (reasons.KeywordAsName ≡ e)
 held_keyword c (Word w) h e n k f = word_keyword w e (ap held_symbol (sym k) ∙ f)
 held_keyword c (Id id) h e n k f = absurd (let x : Ok k.0 ≡ Err e = ap held_symbol (sym k.2) ∙ f in cc)
 held_keyword c (Quoted w) h e n k f = absurd (let x : Ok (Some w) ≡ Err e = ap held_symbol (sym k) ∙ f in cc)
-held_keyword c (TypedNull kind) h e n k f = (tt, let x : Err reasons.KeywordAsName ≡ Err e = ap held_symbol (sym k) ∙ f in let y : reasons.KeywordAsName ≡ e = cc in y)
+held_keyword c (TypedNull kind) h e n k f = (
+  tt,
+  let x : Err reasons.KeywordAsName ≡ Err e = ap held_symbol (sym k) ∙ f in let y : reasons.KeywordAsName ≡ e =
+      cc in y,
+)
 held_keyword c _ h e n k f = absurd cc
 
 -- what is held as the marker of another version is such a word
@@ -95,7 +102,9 @@ word_other w s h = go (bytes_eq w (codes "null")) (bytes_eq w (codes "true")) (b
     which (helds.Version b s) = b
     which _ = true
 
-    go : (a b c d v : Bool) → is_version w ≡ v → helds.Version false s ≡ (if a then helds.Null values.Null else (if b then helds.Truth true else (if c then helds.Truth false else (if d then helds.Nan else (if v then helds.Version (bytes_eq w the_marker) (Some w) else helds.Symbol (Some w))))))
+    go : (a b c d v : Bool) → is_version w ≡ v → helds.Version false s
+        ≡ (if a then helds.Null values.Null else (if b then helds.Truth true else
+        (if c then helds.Truth false else (if d then helds.Nan else (if v then helds.Version (bytes_eq w the_marker) (Some w) else helds.Symbol (Some w))))))
         → OtherVersion (Word w)
     go true b c d v f h = absurd cc
     go false true c d v f h = absurd cc
@@ -137,28 +146,32 @@ module _ (g : Catalog) (l : Limits) (sight : Sight) where
   top_decided item start end c v (Err e) true f = f e refl refl
   top_decided item start end c v d false f = within_decided item start end (gives v (fresh c)) tt
 
-  ended_decided : (start end : ℕ) (c : List Slot) (fs : List Frame) (v : Value) → ((e : Reason) → fs ≡ [] → is_table v ≡ true → next c v g ≡ Err e → Decided e) → TurnDecided (ended (under g l) (spot_at end start c) fs v)
+  ended_decided : (start end : ℕ) (c : List Slot) (fs : List Frame) (v : Value) → ((e : Reason) → fs ≡ [] → is_table v ≡ true → next c v g ≡ Err e → Decided e)
+      → TurnDecided (ended (under g l) (spot_at end start c) fs v)
   ended_decided start end c [] v f = top_decided l.item start end c v (next c v g) (is_table v) (λ e i j. f e refl i j)
   ended_decided start end c (frames.List ss vs ∷ fs) v f = tt
   ended_decided start end c (frames.Sexp ss vs ∷ fs) v f = tt
   ended_decided start end c (frames.Named ss ms s ∷ fs) v f = tt
   ended_decided start end c (frames.Fields ss ms ∷ fs) v f = λ i. absurd i
 
-  flat_decided : (start end : ℕ) (c : List Slot) (fs : List Frame) (ss : Symbols) (q : Payload) → is_fields (layer_kind (views.out-Payload q)) ≡ false → TurnDecided (ended (under g l) (spot_at end start c) fs (annotated ss q))
+  flat_decided : (start end : ℕ) (c : List Slot) (fs : List Frame) (ss : Symbols) (q : Payload) → is_fields (layer_kind (views.out-Payload q)) ≡ false
+      → TurnDecided (ended (under g l) (spot_at end start c) fs (annotated ss q))
   flat_decided start end c fs ss q h = ended_decided start end c fs (annotated ss q) (λ e i j k. absurd (never (is_table (annotated ss q)) (no_table ss q h) j))
 
   inside_decided : (start end : ℕ) (c : List Slot) (f : Frame) (fs : List Frame) (v : Value) → TurnDecided (ended (under g l) (spot_at end start c) (f ∷ fs) v)
   inside_decided start end c f fs v = ended_decided start end c (f ∷ fs) v (λ e i j k. absurd (let n : f ∷ fs ≡ [] = i in cc))
 
   list_decided : (start end : ℕ) (c : List Slot) (fs : List Frame) → TurnDecided (list_closed (under g l) (spot_at end start c) fs)
-  list_decided start end c (frames.List ss vs ∷ fs) = flat_decided start end c fs ss (payloads.List vs) (ap (λ y. is_fields (layer_kind y)) (views.outs-List vs))
+  list_decided start end c (frames.List ss vs ∷ fs) = flat_decided start end c fs ss (payloads.List vs)
+      (ap (λ y. is_fields (layer_kind y)) (views.outs-List vs))
   list_decided start end c (frames.Sexp ss vs ∷ fs) = λ i. absurd i
   list_decided start end c (frames.Fields ss ms ∷ fs) = λ i. absurd i
   list_decided start end c (frames.Named ss ms s ∷ fs) = λ i. absurd i
   list_decided start end c [] = λ i. absurd i
 
   sexp_decided : (start end : ℕ) (c : List Slot) (fs : List Frame) → TurnDecided (sexp_closed (under g l) (spot_at end start c) fs)
-  sexp_decided start end c (frames.Sexp ss vs ∷ fs) = flat_decided start end c fs ss (payloads.Sexp vs) (ap (λ y. is_fields (layer_kind y)) (views.outs-Sexp vs))
+  sexp_decided start end c (frames.Sexp ss vs ∷ fs) = flat_decided start end c fs ss (payloads.Sexp vs)
+      (ap (λ y. is_fields (layer_kind y)) (views.outs-Sexp vs))
   sexp_decided start end c (frames.List ss vs ∷ fs) = λ i. absurd i
   sexp_decided start end c (frames.Fields ss ms ∷ fs) = λ i. absurd i
   sexp_decided start end c (frames.Named ss ms s ∷ fs) = λ i. absurd i
@@ -166,22 +179,28 @@ module _ (g : Catalog) (l : Limits) (sight : Sight) where
 
   module _ (c : List Slot) (front : List Placed) (vs : List Value) (pieces : Pieces g l front vs c) where
     -- a struct is closed
-    closed_decided : (start end : ℕ) (ss : Symbols) (ms : List Field) (fs : List Frame) (item : List Placed) (more : Bool) (t : Placed) → Deep l.depth (frames.Fields ss ms ∷ fs) → (ends_long front && begins_as_long item) ≡ false → Opened c (frames.Fields ss ms ∷ fs) item more → Says (close_place more) t (Mark' marks.FieldsClose)
+    closed_decided : (start end : ℕ) (ss : Symbols) (ms : List Field) (fs : List Frame) (item : List Placed) (more : Bool) (t : Placed)
+        → Deep l.depth (frames.Fields ss ms ∷ fs) → (ends_long front && begins_as_long item) ≡ false → Opened c (frames.Fields ss ms ∷ fs) item more
+        → Says (close_place more) t (Mark' marks.FieldsClose)
         → sight.mark (front ++ (item ++ t ∷ [])) → TurnDecided (ended (under g l) (spot_at end start c) fs (annotated ss (payloads.Fields ms)))
     closed_decided start end ss ms fs item more t deep apart o says shown =
         ended_decided start end c fs (annotated ss (payloads.Fields ms))
-        (λ e none i j k. bad_table (front ++ (item ++ t ∷ [])) c ss ms e shown (struct_ends g l c front vs ss ms item more t pieces (subst (λ y. Deep l.depth (frames.Fields ss ms ∷ y)) none deep) apart (subst (λ y. Opened c (frames.Fields ss ms ∷ y) item more) none o) says) i j)
+        (λ e none i j k. bad_table (front ++ (item ++ t ∷ [])) c ss ms e shown
+        (struct_ends g l c front vs ss ms item more t pieces (subst (λ y. Deep l.depth (frames.Fields ss ms ∷ y)) none deep) apart
+        (subst (λ y. Opened c (frames.Fields ss ms ∷ y) item more) none o) says) i j)
 
     module _ (t : Placed) (start end : ℕ) (item : List Placed) (apart : (ends_long front && begins_as_long item) ≡ false) where
       abbrev ts : List Placed
       ts = front ++ (item ++ t ∷ [])
 
       -- where a value may come
-      ready_decided : (fs : List Frame) (ss : Symbols) (said : Content) → Deep l.depth fs → ReadyFor c fs ss item → Says (value_place fs) t said → Shown sight ts said → TurnDecided (on_ready (under g l) (spot_at end start c) fs ss said)
+      ready_decided : (fs : List Frame) (ss : Symbols) (said : Content) → Deep l.depth fs → ReadyFor c fs ss item → Says (value_place fs) t said
+          → Shown sight ts said → TurnDecided (on_ready (under g l) (spot_at end start c) fs ss said)
       ready_decided fs ss (Word x) deep d says shown = tt
       ready_decided fs ss (Id id) deep d says shown = go (resolve c id) refl
         where
-          go : (r : Result (Option (List ℕ)) Reason) → resolve c id ≡ r → TurnDecided (resolved r (λ s. goes (at start c fs ss (nows.Pending (helds.Symbol s) end))))
+          go : (r : Result (Option (List ℕ)) Reason) → resolve c id ≡ r
+              → TurnDecided (resolved r (λ s. goes (at start c fs ss (nows.Pending (helds.Symbol s) end))))
           go (Ok s) e = tt
           go (Err e) f = λ i. no_symbol ts c (containers fs) id e shown (value_comes g l c front vs pieces t (Id id) fs ss item deep apart d says) f
       ready_decided fs ss (Quoted x) deep d says shown = tt
@@ -189,24 +208,34 @@ module _ (g : Catalog) (l : Limits) (sight : Sight) where
       ready_decided fs ss (Long x) deep d says shown = tt
       ready_decided fs ss (Short x) deep d says shown = flat_decided start end c fs ss (payloads.Str x) (ap (λ y. is_fields (layer_kind y)) (views.outs-Str x))
       ready_decided fs ss (Number' n) deep d says shown = flat_decided start end c fs ss (number_payload n) (flat_number n)
-      ready_decided fs ss (Operator x) deep d says shown = flat_decided start end c fs ss (payloads.Symbol (Some x)) (ap (λ y. is_fields (layer_kind y)) (views.outs-Symbol (Some x)))
+      ready_decided fs ss (Operator x) deep d says shown = flat_decided start end c fs ss (payloads.Symbol (Some x))
+          (ap (λ y. is_fields (layer_kind y)) (views.outs-Symbol (Some x)))
       ready_decided fs ss (Clob x) deep d says shown = flat_decided start end c fs ss (payloads.Clob x) (ap (λ y. is_fields (layer_kind y)) (views.outs-Clob x))
       ready_decided fs ss (Blob x) deep d says shown = flat_decided start end c fs ss (payloads.Blob x) (ap (λ y. is_fields (layer_kind y)) (views.outs-Blob x))
       ready_decided fs ss (Mark' marks.ListOpen) deep d says shown = go (nat_lt (length fs) l.depth) refl
         where
-          go : (b : Bool) → nat_lt (length fs) l.depth ≡ b → TurnDecided (if b then goes (at start c (frames.List ss [] ∷ fs) [] nows.Ready) else refuses reasons.Depth)
+          go : (b : Bool) → nat_lt (length fs) l.depth ≡ b → TurnDecided
+              (if b then goes (at start c (frames.List ss [] ∷ fs) [] nows.Ready) else refuses reasons.Depth)
           go true e = tt
-          go false e = λ i. too_deep ts c (containers fs) (Mark' marks.ListOpen) shown (value_comes g l c front vs pieces t (Mark' marks.ListOpen) fs ss item deep apart d says) (takes_value fs d.receives) (inl refl) (omega (arith, not_less (length fs) l.depth e, levels_same fs))
+          go false e = λ i. too_deep ts c (containers fs) (Mark' marks.ListOpen) shown
+              (value_comes g l c front vs pieces t (Mark' marks.ListOpen) fs ss item deep apart d says) (takes_value fs d.receives) (inl refl)
+              (omega (arith, not_less (length fs) l.depth e, levels_same fs))
       ready_decided fs ss (Mark' marks.SexpOpen) deep d says shown = go (nat_lt (length fs) l.depth) refl
         where
-          go : (b : Bool) → nat_lt (length fs) l.depth ≡ b → TurnDecided (if b then goes (at start c (frames.Sexp ss [] ∷ fs) [] nows.Ready) else refuses reasons.Depth)
+          go : (b : Bool) → nat_lt (length fs) l.depth ≡ b → TurnDecided
+              (if b then goes (at start c (frames.Sexp ss [] ∷ fs) [] nows.Ready) else refuses reasons.Depth)
           go true e = tt
-          go false e = λ i. too_deep ts c (containers fs) (Mark' marks.SexpOpen) shown (value_comes g l c front vs pieces t (Mark' marks.SexpOpen) fs ss item deep apart d says) (takes_value fs d.receives) (inr refl) (omega (arith, not_less (length fs) l.depth e, levels_same fs))
+          go false e = λ i. too_deep ts c (containers fs) (Mark' marks.SexpOpen) shown
+              (value_comes g l c front vs pieces t (Mark' marks.SexpOpen) fs ss item deep apart d says) (takes_value fs d.receives) (inr refl)
+              (omega (arith, not_less (length fs) l.depth e, levels_same fs))
       ready_decided fs ss (Mark' marks.FieldsOpen) deep d says shown = go (nat_lt (length fs) l.depth) refl
         where
-          go : (b : Bool) → nat_lt (length fs) l.depth ≡ b → TurnDecided (if b then goes (at start c (frames.Fields ss [] ∷ fs) [] nows.Name) else late reasons.Depth (at start c (frames.Fields ss [] ∷ fs) [] nows.Name))
+          go : (b : Bool) → nat_lt (length fs) l.depth ≡ b → TurnDecided
+              (if b then goes (at start c (frames.Fields ss [] ∷ fs) [] nows.Name) else late reasons.Depth (at start c (frames.Fields ss [] ∷ fs) [] nows.Name))
           go true e = tt
-          go false e = λ i. struct_too_deep ts c (containers fs) shown (value_comes g l c front vs pieces t (Mark' marks.FieldsOpen) fs ss item deep apart d says) (takes_value fs d.receives) (omega (arith, not_less (length fs) l.depth e, levels_same fs))
+          go false e = λ i. struct_too_deep ts c (containers fs) shown
+              (value_comes g l c front vs pieces t (Mark' marks.FieldsOpen) fs ss item deep apart d says) (takes_value fs d.receives)
+              (omega (arith, not_less (length fs) l.depth e, levels_same fs))
       ready_decided fs [] (Mark' marks.ListClose) deep d says shown = list_decided start end c fs
       ready_decided fs (s ∷ ss) (Mark' marks.ListClose) deep d says shown = λ i. absurd i
       ready_decided fs [] (Mark' marks.SexpClose) deep d says shown = sexp_decided start end c fs
@@ -220,7 +249,8 @@ module _ (g : Catalog) (l : Limits) (sight : Sight) where
       before_apart fs ss h d = begins_so (ends_long front) d.before (d.token ∷ []) (subst (λ x. (ends_long front && begins_as_long x) ≡ false) d.whole apart)
 
       -- behind what may be an annotation
-      pending_decided : (fs : List Frame) (ss : Symbols) (h : Held) (said : Content) → Deep l.depth fs → PendingFor c fs ss h item → Says (value_place fs) t said → Shown sight ts said → TurnDecided (on_pending start c fs ss h said)
+      pending_decided : (fs : List Frame) (ss : Symbols) (h : Held) (said : Content) → Deep l.depth fs → PendingFor c fs ss h item
+          → Says (value_place fs) t said → Shown sight ts said → TurnDecided (on_pending start c fs ss h said)
       pending_decided fs ss h (Mark' marks.Colons) deep d says shown = go (held_symbol h) refl
         where
           whole : ts ≡ (front ++ (d.before ++ d.token ∷ [])) ++ t ∷ []
@@ -232,7 +262,8 @@ module _ (g : Catalog) (l : Limits) (sight : Sight) where
               let k = held_keyword c d.said h e d.named d.known f in
               subst Decided k.1
               (λ i. keyword_as_annotation (front ++ (d.before ++ d.token ∷ [])) t c (containers fs) d.said (subst sight.mark whole shown)
-              (value_comes g l c front vs pieces d.token d.said fs ss d.before deep (before_apart fs ss h d) d.ready d.says) (takes_value fs d.ready.receives) k.0 (says_there fs t (Mark' marks.Colons) says))
+              (value_comes g l c front vs pieces d.token d.said fs ss d.before deep (before_apart fs ss h d) d.ready d.says) (takes_value fs d.ready.receives)
+              k.0 (says_there fs t (Mark' marks.Colons) says))
       pending_decided fs ss h _ deep d says shown = λ i. absurd i
 
       comma_decided : (fs : List Frame) → TurnDecided (on_comma start c fs)
@@ -243,10 +274,12 @@ module _ (g : Catalog) (l : Limits) (sight : Sight) where
       comma_decided [] = λ i. absurd i
 
       -- behind an element or a field
-      after_decided : (fs : List Frame) (said : Content) → Deep l.depth fs → Opened c fs item false → Says (place_in fs nows.After) t said → Shown sight ts said → TurnDecided (on_after (under g l) (spot_at end start c) fs said)
+      after_decided : (fs : List Frame) (said : Content) → Deep l.depth fs → Opened c fs item false → Says (place_in fs nows.After) t said → Shown sight ts said
+          → TurnDecided (on_after (under g l) (spot_at end start c) fs said)
       after_decided fs (Mark' marks.Comma) deep o says shown = comma_decided fs
       after_decided fs (Mark' marks.ListClose) deep o says shown = list_decided start end c fs
-      after_decided (frames.Fields ss ms ∷ fs) (Mark' marks.FieldsClose) deep o says shown = closed_decided start end ss ms fs item false t deep apart o says shown
+      after_decided (frames.Fields ss ms ∷ fs) (Mark' marks.FieldsClose) deep o says shown =
+          closed_decided start end ss ms fs item false t deep apart o says shown
       after_decided (frames.List ss vs ∷ fs) (Mark' marks.FieldsClose) deep o says shown = λ i. absurd i
       after_decided (frames.Sexp ss vs ∷ fs) (Mark' marks.FieldsClose) deep o says shown = λ i. absurd i
       after_decided (frames.Named ss ms s ∷ fs) (Mark' marks.FieldsClose) deep o says shown = λ i. absurd i
@@ -254,18 +287,23 @@ module _ (g : Catalog) (l : Limits) (sight : Sight) where
       after_decided fs _ deep o says shown = λ i. absurd i
 
       -- where a name may come
-      name_decided : (ss : Symbols) (ms : List Field) (fs : List Frame) (said : Content) → Deep l.depth (frames.Fields ss ms ∷ fs) → Opened c (frames.Fields ss ms ∷ fs) item true → Says places.Name t said → Shown sight ts said → TurnDecided (on_name (under g l) (spot_at end start c) (frames.Fields ss ms ∷ fs) said)
+      name_decided : (ss : Symbols) (ms : List Field) (fs : List Frame) (said : Content) → Deep l.depth (frames.Fields ss ms ∷ fs)
+          → Opened c (frames.Fields ss ms ∷ fs) item true → Says places.Name t said → Shown sight ts said
+          → TurnDecided (on_name (under g l) (spot_at end start c) (frames.Fields ss ms ∷ fs) said)
       name_decided ss ms fs (Word x) deep o says shown = go (is_keyword x) refl
         where
-          go : (b : Bool) → is_keyword x ≡ b → TurnDecided (if b then late reasons.KeywordAsName (keyed start c (frames.Fields ss ms ∷ fs) (Some x)) else goes (keyed start c (frames.Fields ss ms ∷ fs) (Some x)))
+          go : (b : Bool) → is_keyword x ≡ b → TurnDecided (if b then late reasons.KeywordAsName (keyed start c (frames.Fields ss ms ∷ fs) (Some x)) else goes
+              (keyed start c (frames.Fields ss ms ∷ fs) (Some x)))
           go true e = λ i. keyword_as_name ts c (containers fs) (Word x) shown (name_comes g l c front vs pieces t (Word x) ss ms fs item deep apart o says) e
           go false e = tt
-      name_decided ss ms fs (TypedNull k) deep o says shown = λ i. keyword_as_name ts c (containers fs) (TypedNull k) shown (name_comes g l c front vs pieces t (TypedNull k) ss ms fs item deep apart o says) tt
+      name_decided ss ms fs (TypedNull k) deep o says shown =
+          λ i. keyword_as_name ts c (containers fs) (TypedNull k) shown (name_comes g l c front vs pieces t (TypedNull k) ss ms fs item deep apart o says) tt
       name_decided ss ms fs (Id id) deep o says shown = go (resolve c id) refl
         where
           go : (r : Result (Option (List ℕ)) Reason) → resolve c id ≡ r → TurnDecided (resolved r (λ s. goes (keyed start c (frames.Fields ss ms ∷ fs) s)))
           go (Ok s) e = tt
-          go (Err e) f = λ i. no_symbol ts c (InStruct ∷ containers fs) id e shown (name_comes g l c front vs pieces t (Id id) ss ms fs item deep apart o says) f
+          go (Err e) f = λ i. no_symbol ts c (InStruct ∷ containers fs) id e shown (name_comes g l c front vs pieces t (Id id) ss ms fs item deep apart o says)
+              f
       name_decided ss ms fs (Quoted x) deep o says shown = tt
       name_decided ss ms fs (Short x) deep o says shown = tt
       name_decided ss ms fs (Long x) deep o says shown = tt
@@ -293,13 +331,17 @@ module _ (g : Catalog) (l : Limits) (sight : Sight) where
       long_decided fs ss v _ = λ i. absurd i
 
     -- What a token is refused for is a row.
-    pub token_decided : (t : Placed) (begin end start : ℕ) (item : List Placed) (fs : List Frame) (ss : Symbols) (said : Content) (now : Now) → Deep l.depth fs → (ends_long front && begins_as_long item) ≡ false → NowStands c fs ss item now → Says (place_in fs now) t said
+    pub token_decided : (t : Placed) (begin end start : ℕ) (item : List Placed) (fs : List Frame) (ss : Symbols) (said : Content) (now : Now) → Deep l.depth fs
+        → (ends_long front && begins_as_long item) ≡ false → NowStands c fs ss item now → Says (place_in fs now) t said
         → Shown sight (front ++ (item ++ t ∷ [])) said → TurnDecided (turn_now (under g l) (at start c fs ss now) (token_at begin end said) now)
-    token_decided t begin end start item fs ss said nows.Ready deep apart d says shown = ready_decided t (begun_at start begin fs ss) end item apart fs ss said deep d says shown
-    token_decided t begin end start item fs ss said (nows.Pending h e) deep apart d says shown = pending_decided t start end item apart fs ss h said deep d (subst (λ p. Says p t said) (pending_at fs h e) says) shown
+    token_decided t begin end start item fs ss said nows.Ready deep apart d says shown =
+        ready_decided t (begun_at start begin fs ss) end item apart fs ss said deep d says shown
+    token_decided t begin end start item fs ss said (nows.Pending h e) deep apart d says shown =
+        pending_decided t start end item apart fs ss h said deep d (subst (λ p. Says p t said) (pending_at fs h e) says) shown
     token_decided t begin end start item fs ss said (nows.Long v e) deep apart d says shown = long_decided t start end item apart fs ss v said
     token_decided t begin end start item fs ss said nows.After deep apart d says shown = after_decided t start end item apart fs said deep d.0 says shown
-    token_decided t begin end start item (frames.Fields rs ms ∷ fs) ss said nows.Name deep apart d says shown = name_decided t start end item apart rs ms fs said deep d.0 says shown
+    token_decided t begin end start item (frames.Fields rs ms ∷ fs) ss said nows.Name deep apart d says shown =
+        name_decided t start end item apart rs ms fs said deep d.0 says shown
     token_decided t begin end start item [] ss said nows.Name deep apart d says shown = absurd d.1
     token_decided t begin end start item (frames.List rs xs ∷ fs) ss said nows.Name deep apart d says shown = absurd d.1
     token_decided t begin end start item (frames.Sexp rs xs ∷ fs) ss said nows.Name deep apart d says shown = absurd d.1
@@ -311,7 +353,8 @@ module _ (g : Catalog) (l : Limits) (sight : Sight) where
 
     module _ (start end : ℕ) (item : List Placed) (apart : (ends_long front && begins_as_long item) ≡ false) where
       -- a null of structs may be a local symbol table
-      null_decided : (ss : Symbols) (k : Kind) → PendingFor c [] ss (helds.Null k) item → sight.alone (front ++ item) → TurnDecided (ended (under g l) (spot_at end start c) [] (annotated ss (payloads.Null k)))
+      null_decided : (ss : Symbols) (k : Kind) → PendingFor c [] ss (helds.Null k) item → sight.alone (front ++ item)
+          → TurnDecided (ended (under g l) (spot_at end start c) [] (annotated ss (payloads.Null k)))
       null_decided ss k d shown = ended_decided start end c [] v (λ e i j f h. null_table (front ++ item) c ss k e shown there j f)
         where
           v : Value
@@ -329,7 +372,8 @@ module _ (g : Catalog) (l : Limits) (sight : Sight) where
             pieces = pieces;
             means =
                 subst (λ x. Means c places.Top x v) alone
-                (means places.Top d.ready.notes (d.token ∷ []) ss (payloads.Null k) d.ready.noted (one_token places.Top d.token d.said (payloads.Null k) d.says (d.stood.value (payloads.Null k) refl)));
+                (means places.Top d.ready.notes (d.token ∷ []) ss (payloads.Null k) d.ready.noted
+                (one_token places.Top d.token d.said (payloads.Null k) d.says (d.stood.value (payloads.Null k) refl)));
             deep = let flat = flat_null ss k in omega (arith, flat);
             apart = apart;
           }
@@ -340,19 +384,26 @@ module _ (g : Catalog) (l : Limits) (sight : Sight) where
           let says = subst (Says places.Top d.token) x.is d.says in
           let none : d.ready.notes ≡ [] = none_noted c places.Top d.ready.notes [] d.ready.noted refl in
           other_version (front ++ (d.before ++ d.token ∷ [])) c x.word (subst sight.alone (ap (λ y. front ++ y) d.whole) shown)
-          (value_comes g l c front vs pieces d.token (Word x.word) [] [] d.before tt (begins_so (ends_long front) d.before (d.token ∷ []) (subst (λ y. (ends_long front && begins_as_long y) ≡ false) d.whole apart)) d.ready says) none x.version (λ q. never (bytes_eq x.word the_marker) x.other ((bytes_eq-Decides x.word the_marker).1 q))
+          (value_comes g l c front vs pieces d.token (Word x.word) [] [] d.before tt
+          (begins_so (ends_long front) d.before (d.token ∷ []) (subst (λ y. (ends_long front && begins_as_long y) ≡ false) d.whole apart)) d.ready says)
+          none x.version (λ q. never (bytes_eq x.word the_marker) x.other ((bytes_eq-Decides x.word the_marker).1 q))
 
-      released_decided : (fs : List Frame) (ss : Symbols) (h : Held) → PendingFor c fs ss h item → (fs ≡ [] → sight.alone (front ++ item)) → TurnDecided (released (under g l) (spot_at end start c) fs ss h)
+      released_decided : (fs : List Frame) (ss : Symbols) (h : Held) → PendingFor c fs ss h item → (fs ≡ [] → sight.alone (front ++ item))
+          → TurnDecided (released (under g l) (spot_at end start c) fs ss h)
       released_decided [] [] (helds.Version true s) d f = within_decided l.item start end (goes (fresh system_slots)) tt
       released_decided [] [] (helds.Version false s) d f = version_decided s d (f refl)
-      released_decided [] [] (helds.Symbol s) d f = flat_decided start end c [] [] (payloads.Symbol s) (ap (λ y. is_fields (layer_kind y)) (views.outs-Symbol s))
+      released_decided [] [] (helds.Symbol s) d f = flat_decided start end c [] [] (payloads.Symbol s)
+          (ap (λ y. is_fields (layer_kind y)) (views.outs-Symbol s))
       released_decided [] [] (helds.Null k) d f = null_decided [] k d (f refl)
       released_decided [] [] (helds.Truth b) d f = flat_decided start end c [] [] (payloads.Truth b) (ap (λ y. is_fields (layer_kind y)) (views.outs-Truth b))
       released_decided [] [] helds.Nan d f = λ i. absurd i
-      released_decided [] (x ∷ ss) (helds.Version b s) d f = flat_decided start end c [] (x ∷ ss) (payloads.Symbol s) (ap (λ y. is_fields (layer_kind y)) (views.outs-Symbol s))
-      released_decided [] (x ∷ ss) (helds.Symbol s) d f = flat_decided start end c [] (x ∷ ss) (payloads.Symbol s) (ap (λ y. is_fields (layer_kind y)) (views.outs-Symbol s))
+      released_decided [] (x ∷ ss) (helds.Version b s) d f =
+          flat_decided start end c [] (x ∷ ss) (payloads.Symbol s) (ap (λ y. is_fields (layer_kind y)) (views.outs-Symbol s))
+      released_decided [] (x ∷ ss) (helds.Symbol s) d f = flat_decided start end c [] (x ∷ ss) (payloads.Symbol s)
+          (ap (λ y. is_fields (layer_kind y)) (views.outs-Symbol s))
       released_decided [] (x ∷ ss) (helds.Null k) d f = null_decided (x ∷ ss) k d (f refl)
-      released_decided [] (x ∷ ss) (helds.Truth b) d f = flat_decided start end c [] (x ∷ ss) (payloads.Truth b) (ap (λ y. is_fields (layer_kind y)) (views.outs-Truth b))
+      released_decided [] (x ∷ ss) (helds.Truth b) d f = flat_decided start end c [] (x ∷ ss) (payloads.Truth b)
+          (ap (λ y. is_fields (layer_kind y)) (views.outs-Truth b))
       released_decided [] (x ∷ ss) helds.Nan d f = λ i. absurd i
       released_decided (y ∷ fs) ss (helds.Version b s) d f = inside_decided start end c y fs (annotated ss (payloads.Symbol s))
       released_decided (y ∷ fs) ss (helds.Symbol s) d f = inside_decided start end c y fs (annotated ss (payloads.Symbol s))
@@ -361,10 +412,12 @@ module _ (g : Catalog) (l : Limits) (sight : Sight) where
       released_decided (y ∷ fs) ss helds.Nan d f = λ i. absurd i
 
     -- What is refused of what waited is a row.
-    pub settled_decided : (start : ℕ) (item : List Placed) (fs : List Frame) (ss : Symbols) (now : Now) → (ends_long front && begins_as_long item) ≡ false → NowStands c fs ss item now → ((h : Held) (end : ℕ) → now ≡ nows.Pending h end → fs ≡ [] → sight.alone (front ++ item))
+    pub settled_decided : (start : ℕ) (item : List Placed) (fs : List Frame) (ss : Symbols) (now : Now) → (ends_long front && begins_as_long item) ≡ false
+        → NowStands c fs ss item now → ((h : Held) (end : ℕ) → now ≡ nows.Pending h end → fs ≡ [] → sight.alone (front ++ item))
         → TurnDecided (settle g l (at start c fs ss now))
     settled_decided start item fs ss (nows.Pending h end) apart d f = released_decided start end item apart fs ss h d (f h end refl)
-    settled_decided start item fs ss (nows.Long v end) apart d f = flat_decided start end c fs ss (payloads.Str v) (ap (λ y. is_fields (layer_kind y)) (views.outs-Str v))
+    settled_decided start item fs ss (nows.Long v end) apart d f =
+        flat_decided start end c fs ss (payloads.Str v) (ap (λ y. is_fields (layer_kind y)) (views.outs-Str v))
     settled_decided start item fs ss (nows.LongName v) apart d f = tt
     settled_decided start item fs ss nows.Ready apart d f = tt
     settled_decided start item fs ss nows.After apart d f = tt

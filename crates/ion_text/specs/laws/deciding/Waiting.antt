@@ -60,14 +60,17 @@ use Rattle.ion_text.specs.laws.deciding.Tokens.{Refusing, refusing_stops, refusi
 -- a word of the form of a marker is held as one
 version_held : (w : List ℕ) → is_version w ≡ true → w ≢ the_marker → held_word w ≡ helds.Version false (Some w)
 version_held w v n =
-    go (bytes_eq w (codes "null")) (bytes_eq w (codes "true")) (bytes_eq w (codes "false")) (bytes_eq w (codes "nan")) (bytes_eq w the_marker) (not_word (codes "null") refl) (not_word (codes "true") refl) (not_word (codes "false") refl) (not_word (codes "nan") refl)
+    go (bytes_eq w (codes "null")) (bytes_eq w (codes "true")) (bytes_eq w (codes "false")) (bytes_eq w (codes "nan")) (bytes_eq w the_marker)
+    (not_word (codes "null") refl) (not_word (codes "true") refl) (not_word (codes "false") refl) (not_word (codes "nan") refl)
     (λ e. n ((bytes_eq-Decides w the_marker).0 e))
   where
     not_word : (k : List ℕ) → is_version k ≡ false → bytes_eq w k ≡ true → ⊥
     not_word k f e = never (is_version w) (ap is_version ((bytes_eq-Decides w k).0 e) ∙ f) v
 
     go : (a b c d e : Bool) → (a ≡ true → ⊥) → (b ≡ true → ⊥) → (c ≡ true → ⊥) → (d ≡ true → ⊥) → (e ≡ true → ⊥)
-        → (if a then helds.Null values.Null else (if b then helds.Truth true else (if c then helds.Truth false else (if d then helds.Nan else (if is_version w then helds.Version e (Some w) else helds.Symbol (Some w)))))) ≡ helds.Version false (Some w)
+        → (if a then helds.Null values.Null else (if b then helds.Truth true else
+        (if c then helds.Truth false else (if d then helds.Nan else (if is_version w then helds.Version e (Some w) else helds.Symbol (Some w))))))
+        ≡ helds.Version false (Some w)
     go true b c d e i j k m n = absurd (i refl)
     go false true c d e i j k m n = absurd (j refl)
     go false false true d e i j k m n = absurd (k refl)
@@ -98,12 +101,15 @@ pub record Pends (g : Catalog) (l : Limits) (ts : List Placed) (e : Reason) : Ty
   pub why : Refusing e (settle g l (at start context [] notes (nows.Pending held end)))
 
 -- `::` behind tokens
-pub colons_shown : (u : List ℕ) (ws : List Placed) (x : Placed) (ys : List Placed) (colon after : Bool) (end k : ℕ) (rest left : List ℕ) → LexesTo false 0 u ws colon end rest → LexesTo false 0 u (ws ++ x ∷ ys) after k left → x.lexeme.kind ≡ kinds.Mark marks.Colons → BlankThen (codes "::") rest
+pub colons_shown : (u : List ℕ) (ws : List Placed) (x : Placed) (ys : List Placed) (colon after : Bool) (end k : ℕ) (rest left : List ℕ)
+    → LexesTo false 0 u ws colon end rest → LexesTo false 0 u (ws ++ x ∷ ys) after k left → x.lexeme.kind ≡ kinds.Mark marks.Colons
+    → BlankThen (codes "::") rest
 colons_shown u ws x ys colon after end k rest left here lexes kind =
     let d = parted ws (x ∷ ys) false 0 u after k left lexes in
     let one = lexes_once ws false 0 u d.flag colon d.mid end d.left rest d.first here in
     let b = d.second.1 in
-    blank_token (codes "::") [] d.left rest d.second.0 d.flag d.mid x b (colons_token x.place d.flag b.token d.second.0 x.lexeme.kind x.lexeme.octets b.is kind).0 one.2
+    blank_token (codes "::") [] d.left rest d.second.0 d.flag d.mid x b
+    (colons_token x.place d.flag b.token d.second.0 x.lexeme.kind x.lexeme.octets b.is kind).0 one.2
 
 module _ (g : Catalog) (l : Limits) (ws : List Placed) (reason : Reason) (p : Pends g l ws reason) where
   abbrev pub pend : Reading
@@ -116,7 +122,8 @@ module _ (g : Catalog) (l : Limits) (ws : List Placed) (reason : Reason) (p : Pe
   pends_in_place = subst (InPlace g l) (sym p.is) (last_in_place g l p.front p.token p.came)
 
   -- What comes next of tokens that are read is `::`.
-  pub colons_next : (x : Placed) (ys : List Placed) (zs : List Value) (n : Reading) → reads g l (origin g l) (ws ++ x ∷ ys) ≡ walked zs n → x.lexeme.kind ≡ kinds.Mark marks.Colons
+  pub colons_next : (x : Placed) (ys : List Placed) (zs : List Value) (n : Reading) → reads g l (origin g l) (ws ++ x ∷ ys) ≡ walked zs n
+      → x.lexeme.kind ≡ kinds.Mark marks.Colons
   colons_next x ys zs n e = go (continues pend (token_of x.lexeme q.1)) refl
     where
       rest : (zs : List Value) × (reads g l pend (x ∷ ys) ≡ walked zs n)
@@ -128,8 +135,10 @@ module _ (g : Catalog) (l : Limits) (ws : List Placed) (reason : Reason) (p : Pe
       go : (y : Bool) → continues pend (token_of x.lexeme q.1) ≡ y → x.lexeme.kind ≡ kinds.Mark marks.Colons
       go true f =
           let colons = pending_goes g l p.start p.context [] p.notes p.held p.end (token_of x.lexeme q.1) f in
-          mark_kind x.lexeme.kind x.lexeme.octets marks.Colons (subst (λ y. IsBody x.lexeme.kind x.lexeme.octets (Ok y)) colons (said_body x.lexeme.kind x.lexeme.octets q.1 q.2))
-      go false f = absurd (let never : walked rest.0 n ≡ stopped = sym rest.1 ∙ (settled_reads g l pend x ys q.1 q.0 q.2 f ∙ settling_stops (λ k. reads g l k (x ∷ ys))) in cc)
+          mark_kind x.lexeme.kind x.lexeme.octets marks.Colons (subst (λ y. IsBody x.lexeme.kind x.lexeme.octets (Ok y)) colons
+          (said_body x.lexeme.kind x.lexeme.octets q.1 q.2))
+      go false f = absurd (let never : walked rest.0 n ≡ stopped =
+          sym rest.1 ∙ (settled_reads g l pend x ys q.1 q.0 q.2 f ∙ settling_stops (λ k. reads g l k (x ∷ ys))) in cc)
 
 module _ (g : Catalog) (l : Limits) (u : List ℕ) (vs : List Value) (m : State) (b : Stood g l u vs m) (wait : Waits g l m.scan m.reading.now) where
   abbrev r : Reading
@@ -141,7 +150,8 @@ module _ (g : Catalog) (l : Limits) (u : List ℕ) (vs : List Value) (m : State)
   module _ (ws : List Placed) (reason : Reason) (p : Pends g l ws reason) (none : NoColons u ws) where
     all : (ms : List Placed) × (told ≡ ws ++ ms)
     all =
-        all_told g l u vs m b ws p.front p.token p.is (begins_lexed ws false 0 u none.are.0 none.are.1 (none.rest ++ none.o ∷ []) none.are.2) (pends_in_place g l ws reason p)
+        all_told g l u vs m b ws p.front p.token p.is (begins_lexed ws false 0 u none.are.0 none.are.1 (none.rest ++ none.o ∷ []) none.are.2)
+        (pends_in_place g l ws reason p)
         (ended_by_rest g l u p.front p.token none.o none.rest p.plain (subst (λ y. Are u y (none.rest ++ none.o ∷ [])) p.is none.are))
 
     -- the octets go on with no token
@@ -149,8 +159,11 @@ module _ (g : Catalog) (l : Limits) (u : List ℕ) (vs : List Value) (m : State)
     more_never x ys e =
         let w = stood_read g l u vs m b in
         let k = k (place r) m.scan u told [] b.scanned 0 (0 ∷ [], refl) in
-        let lexes : LexesTo false 0 u told k.colon k.end k.since = subst (λ y. LexesTo false 0 y told k.colon k.end k.since) (append-nil u) (subst (LexesTo false 0 (u ++ []) told k.colon k.end) (append-nil k.since) (k.lexes [] ([], refl))) in
-        none.after [] (colons_shown u ws x ys none.are.0 k.colon none.are.1 k.end (none.rest ++ none.o ∷ []) k.since none.are.2 (subst (λ y. LexesTo false 0 u y k.colon k.end k.since) e lexes)
+        let lexes : LexesTo false 0 u told k.colon k.end k.since =
+        subst (λ y. LexesTo false 0 y told k.colon k.end k.since) (append-nil u)
+        (subst (LexesTo false 0 (u ++ []) told k.colon k.end) (append-nil k.since) (k.lexes [] ([], refl))) in
+        none.after [] (colons_shown u ws x ys none.are.0 k.colon none.are.1 k.end (none.rest ++ none.o ∷ []) k.since none.are.2
+        (subst (λ y. LexesTo false 0 u y k.colon k.end k.since) e lexes)
         (colons_next g l ws reason p x ys w.values w.now (ap (reads g l (origin g l)) (sym e) ∙ w.read)))
 
     -- where they waited, `::` may follow
@@ -158,22 +171,28 @@ module _ (g : Catalog) (l : Limits) (u : List ℕ) (vs : List Value) (m : State)
     waits_never e top now =
         let idle : is_idle m.scan.mode ≡ true = subst (Waits g l m.scan) now wait in
         let here : place r ≡ places.Top = ap (λ x. place_in x r.now) top in
-        let a = awaits_colons (place r) m.scan u told [] b.scanned 0 (0 ∷ [], refl) here (flag (place r) m.scan u told [] b.scanned 0 (0 ∷ [], refl) p.front p.token (e ∙ p.is) p.colon) idle refl in
-        let one = lexes_once ws false 0 u a.are.0 none.are.0 a.are.1 none.are.1 a.rest (none.rest ++ none.o ∷ []) (subst (λ y. LexesTo false 0 u y a.are.0 a.are.1 a.rest) e a.are.2) none.are.2 in
+        let a = awaits_colons (place r) m.scan u told [] b.scanned 0 (0 ∷ [], refl) here
+        (flag (place r) m.scan u told [] b.scanned 0 (0 ∷ [], refl) p.front p.token (e ∙ p.is) p.colon) idle refl in
+        let one = lexes_once ws false 0 u a.are.0 none.are.0 a.are.1 none.are.1 a.rest (none.rest ++ none.o ∷ [])
+        (subst (λ y. LexesTo false 0 u y a.are.0 a.are.1 a.rest) e a.are.2) none.are.2 in
         none.after a.before.0 (subst (BlankThen (codes "::")) (ap (λ y. y ++ a.before.0) one.2 ∙ append_assoc none.rest (none.o ∷ []) a.before.0) a.before.1)
 
-    item_never : (x : Placed) (ys : List Placed) → NowStands r.context r.frames r.notes (x ∷ ys) r.now → (ends_long b.front && begins_as_long (x ∷ ys)) ≡ false → EndsAt r.now (end_of 0 (x ∷ ys)) → told ≡ ws → told ≡ b.front ++ x ∷ ys → ⊥
+    item_never : (x : Placed) (ys : List Placed) → NowStands r.context r.frames r.notes (x ∷ ys) r.now → (ends_long b.front && begins_as_long (x ∷ ys)) ≡ false
+        → EndsAt r.now (end_of 0 (x ∷ ys)) → told ≡ ws → told ≡ b.front ++ x ∷ ys → ⊥
     item_never x ys d apart ends e f = by a.is
       where
         a : Arrived g l r.context r.frames r.notes r.now (x ∷ ys)
         a = item_arrived g l r.context r.frames r.notes r.now x ys b.deep d
 
         same : a.r ≡ pend g l ws reason p
-        same = (walked_now g l (vs ++ []) p.values a.r (pend g l ws reason p) (sym (item_read g l r.context b.front vs r.frames r.notes r.now x ys b.pieces d apart a) ∙ (ap (reads g l (origin g l)) (sym f ∙ e) ∙ p.read))).1
+        same = (walked_now g l (vs ++ []) p.values a.r (pend g l ws reason p)
+            (sym (item_read g l r.context b.front vs r.frames r.notes r.now x ys b.pieces d apart a) ∙ (ap (reads g l (origin g l)) (sym f ∙ e) ∙ p.read))).1
 
-        by : ((n : Reading) × (settle g l a.r ≡ goes n) × (is_fresh n ≡ false) × (n.start ≡ starts g l 0 [] (x ∷ ys))) ⊎ (IsWaiting g l r.now × IsWaiting g l a.r.now × (a.r.start ≡ starts g l 0 [] (x ∷ ys))) → ⊥
+        by : ((n : Reading) × (settle g l a.r ≡ goes n) × (is_fresh n ≡ false) × (n.start ≡ starts g l 0 [] (x ∷ ys)))
+            ⊎ (IsWaiting g l r.now × IsWaiting g l a.r.now × (a.r.start ≡ starts g l 0 [] (x ∷ ys))) → ⊥
         by (inl (n, settles, fresh, at')) =
-            let k : walked [] n ≡ stopped = sym (ap (λ y. on_turn y done) settles) ∙ (ap (λ y. on_turn (settle g l y) done) same ∙ settling_stops g l ws reason p done) in
+            let k : walked [] n ≡ stopped = sym (ap (λ y. on_turn y done) settles)
+            ∙ (ap (λ y. on_turn (settle g l y) done) same ∙ settling_stops g l ws reason p done) in
             cc
         by (inr (w, w', at')) =
             let there = sym (a.waited w ends) ∙ same in
@@ -182,11 +201,15 @@ module _ (g : Catalog) (l : Limits) (u : List ℕ) (vs : List Value) (m : State)
     all_never : told ≡ ws → (item : List Placed) → b.item ≡ item → ⊥
     all_never e [] f =
         let d = pieces_read g l b.front vs r.context b.pieces in
-        let same = walked_now g l d.given p.values d.now (pend g l ws reason p) (sym d.read ∙ (ap (reads g l (origin g l)) (sym (sym e ∙ (ap (λ y. b.front ++ y) f ∙ append-nil b.front))) ∙ p.read)) in
-        let n : walked d.later (fresh r.context) ≡ stopped = sym d.settles ∙ (ap (λ y. on_turn (settle g l y) done) same.1 ∙ settling_stops g l ws reason p done) in
+        let same = walked_now g l d.given p.values d.now (pend g l ws reason p)
+        (sym d.read ∙ (ap (reads g l (origin g l)) (sym (sym e ∙ (ap (λ y. b.front ++ y) f ∙ append-nil b.front))) ∙ p.read)) in
+        let n : walked d.later (fresh r.context) ≡ stopped = sym d.settles
+        ∙ (ap (λ y. on_turn (settle g l y) done) same.1 ∙ settling_stops g l ws reason p done) in
         cc
     all_never e (x ∷ ys) f =
-        item_never x ys (subst (λ y. NowStands r.context r.frames r.notes y r.now) f b.stands) (subst (λ y. (ends_long b.front && begins_as_long y) ≡ false) f b.first) (subst (λ y. EndsAt r.now (end_of 0 y)) f b.ends) e (ap (λ y. b.front ++ y) f)
+        item_never x ys (subst (λ y. NowStands r.context r.frames r.notes y r.now) f b.stands)
+        (subst (λ y. (ends_long b.front && begins_as_long y) ≡ false) f b.first) (subst (λ y. EndsAt r.now (end_of 0 y)) f b.ends) e
+        (ap (λ y. b.front ++ y) f)
 
     -- Where the octets show that no `::` follows, they are refused.
     pub pends_refused : ⊥
@@ -198,8 +221,10 @@ module _ (g : Catalog) (l : Limits) (u : List ℕ) (vs : List Value) (m : State)
 
 module _ (g : Catalog) (l : Limits) where
   -- a token that is held
-  module _ (c : List Slot) (said : Content) (ts : List Placed) (h : Comes g l c [] said ts) (bare : BareSaid said) (symbol : symbol_said said ≡ true) (apart : JoinsNothing said) (word : Held)
-      (waits : (start end : ℕ) → on_ready (under g l) (spot_at end start c) (f g l c [] said ts h).held h.symbols said ≡ goes (at start c (f g l c [] said ts h).held h.symbols (nows.Pending word end)))
+  module _ (c : List Slot) (said : Content) (ts : List Placed) (h : Comes g l c [] said ts) (bare : BareSaid said) (symbol : symbol_said said ≡ true)
+      (apart : JoinsNothing said) (word : Held)
+      (waits : (start end : ℕ) → on_ready (under g l) (spot_at end start c) (f g l c [] said ts h).held h.symbols said
+      ≡ goes (at start c (f g l c [] said ts h).held h.symbols (nows.Pending word end)))
       (reason : Reason) (refused : (start end : ℕ) → Refusing reason (settle g l (at start c [] h.symbols (nows.Pending word end)))) where
     held_pends : Pends g l ts reason
     held_pends =
@@ -222,21 +247,26 @@ module _ (g : Catalog) (l : Limits) where
           notes = h.symbols;
           held = word;
           values = h.values ++ [];
-          read = ap (reads g l (origin g l)) is ∙ (x.1 ∙ ap (λ fs. walked (h.values ++ []) (at start c fs h.symbols (nows.Pending word end))) (no_frames held (f g l c [] said ts h).same));
+          read = ap (reads g l (origin g l)) is ∙ (x.1 ∙ ap (λ fs. walked (h.values ++ []) (at start c fs h.symbols (nows.Pending word end)))
+              (no_frames held (f g l c [] said ts h).same));
           why = refused start end;
         }
 
-  pub version_pends : (ts : List Placed) (c : List Slot) (w : List ℕ) → (h : Comes g l c [] (Word w) ts) → h.notes ≡ [] → is_version w ≡ true → w ≢ the_marker → Pends g l ts Version
+  pub version_pends : (ts : List Placed) (c : List Slot) (w : List ℕ) → (h : Comes g l c [] (Word w) ts) → h.notes ≡ [] → is_version w ≡ true → w ≢ the_marker
+      → Pends g l ts Version
   version_pends ts c w h bare version other =
       held_pends c (Word w) ts h tt refl (word_apart w) (held_word w) (λ start end. refl)
       Version
-      (λ start end. subst (λ ss. Refusing Version (settle g l (at start c [] ss (nows.Pending (held_word w) end)))) (sym (no_notes c places.Top h.notes h.symbols h.noted (sym bare))) (subst (λ x. Refusing Version (settle g l (at start c [] [] (nows.Pending x end)))) (sym (version_held w version other)) refl))
+      (λ start end. subst (λ ss. Refusing Version (settle g l (at start c [] ss (nows.Pending (held_word w) end))))
+      (sym (no_notes c places.Top h.notes h.symbols h.noted (sym bare)))
+      (subst (λ x. Refusing Version (settle g l (at start c [] [] (nows.Pending x end)))) (sym (version_held w version other)) refl))
 
   abbrev has_null : Layer → Bool
   has_null (Payload-F.Null k) = true
   has_null _ = false
 
-  pub null_pends : (ts : List Placed) (c : List Slot) (ss : Symbols) (k : Kind) (e : Reason) → Ends g l c (annotated ss (payloads.Null k)) ts → is_table (annotated ss (payloads.Null k)) ≡ true → next c (annotated ss (payloads.Null k)) g ≡ Err e → Pends g l ts e
+  pub null_pends : (ts : List Placed) (c : List Slot) (ss : Symbols) (k : Kind) (e : Reason) → Ends g l c (annotated ss (payloads.Null k)) ts
+      → is_table (annotated ss (payloads.Null k)) ≡ true → next c (annotated ss (payloads.Null k)) g ≡ Err e → Pends g l ts e
   null_pends ts c ss k e h table fails = value places.Top h.item (annotated ss (payloads.Null k)) h.means refl refl refl
     where
       v : Value
@@ -245,13 +275,15 @@ module _ (g : Catalog) (l : Limits) where
       other : (q : Payload) → q ≡ payloads.Null k → has_null (views.out-Payload q) ≡ false → ⊥
       other q e n = never (has_null (views.out-Payload q)) n (ap (λ x. has_null (views.out-Payload x)) e ∙ ap has_null (views.outs-Null k))
 
-      refused : (rs : Symbols) (kind : Kind) → annotated rs (payloads.Null kind) ≡ v → (start end : ℕ) → Refusing e (settle g l (at start c [] rs (nows.Pending (helds.Null kind) end)))
+      refused : (rs : Symbols) (kind : Kind) → annotated rs (payloads.Null kind) ≡ v → (start end : ℕ)
+          → Refusing e (settle g l (at start c [] rs (nows.Pending (helds.Null kind) end)))
       refused rs kind is start end =
           refusing_is e (settle g l (at start c [] rs (nows.Pending (helds.Null kind) end)))
           (released_paid g l end start c [] rs (helds.Null kind) (λ i j. refl)
           ∙ (ap (λ x. ended (under g l) (spot_at end start c) [] x) is ∙ (cond-true _ _ _ table ∙ ap (turned l.item start end) fails)))
 
-      comes : (notes : List Placed) (t : Placed) (said : Content) (rs : Symbols) → Annotations c places.Top notes rs → Says places.Top t said → h.item ≡ notes ++ t ∷ [] → Comes g l c [] said ts
+      comes : (notes : List Placed) (t : Placed) (said : Content) (rs : Symbols) → Annotations c places.Top notes rs → Says places.Top t said
+          → h.item ≡ notes ++ t ∷ [] → Comes g l c [] said ts
       comes notes t said rs a says whole = record {
         front = h.front;
         item = [];
@@ -268,9 +300,13 @@ module _ (g : Catalog) (l : Limits) where
         says = says;
       }
 
-      scalar : (notes : List Placed) (t : Placed) (said : Content) (rs : Symbols) (q : Payload) → Annotations c places.Top notes rs → Says places.Top t said → IsScalar c said q → q ≡ payloads.Null k → annotated rs q ≡ v → h.item ≡ notes ++ t ∷ [] → Pends g l ts e
-      scalar notes t _ rs _ a says is_null n is whole = held_pends c (Word (codes "null")) ts (comes notes t (Word (codes "null")) rs a says whole) tt refl (word_apart (codes "null")) (helds.Null values.Null) (λ start end. refl) e (refused rs values.Null is)
-      scalar notes t _ rs _ a says (is_typed_null kind) n is whole = held_pends c (TypedNull kind) ts (comes notes t (TypedNull kind) rs a says whole) tt refl (null_apart kind) (helds.Null kind) (λ start end. refl) e (refused rs kind is)
+      scalar : (notes : List Placed) (t : Placed) (said : Content) (rs : Symbols) (q : Payload) → Annotations c places.Top notes rs → Says places.Top t said
+          → IsScalar c said q → q ≡ payloads.Null k → annotated rs q ≡ v → h.item ≡ notes ++ t ∷ [] → Pends g l ts e
+      scalar notes t _ rs _ a says is_null n is whole = held_pends c (Word (codes "null")) ts (comes notes t (Word (codes "null")) rs a says whole) tt refl
+          (word_apart (codes "null")) (helds.Null values.Null) (λ start end. refl) e (refused rs values.Null is)
+      scalar notes t _ rs _ a says (is_typed_null kind) n is whole =
+          held_pends c (TypedNull kind) ts (comes notes t (TypedNull kind) rs a says whole) tt refl (null_apart kind) (helds.Null kind) (λ start end. refl) e
+          (refused rs kind is)
       scalar notes t _ rs _ a says is_true e is whole = absurd (other _ e (ap has_null (views.outs-Truth true)))
       scalar notes t _ rs _ a says is_false e is whole = absurd (other _ e (ap has_null (views.outs-Truth false)))
       scalar notes t _ rs _ a says (is_int z) e is whole = absurd (other _ e (ap has_null (views.outs-Int z)))
@@ -282,8 +318,10 @@ module _ (g : Catalog) (l : Limits) where
       scalar notes t _ rs _ a says (is_clob w) e is whole = absurd (other _ e (ap has_null (views.outs-Clob w)))
       scalar notes t _ rs _ a says (is_blob w) e is whole = absurd (other _ e (ap has_null (views.outs-Blob w)))
 
-      plain : (p : Place) (notes us : List Placed) (rs : Symbols) (q : Payload) → p ≡ places.Top → Annotations c p notes rs → Plain c p us q → q ≡ payloads.Null k → annotated rs q ≡ v → h.item ≡ notes ++ us → Pends g l ts e
-      plain p notes _ rs _ top a (one_token p' t said q says s) n is whole = scalar notes t said rs q (subst (λ x. Annotations c x notes rs) top a) (subst (λ x. Says x t said) top says) s n is whole
+      plain : (p : Place) (notes us : List Placed) (rs : Symbols) (q : Payload) → p ≡ places.Top → Annotations c p notes rs → Plain c p us q
+          → q ≡ payloads.Null k → annotated rs q ≡ v → h.item ≡ notes ++ us → Pends g l ts e
+      plain p notes _ rs _ top a (one_token p' t said q says s) n is whole =
+          scalar notes t said rs q (subst (λ x. Annotations c x notes rs) top a) (subst (λ x. Says x t said) top says) s n is whole
       plain p notes us rs _ top a (long_string p' _ w d) e is whole = absurd (other _ e (ap has_null (views.outs-Str w)))
       plain p notes _ rs _ top a (is_list p' open' close body xs more opens items closes) e is whole = absurd (other _ e (ap has_null (views.outs-List xs)))
       plain p notes _ rs _ top a (is_sexp p' open' close body xs opens items closes) e is whole = absurd (other _ e (ap has_null (views.outs-Sexp xs)))

@@ -56,13 +56,15 @@ within_decides item start end t h = go (nat_le end (start + item))
     go true = h
     go false = tt
 
-top_decides : (item start end : ℕ) (c : List Slot) (v : Value) (d : Result (List Slot) Reason) (b : Bool) → Decides d → TurnDecides (if b then turned item start end d else within item start end (gives v (fresh c)))
+top_decides : (item start end : ℕ) (c : List Slot) (v : Value) (d : Result (List Slot) Reason) (b : Bool) → Decides d
+    → TurnDecides (if b then turned item start end d else within item start end (gives v (fresh c)))
 top_decides item start end c v (Ok d) true h = within_decides item start end (goes (fresh d)) tt
 top_decides item start end c v (Err e) true h = h
 top_decides item start end c v d false h = within_decides item start end (gives v (fresh c)) tt
 
 ended_decides : (setting : Setting) (spot : Spot) (fs : List Frame) (v : Value) → TurnDecides (ended setting spot fs v)
-ended_decides setting spot [] v = top_decides setting.limits.item spot.start spot.end spot.context v (next spot.context v setting.catalog) (is_table v) (next_decides spot.context v setting.catalog)
+ended_decides setting spot [] v = top_decides setting.limits.item spot.start spot.end spot.context v (next spot.context v setting.catalog) (is_table v)
+    (next_decides spot.context v setting.catalog)
 ended_decides setting spot (frames.List ss vs ∷ fs) v = tt
 ended_decides setting spot (frames.Sexp ss vs ∷ fs) v = tt
 ended_decides setting spot (frames.Named ss ms s ∷ fs) v = tt
@@ -82,7 +84,8 @@ symbol_decides (helds.Null k) = tt
 symbol_decides (helds.Truth b) = tt
 symbol_decides helds.Nan = tt
 
-paid_decides : (setting : Setting) (spot : Spot) (fs : List Frame) (ss : Symbols) (q : Result Payload Reason) → Decides q → TurnDecides (paid setting spot fs ss q)
+paid_decides : (setting : Setting) (spot : Spot) (fs : List Frame) (ss : Symbols) (q : Result Payload Reason) → Decides q
+    → TurnDecides (paid setting spot fs ss q)
 paid_decides setting spot fs ss (Ok q) h = ended_decides setting spot fs _
 paid_decides setting spot fs ss (Err e) h = h
 
@@ -96,7 +99,8 @@ released_decides setting spot [] [] helds.Nan = tt
 released_decides setting spot [] (s ∷ ss) h = paid_decides setting spot [] (s ∷ ss) (held_payload h) (payload_decides h)
 released_decides setting spot (f ∷ fs) ss h = paid_decides setting spot (f ∷ fs) ss (held_payload h) (payload_decides h)
 
-resolved_decides : (r : Result (Option (List ℕ)) Reason) (f : Option (List ℕ) → Turn) → Decides r → ((s : Option (List ℕ)) → TurnDecides (f s)) → TurnDecides (resolved r f)
+resolved_decides : (r : Result (Option (List ℕ)) Reason) (f : Option (List ℕ) → Turn) → Decides r → ((s : Option (List ℕ)) → TurnDecides (f s))
+    → TurnDecides (resolved r f)
 resolved_decides (Ok s) f h k = k s
 resolved_decides (Err e) f h k = h
 
@@ -154,7 +158,8 @@ module _ (g : Catalog) (l : Limits) where
   ready_decides spot fs ss (Mark' marks.Colon) = tt
   ready_decides spot fs ss (Mark' marks.Colons) = tt
 
-  noted_decides : (start : ℕ) (c : List Slot) (fs : List Frame) (ss : Symbols) (r : Result (Option (List ℕ)) Reason) → Decides r → TurnDecides (noted start c fs ss r)
+  noted_decides : (start : ℕ) (c : List Slot) (fs : List Frame) (ss : Symbols) (r : Result (Option (List ℕ)) Reason) → Decides r
+      → TurnDecides (noted start c fs ss r)
   noted_decides start c fs ss (Ok s) h = tt
   noted_decides start c fs ss (Err e) h = h
 
@@ -182,7 +187,8 @@ module _ (g : Catalog) (l : Limits) where
   name_decides : (spot : Spot) (fs : List Frame) (x : Content) → TurnDecides (on_name (under g l) spot fs x)
   name_decides spot fs (Word w) = go (is_keyword w)
     where
-      go : (b : Bool) → TurnDecides (if b then late reasons.KeywordAsName (keyed spot.start spot.context fs (Some w)) else goes (keyed spot.start spot.context fs (Some w)))
+      go : (b : Bool) → TurnDecides (if b then late reasons.KeywordAsName (keyed spot.start spot.context fs (Some w)) else goes
+          (keyed spot.start spot.context fs (Some w)))
       go true = tt
       go false = tt
   name_decides spot fs (TypedNull k) = tt
@@ -208,7 +214,8 @@ module _ (g : Catalog) (l : Limits) where
   keyed_decides start c fs s (Mark' marks.Colon) = named_decides start c fs s
   keyed_decides start c fs s _ = tt
 
-  now_decides : (begin end start : ℕ) (c : List Slot) (fs : List Frame) (ss : Symbols) (x : Content) (now : Now) → TurnDecides (turn_now (under g l) (at start c fs ss now) (token_at begin end x) now)
+  now_decides : (begin end start : ℕ) (c : List Slot) (fs : List Frame) (ss : Symbols) (x : Content) (now : Now)
+      → TurnDecides (turn_now (under g l) (at start c fs ss now) (token_at begin end x) now)
   now_decides begin end start c fs ss x nows.Ready = ready_decides (spot_at end (begun_at start begin fs ss) c) fs ss x
   now_decides begin end start c fs ss x (nows.Pending h e) = pending_decides start c fs ss h x
   now_decides begin end start c fs ss x (nows.Long w e) = long_decides (spot_at end start c) fs ss w x
@@ -286,7 +293,8 @@ module _ (g : Catalog) (l : Limits) where
   noticed_decides : (r : Reading) (s : Known) → EffectDecides (noticed l r s)
   noticed_decides r s = go (shut r.now && not (is_idle s.mode)) (nat_le (reaches r.frames r s) l.item)
     where
-      go : (a b : Bool) → EffectDecides (if a then fails reasons.Unexpected else (if b then uses (record { scan = s; reading = r }) else fails reasons.ItemTooLong))
+      go : (a b : Bool) → EffectDecides (if a then fails reasons.Unexpected else
+          (if b then uses (record { scan = s; reading = r }) else fails reasons.ItemTooLong))
       go true b = tt
       go false true = tt
       go false false = tt
@@ -310,23 +318,29 @@ module _ (g : Catalog) (l : Limits) where
   given_decides s (refuses e) h = h
   given_decides s (late e r) h = worse_decides e (noticed l r s) h (noticed_decides r s)
 
-  left_decides : (again : State → Effect) (s : Known) (t : Turn) → ((m : State) → EffectDecides (again m)) → TurnDecides t → EffectDecides (behind_left again s t)
+  left_decides : (again : State → Effect) (s : Known) (t : Turn) → ((m : State) → EffectDecides (again m)) → TurnDecides t
+      → EffectDecides (behind_left again s t)
   left_decides again s (goes r) f h = f (with_scan s r)
   left_decides again s (gives v r) f h = tt
   left_decides again s (refuses e) f h = h
   left_decides again s (late e r) f h = worse_decides e (again (with_scan s r)) h (f (with_scan s r))
 
-  on_said_decides : (c : Result Content Reason) (f : Content → Effect) → ((e : Reason) → c ≡ Err e → IsDecided e) → ((c : Content) → EffectDecides (f c)) → EffectDecides (on_said c f)
+  on_said_decides : (c : Result Content Reason) (f : Content → Effect) → ((e : Reason) → c ≡ Err e → IsDecided e) → ((c : Content) → EffectDecides (f c))
+      → EffectDecides (on_said c f)
   on_said_decides (Ok c) f h k = k c
   on_said_decides (Err e) f h k = h e refl
 
-  scan_decides : (again : State → Effect) (p : Place) (s : Known) (o : ℕ) (r : Reading) (x : Outcome) → feed p s o ≡ x → ((m : State) → EffectDecides (again m)) → EffectDecides (on_scan g l again r x)
+  scan_decides : (again : State → Effect) (p : Place) (s : Known) (o : ℕ) (r : Reading) (x : Outcome) → feed p s o ≡ x → ((m : State) → EffectDecides (again m))
+      → EffectDecides (on_scan g l again r x)
   scan_decides again p s o r (Next t) e f = noticed_decides r t
-  scan_decides again p s o r (Given x t) e f = on_said_decides (said x.kind x.octets) _ (said_decided x.kind x.octets) (λ c. given_decides t (turn g l r (token_of x c)) (turn_decides r (token_of x c)))
-  scan_decides again p s o r (Left x t) e f = on_said_decides (said x.kind x.octets) _ (said_decided x.kind x.octets) (λ c. left_decides again t (turn g l r (token_of x c)) f (turn_decides r (token_of x c)))
+  scan_decides again p s o r (Given x t) e f = on_said_decides (said x.kind x.octets) _ (said_decided x.kind x.octets)
+      (λ c. given_decides t (turn g l r (token_of x c)) (turn_decides r (token_of x c)))
+  scan_decides again p s o r (Left x t) e f = on_said_decides (said x.kind x.octets) _ (said_decided x.kind x.octets)
+      (λ c. left_decides again t (turn g l r (token_of x c)) f (turn_decides r (token_of x c)))
   scan_decides again p s o r (Refused n y) e f = feed_decided p s o n y e
 
-  settled_decides : (again : State → Effect) (p : Place) (s : Known) (o : ℕ) (t : Turn) → TurnDecides t → ((m : State) → EffectDecides (again m)) → EffectDecides (on_settled g l again s (feed p s o) t)
+  settled_decides : (again : State → Effect) (p : Place) (s : Known) (o : ℕ) (t : Turn) → TurnDecides t → ((m : State) → EffectDecides (again m))
+      → EffectDecides (on_settled g l again s (feed p s o) t)
   settled_decides again p s o (goes r) h f = scan_decides again p s o r (feed p s o) refl f
   settled_decides again p s o (gives v r) h f = tt
   settled_decides again p s o (refuses e) h f = h
@@ -337,7 +351,8 @@ module _ (g : Catalog) (l : Limits) where
   takes_decides (suc n) m o = go (unsettled m.scan m.reading (feed (place m.reading) m.scan o)) (λ k. takes_decides n k o)
     where
       go : (b : Bool) → ((k : State) → EffectDecides (takes g l n k o))
-          → EffectDecides (if b then on_scan g l (λ k. takes g l n k o) m.reading (feed (place m.reading) m.scan o) else on_settled g l (λ k. takes g l n k o) m.scan (feed (place m.reading) m.scan o) (settle g l m.reading))
+          → EffectDecides (if b then on_scan g l (λ k. takes g l n k o) m.reading (feed (place m.reading) m.scan o) else on_settled g l (λ k. takes g l n k o)
+          m.scan (feed (place m.reading) m.scan o) (settle g l m.reading))
       go true f = scan_decides (λ k. takes g l n k o) (place m.reading) m.scan o m.reading (feed (place m.reading) m.scan o) refl f
       go false f = settled_decides (λ k. takes g l n k o) (place m.reading) m.scan o (settle g l m.reading) (settle_decides m.reading) f
 
@@ -352,7 +367,8 @@ module _ (g : Catalog) (l : Limits) where
   more_decides to rest (leaves v m) h f = tt
   more_decides to rest (fails e) h f = h
 
-  octet_decides : (to o : ℕ) (rest : State → Run) (x : Effect) → EffectDecides x → ((n : State) → NowDecides (rest n).now) → NowDecides (run_on to (λ n. eats g l n o) rest x).now
+  octet_decides : (to o : ℕ) (rest : State → Run) (x : Effect) → EffectDecides x → ((n : State) → NowDecides (rest n).now)
+      → NowDecides (run_on to (λ n. eats g l n o) rest x).now
   octet_decides to o rest (uses m) h f = f m
   octet_decides to o rest (tells v m) h f = f m
   octet_decides to o rest (leaves v m) h f = more_decides to rest (eats g l m o) (takes_decides 3 m o) f
@@ -398,7 +414,8 @@ module _ (g : Catalog) (l : Limits) where
   turned_ends used (refuses e) h = inl h
   turned_ends used (late e r) h = late_ends used e h
 
-  said_ends : (used : ℕ) (r : Reading) (x : Lexeme) (c : Result Content Reason) → ((e : Reason) → c ≡ Err e → IsDecided e) → AnswersAtEnd (end_said g l used r x c)
+  said_ends : (used : ℕ) (r : Reading) (x : Lexeme) (c : Result Content Reason) → ((e : Reason) → c ≡ Err e → IsDecided e)
+      → AnswersAtEnd (end_said g l used r x c)
   said_ends used r x (Ok c) h = turned_ends used (turn g l r (token_of x c)) (turn_decides r (token_of x c))
   said_ends used r x (Err e) h = inl (h e refl)
 

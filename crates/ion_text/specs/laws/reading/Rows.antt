@@ -24,8 +24,10 @@ module _ (g : Catalog) (l m : Limits) (deep : l.depth ≤ m.depth) (long : l.ite
   pieces_wider : (ts : List Placed) (s : List Value) (c : List Slot) → Pieces g l ts s c → Pieces g m ts s c
   pieces_wider _ _ _ begins = begins
   pieces_wider _ _ _ (marked ts s c t p w fits) = marked ts s c t (pieces_wider ts s c p) w (omega arith)
-  pieces_wider _ _ _ (turns ts us s c d v p is table next low fits apart) = turns ts us s c d v (pieces_wider ts s c p) is table next (omega arith) (omega arith) apart
-  pieces_wider _ _ _ (holds ts us s c v p is table version low fits apart) = holds ts us s c v (pieces_wider ts s c p) is table version (omega arith) (omega arith) apart
+  pieces_wider _ _ _ (turns ts us s c d v p is table next low fits apart) =
+      turns ts us s c d v (pieces_wider ts s c p) is table next (omega arith) (omega arith) apart
+  pieces_wider _ _ _ (holds ts us s c v p is table version low fits apart) =
+      holds ts us s c v (pieces_wider ts s c p) is table version (omega arith) (omega arith) apart
 
   pub wider : (u : List ℕ) (s : List Value) → Document g l u s → Document g m u s
   wider u s d = record { tokens = d.tokens; context = d.context; lexed = d.lexed; pieces = pieces_wider d.tokens s d.context d.pieces }
@@ -76,8 +78,10 @@ module _ (g : Catalog) where
   unfolding said_by.said str.is_utf8 str.chars utf8.encode
   note = (exact g _ _ _).0 (record { last = Some note_value; ends = refl; values = refl })
 
-  appended : Document g hundred (codes "$ion_symbol_table::{symbols:[\"a\"]} $10 $ion_symbol_table::{imports:$ion_symbol_table,symbols:[\"b\"]} $10 $11") (symbol_value (codes "a") ∷ symbol_value (codes "a") ∷ symbol_value (codes "b") ∷ [])
-  unfolding said_by.said str.is_utf8 str.chars utf8.encode views.out-Payload carrier.out carrier.shown carrier.hidden next_by.next block.shown-the_row-Field-1 slots.system_slots slots.system_texts slots.resolve
+  appended : Document g hundred (codes "$ion_symbol_table::{symbols:[\"a\"]} $10 $ion_symbol_table::{imports:$ion_symbol_table,symbols:[\"b\"]} $10 $11")
+      (symbol_value (codes "a") ∷ symbol_value (codes "a") ∷ symbol_value (codes "b") ∷ [])
+  unfolding said_by.said str.is_utf8 str.chars utf8.encode views.out-Payload carrier.out carrier.shown carrier.hidden next_by.next block.shown-the_row-Field-1
+      slots.system_slots slots.system_texts slots.resolve
   appended = (exact g _ _ _).0 (record { last = Some (symbol_value (codes "b")); ends = refl; values = refl })
 
   none : Document g hundred (codes "") []

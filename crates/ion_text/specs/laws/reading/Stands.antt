@@ -19,13 +19,15 @@ behind s r = record { given = s ++ r.given; now = r.now }
 
 module _ (g : Catalog) (l : Limits) where
   -- octets that follow u go on from what is held
-  pub further : (to : ℕ) (u w : List ℕ) (s : List (Value × ℕ)) (m : State) (awaited : Option ℕ) → to ≡ length u → Ran g l u s m awaited → BeginsWith awaited w → run g l 0 begun (u ++ w) ≡ behind s (resumed g l (is_some awaited) to m w)
+  pub further : (to : ℕ) (u w : List ℕ) (s : List (Value × ℕ)) (m : State) (awaited : Option ℕ) → to ≡ length u → Ran g l u s m awaited → BeginsWith awaited w
+      → run g l 0 begun (u ++ w) ≡ behind s (resumed g l (is_some awaited) to m w)
   further to u w s m None e ran begins = run-append g l 0 to u w (omega arith) begun ∙ ap (λ r. then_run r (λ n. run g l to n w)) ran
   further to u w s m (Some o) e ran begins =
       let rest = begins.0 in
       let onward = resumed g l true to m (o ∷ rest) in
       let values : ran.given ++ (ran.value, to) ∷ onward.given ≡ s ++ onward.given =
-      sym (append_assoc ran.given ((ran.value, to) ∷ []) onward.given) ∙ ap (λ vs. vs ++ onward.given) (ap (λ k. ran.given ++ (ran.value, k) ∷ []) e ∙ sym ran.all) in
+      sym (append_assoc ran.given ((ran.value, to) ∷ []) onward.given)
+      ∙ ap (λ vs. vs ++ onward.given) (ap (λ k. ran.given ++ (ran.value, k) ∷ []) e ∙ sym ran.all) in
       ap (λ x. run g l 0 begun (u ++ x)) begins.1
       ∙ (run-append g l 0 to u (o ∷ rest) (omega arith) begun
       ∙ (ap (λ r. then_run r (λ n. run g l to n (o ∷ rest))) ran.ran
@@ -64,5 +66,6 @@ pub given_so_far : (r : TextReader) (u : List ℕ) (s : List (Value × ℕ)) →
 given_so_far r u s h none = ran_given r.catalog.now r.limits u s (state_of r) r.awaited none h.ran
 
 -- The values that it gave are the first of those that come once the octet that it awaits is there.
-pub given_with_next : (r : TextReader) (u : List ℕ) (s : List (Value × ℕ)) → Stands r u s → IfSome r.awaited (λ octet. IsFront s (trace r.catalog.now r.limits (u ++ octet ∷ [])).given)
+pub given_with_next : (r : TextReader) (u : List ℕ) (s : List (Value × ℕ)) → Stands r u s
+    → IfSome r.awaited (λ octet. IsFront s (trace r.catalog.now r.limits (u ++ octet ∷ [])).given)
 given_with_next r u s h = ran_front r.catalog.now r.limits u s (state_of r) (octets_used r) r.awaited h.counted h.ran

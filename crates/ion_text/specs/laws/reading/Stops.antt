@@ -36,7 +36,13 @@ module _ (g : Catalog) (l : Limits) where
   pub stood_used : (u : List ℕ) (vs : List Value) (m : State) → Stood g l u vs m → m.scan.used ≡ length u
   stood_used u vs m b =
       let k = stands_used b.scanned.behind b.scanned.front (b.front ++ b.item) b.scanned.left b.scanned.told in
-      omega (arith, k, next_used (place m.reading) b.scanned.since b.scanned.behind m.scan (sym b.scanned.ran), ap length b.scanned.cut, length-append b.scanned.front b.scanned.since)
+      omega (
+        arith,
+        k,
+        next_used (place m.reading) b.scanned.since b.scanned.behind m.scan (sym b.scanned.ran),
+        ap length b.scanned.cut,
+        length-append b.scanned.front b.scanned.since,
+      )
 
   -- Refused octets: those before one go on, and with it they are refused.
   pub record Stop (u : List ℕ) (r : Refusal) : Type 0 where
@@ -55,17 +61,22 @@ module _ (g : Catalog) (l : Limits) where
   refused_on : (x : Run) (r : Refusal) (f : State → Run) → x.now ≡ Err r → on_now x.given x.now f ≡ x
   refused_on x r f e = ap (λ y. on_now x.given y f) e ∙ ap (λ y. record { given = x.given; now = y }) (sym e)
 
-  stop_from : (os done : List ℕ) (n : State) (r : Refusal) → (run g l 0 begun done).now ≡ Ok n → (run g l 0 begun (done ++ os)).now ≡ Err r → Stop (done ++ os) r
+  stop_from : (os done : List ℕ) (n : State) (r : Refusal) → (run g l 0 begun done).now ≡ Ok n → (run g l 0 begun (done ++ os)).now ≡ Err r
+      → Stop (done ++ os) r
   stop_from [] done n r h e = absurd (let k : Ok n ≡ Err r = sym h ∙ (ap (λ x. (run g l 0 begun x).now) (sym (append-nil done)) ∙ e) in cc)
-  stop_from (o ∷ os) done n r h e = go (run g l 0 begun (done ++ o ∷ [])).now refl (λ k f. stop_from os (done ++ o ∷ []) k r f (ap (λ x. (run g l 0 begun x).now) (append_assoc done (o ∷ []) os) ∙ e))
+  stop_from (o ∷ os) done n r h e = go (run g l 0 begun (done ++ o ∷ [])).now refl
+      (λ k f. stop_from os (done ++ o ∷ []) k r f (ap (λ x. (run g l 0 begun x).now) (append_assoc done (o ∷ []) os) ∙ e))
     where
       cut : done ++ o ∷ os ≡ (done ++ o ∷ []) ++ os
       cut = sym (append_assoc done (o ∷ []) os)
 
-      go : (x : Result State Refusal) → (run g l 0 begun (done ++ o ∷ [])).now ≡ x → ((k : State) → (run g l 0 begun (done ++ o ∷ [])).now ≡ Ok k → Stop ((done ++ o ∷ []) ++ os) r) → Stop (done ++ o ∷ os) r
+      go : (x : Result State Refusal) → (run g l 0 begun (done ++ o ∷ [])).now ≡ x
+          → ((k : State) → (run g l 0 begun (done ++ o ∷ [])).now ≡ Ok k → Stop ((done ++ o ∷ []) ++ os) r) → Stop (done ++ o ∷ os) r
       go (Ok k) f more = subst (λ x. Stop x r) (append_assoc done (o ∷ []) os) (more k f)
       go (Err q) f more =
-          let whole : run g l 0 begun (done ++ o ∷ os) ≡ run g l 0 begun (done ++ o ∷ []) = ap (run g l 0 begun) cut ∙ (behind_run (done ++ o ∷ []) os ∙ refused_on (run g l 0 begun (done ++ o ∷ [])) q (λ n. run g l (length (done ++ o ∷ [])) n os) f) in
+          let whole : run g l 0 begun (done ++ o ∷ os) ≡ run g l 0 begun (done ++ o ∷ []) =
+          ap (run g l 0 begun) cut ∙ (behind_run (done ++ o ∷ []) os
+          ∙ refused_on (run g l 0 begun (done ++ o ∷ [])) q (λ n. run g l (length (done ++ o ∷ [])) n os) f) in
           record { before = done; o = o; rest = os; n = n; parts = refl; ran = h; stopped = ap (λ (x : Run). x.now) (sym whole) ∙ e; same = whole }
 
   pub stop_of : (u : List ℕ) (r : Refusal) → (run g l 0 begun u).now ≡ Err r → Stop u r
@@ -92,7 +103,8 @@ module _ (g : Catalog) (l : Limits) where
   pub stop_offset : (u : List ℕ) (r : Refusal) (p : Stop u r) → r.offset ≡ length p.before + 1
   stop_offset u r p =
       one_offset (length p.before) p.o r (eats g l p.n p.o)
-      (sym (ap (λ (x : Run). x.now) (behind_run p.before (p.o ∷ [])) ∙ ap (λ y. (on_now (run g l 0 begun p.before).given y (λ n. run g l (length p.before) n (p.o ∷ []))).now) p.ran) ∙ p.stopped)
+      (sym (ap (λ (x : Run). x.now) (behind_run p.before (p.o ∷ []))
+      ∙ ap (λ y. (on_now (run g l 0 begun p.before).given y (λ n. run g l (length p.before) n (p.o ∷ []))).now) p.ran) ∙ p.stopped)
 
   -- the octets up to the refused one
   pub stop_taken : (u : List ℕ) (r : Refusal) (p : Stop u r) → take r.offset u ≡ p.before ++ p.o ∷ []
@@ -107,7 +119,8 @@ module _ (g : Catalog) (l : Limits) where
   pub begins_none : (u : List ℕ) (r : Refusal) → (run g l 0 begun u).now ≡ Err r → BeginsNone (Document g l) u
   begins_none u r h rest s d =
       let x = accepts g l (u ++ rest) s d in
-      let now : (run g l 0 begun (u ++ rest)).now ≡ Err r = ap (λ (y : Run). y.now) (behind_run u rest) ∙ ap (λ y. (on_now (run g l 0 begun u).given y (λ n. run g l (length u) n rest)).now) h in
+      let now : (run g l 0 begun (u ++ rest)).now ≡ Err r = ap (λ (y : Run). y.now) (behind_run u rest)
+      ∙ ap (λ y. (on_now (run g l 0 begun u).given y (λ n. run g l (length u) n rest)).now) h in
       let never : Err r ≡ Ok x.last = sym (ap (ends_of g l) now) ∙ x.ends in
       absurd cc
 
@@ -192,7 +205,8 @@ module _ (g : Catalog) (l : Limits) where
   now_offset used n x nows.Name r h = ready_offset used n x r h
   now_offset used n x (nows.Keyed k) r h = ready_offset used n x r h
 
-  unfinished_now : (u : List ℕ) (given : List (Value × ℕ)) (now : Result State Refusal) (r : Refusal) → StoodBehind g l u [] (record { given = given; now = now }) → refused_of now ≡ None → ends_of g l now ≡ Err r → r.offset ≡ length u
+  unfinished_now : (u : List ℕ) (given : List (Value × ℕ)) (now : Result State Refusal) (r : Refusal)
+      → StoodBehind g l u [] (record { given = given; now = now }) → refused_of now ≡ None → ends_of g l now ≡ Err r → r.offset ≡ length u
   unfinished_now u given (Ok m) r b h e = now_offset m.scan.used m.reading (at_end (place m.reading) m.scan) m.reading.now r e ∙ stood_used u (plain given) m b
   unfinished_now u given (Err q) r b h e = absurd cc
 
@@ -205,12 +219,15 @@ module _ (g : Catalog) (l : Limits) where
   front_values (w ∷ s) v h = let k = front_values s v h.1 in ((h.0, k.0), k.1)
 
   -- behind octets, refused or not, the values given are those of whole pieces
-  given_values : (u : List ℕ) (given : List (Value × ℕ)) (now : Result State Refusal) → StoodBehind g l u [] (record { given = given; now = now }) → NoTables (plain given)
+  given_values : (u : List ℕ) (given : List (Value × ℕ)) (now : Result State Refusal) → StoodBehind g l u [] (record { given = given; now = now })
+      → NoTables (plain given)
   given_values u given (Ok m) b = pieces_values g l b.front (plain given) m.reading.context b.pieces
   given_values u given (Err e) b = pieces_values g l b.0 (plain given) b.1 b.2
 
-  last_value : (u : List ℕ) (given : List (Value × ℕ)) (now : Result State Refusal) (v : Value) → StoodBehind g l u [] (record { given = given; now = now }) → ends_of g l now ≡ Ok (Some v) → is_table v ≡ false
-  last_value u given (Ok m) v b e = let d = stood_accepted g l u (plain given) m (Some v) b e in (front_values (plain given) v (pieces_values g l d.tokens (plain given ++ v ∷ []) d.context d.pieces)).1
+  last_value : (u : List ℕ) (given : List (Value × ℕ)) (now : Result State Refusal) (v : Value) → StoodBehind g l u [] (record { given = given; now = now })
+      → ends_of g l now ≡ Ok (Some v) → is_table v ≡ false
+  last_value u given (Ok m) v b e = let d = stood_accepted g l u (plain given) m (Some v) b e in
+      (front_values (plain given) v (pieces_values g l d.tokens (plain given ++ v ∷ []) d.context d.pieces)).1
   last_value u given (Err q) v b e = absurd cc
 
   -- No value given is a local symbol table.

@@ -30,7 +30,8 @@ said_kept p said t l h = body_kept t.lexeme.kind t.lexeme.octets said l h.body
 
 segments_kept : (p : Place) (ts : List Placed) (w : List ℕ) → AreLobsKept ts → Segments p ts w → IsUtf8 w
 segments_kept p _ _ l (segment t w h) = said_kept p _ t l.0 h
-segments_kept p _ _ l (joined ts v w t h k) = IsUtf8-append v w (segments_kept p ts v (lobs_front ts (t ∷ []) l) h) (said_kept p _ t (lobs_rest ts (t ∷ []) l).0 k)
+segments_kept p _ _ l (joined ts v w t h k) = IsUtf8-append v w (segments_kept p ts v (lobs_front ts (t ∷ []) l) h)
+    (said_kept p _ t (lobs_rest ts (t ∷ []) l).0 k)
 
 module _ (c : List Slot) (texts : AreTextSlots c) where
   symbol_kept : (said : Content) (s : Option (List ℕ)) → IsContentKept said → IsSymbol c said s → IsText s
@@ -88,7 +89,8 @@ module _ (c : List Slot) (texts : AreTextSlots c) where
     members_kept _ _ _ l no_field = no_fields
     members_kept _ _ _ l (field ts ns us colon ms s v i n k h) =
         let r = lobs_rest ts (ns ++ colon ∷ us) l in
-        fields_last ms s v (members_kept ts ms true (lobs_front ts (ns ++ colon ∷ us) l) i) (name_kept ns s (lobs_front ns (colon ∷ us) r) n) (means_kept _ us v (lobs_rest ns (colon ∷ us) r).1 h)
+        fields_last ms s v (members_kept ts ms true (lobs_front ts (ns ++ colon ∷ us) l) i) (name_kept ns s (lobs_front ns (colon ∷ us) r) n)
+        (means_kept _ us v (lobs_rest ns (colon ∷ us) r).1 h)
     members_kept _ _ _ l (field_comma ts ms t i h) = members_kept ts ms false (lobs_front ts (t ∷ []) l) i
 
 -- 3. Documents.

@@ -25,7 +25,10 @@ field_fold = fold-Field (List ℕ) (List ℕ) (List ℕ) text_step (λ f. named_
 fields_text : (fs : List Field) → map field_fold fs ≡ map field_text fs
 unfolding value_text
 fields_text [] = refl
-fields_text (f ∷ fs) = rw (fold_out-Field (List ℕ) (List ℕ) (List ℕ) text_step (λ f. named_text f.name f.value) (λ v. notes_text v.annotations ++ v.payload) f, fields_text fs)
+fields_text (f ∷ fs) = rw (
+  fold_out-Field (List ℕ) (List ℕ) (List ℕ) text_step (λ f. named_text f.name f.value) (λ v. notes_text v.annotations ++ v.payload) f,
+  fields_text fs,
+)
 
 -- the text of one level
 abbrev pub layer_text : Layer → List ℕ
@@ -51,7 +54,8 @@ pub text-out : (v : Value) → value_text v ≡ notes_text v.annotations ++ laye
 unfolding value_text
 text-out v =
     fold_out-Value (List ℕ) (List ℕ) (List ℕ) text_step (λ f. named_text f.name f.value) (λ v. notes_text v.annotations ++ v.payload) v
-    ∙ ap (λ w. notes_text v.annotations ++ w) (fold_out-Payload (List ℕ) (List ℕ) (List ℕ) text_step (λ f. named_text f.name f.value) (λ v. notes_text v.annotations ++ v.payload) v.payload ∙ text_step-layer (views.out-Payload v.payload))
+    ∙ ap (λ w. notes_text v.annotations ++ w) (fold_out-Payload (List ℕ) (List ℕ) (List ℕ) text_step (λ f. named_text f.name f.value)
+    (λ v. notes_text v.annotations ++ v.payload) v.payload ∙ text_step-layer (views.out-Payload v.payload))
 
 -- the same, where it is known which level it is
 pub text_layer : (ss : List (Option (List ℕ))) (p : Payload) (d : Layer) → views.out-Payload p ≡ d → value_text (annotated ss p) ≡ notes_text ss ++ layer_text d

@@ -69,8 +69,13 @@ pub record Between (s : Style) (q : ℕ) (ascii : Bool) : Type 0 where
 
 module _ (s : Style) (q : ℕ) (ascii : Bool) (b : Between s q ascii) where
   raw_is : (c : ℕ) → scalar c ≡ true → letter_for q c ≡ None → stands_raw ascii c ≡ true → IsRaw s c
-  raw_is c u none raw =
-      (u, none_backslash q c none, inr (λ e. none_quote q c none (e ∙ b.quote)), inr (inr (inr (raw_low ascii c raw))), λ k. raw_high c (subst (λ a. stands_raw a c ≡ true) (sym b.clob ∙ k) raw))
+  raw_is c u none raw = (
+    u,
+    none_backslash q c none,
+    inr (λ e. none_quote q c none (e ∙ b.quote)),
+    inr (inr (inr (raw_low ascii c raw))),
+    λ k. raw_high c (subst (λ a. stands_raw a c ≡ true) (sym b.clob ∙ k) raw),
+  )
 
   hex_is : (c : ℕ) → scalar c ≡ true → c < 256 → IsElement s (Hex 120 (hexadecimal_of (c / 16) ∷ hexadecimal_of (c % 16) ∷ []) c)
   hex_is c u small =
@@ -109,7 +114,8 @@ module _ (s : Style) (q : ℕ) (ascii : Bool) (b : Between s q ascii) where
   spelled_by : (c : ℕ) → (stands_raw ascii c ≡ true → encode_utf8 c ≡ c ∷ []) → (l : Option ℕ) → spelling (element_by ascii c l) ≡ escape_by ascii c l
   spelled_by c small (Some letter) = refl
   spelled_by c small None = by (stands_raw ascii c) refl where
-    by : (x : Bool) → stands_raw ascii c ≡ x → spelling (cond x (Raw c) (Hex 120 (hexadecimal_of (c / 16) ∷ hexadecimal_of (c % 16) ∷ []) c)) ≡ cond x (c ∷ []) (hexadecimal_escape c)
+    by : (x : Bool) → stands_raw ascii c ≡ x → spelling (cond x (Raw c) (Hex 120 (hexadecimal_of (c / 16) ∷ hexadecimal_of (c % 16) ∷ []) c))
+        ≡ cond x (c ∷ []) (hexadecimal_escape c)
     by true f = small f
     by false f = refl
 
@@ -118,7 +124,8 @@ module _ (s : Style) (q : ℕ) (ascii : Bool) (b : Between s q ascii) where
 meant_octet : (c : ℕ) (l : Option ℕ) → meaning styles.ShortClob (element_by true c l) ≡ c ∷ []
 meant_octet c (Some letter) = refl
 meant_octet c None = by (stands_raw true c) refl where
-  by : (x : Bool) → stands_raw true c ≡ x → meaning styles.ShortClob (cond x (Raw c) (Hex 120 (hexadecimal_of (c / 16) ∷ hexadecimal_of (c % 16) ∷ []) c)) ≡ c ∷ []
+  by : (x : Bool) → stands_raw true c ≡ x → meaning styles.ShortClob (cond x (Raw c) (Hex 120 (hexadecimal_of (c / 16) ∷ hexadecimal_of (c % 16) ∷ []) c)) ≡ c
+      ∷ []
   by true f = encode_ascii c (raw_high c f)
   by false f = refl
 
@@ -131,7 +138,8 @@ clob_each (c ∷ cs) h = (element_is styles.ShortClob 34 true clob_between c (lo
 
 clob_spelled : (octets : List ℕ) → flat_map (escape of_clob) octets ≡ flat_map spelling (map (element_of 34 true) octets)
 clob_spelled [] = refl
-clob_spelled (c ∷ cs) = ap₂ (λ (a b : List ℕ). a ++ b) (sym (spelled_by styles.ShortClob 34 true clob_between c (λ f. encode_ascii c (raw_high c f)) (letter_for 34 c))) (clob_spelled cs)
+clob_spelled (c ∷ cs) = ap₂ (λ (a b : List ℕ). a ++ b) (sym
+    (spelled_by styles.ShortClob 34 true clob_between c (λ f. encode_ascii c (raw_high c f)) (letter_for 34 c))) (clob_spelled cs)
 
 clob_means : (octets : List ℕ) → octets ≡ flat_map (meaning styles.ShortClob) (map (element_of 34 true) octets)
 clob_means [] = refl
@@ -172,7 +180,8 @@ high_octets c big k below =
 
 module _ (s : Style) (q : ℕ) (b : Between s q false) where
   high_element : (c : ℕ) → 128 ≤ c → element_of q false c ≡ Raw c
-  high_element c h = ap (element_by false c) (high_letter q c b.either h) ∙ ap (λ x. cond x (Raw c) (Hex 120 (hexadecimal_of (c / 16) ∷ hexadecimal_of (c % 16) ∷ []) c)) (high_raw c h)
+  high_element c h = ap (element_by false c) (high_letter q c b.either h)
+      ∙ ap (λ x. cond x (Raw c) (Hex 120 (hexadecimal_of (c / 16) ∷ hexadecimal_of (c % 16) ∷ []) c)) (high_raw c h)
 
   char_spelled : (c : ℕ) → scalar c ≡ true → escaped_text (all_raw q) (encode c) ≡ spelling (element_of q false c)
   char_spelled c u =
@@ -239,14 +248,16 @@ module _ (s : Style) (q : ℕ) (b : Between s q false) where
     by true f = IsUtf8-encode c u
     by false f =
         let small = hidden_low c f in
-        ascii_then 92 _ (omega arith) (ascii_then 120 _ (omega arith) (ascii_then _ _ (digit_ascii (c / 16) (omega arith)) (ascii_then _ [] (digit_ascii (c % 16) (omega arith)) IsUtf8-nil)))
+        ascii_then 92 _ (omega arith) (ascii_then 120 _ (omega arith)
+        (ascii_then _ _ (digit_ascii (c / 16) (omega arith)) (ascii_then _ [] (digit_ascii (c % 16) (omega arith)) IsUtf8-nil)))
 
   chars_utf8 : (cs : List ℕ) → scalars cs ≡ true → IsUtf8 (escaped_text (all_raw q) (encodes cs))
   chars_utf8 [] h = IsUtf8-nil
   chars_utf8 (c ∷ cs) h =
       let p = and_parts _ _ h in
       subst IsUtf8 (sym (flat_map-append (escape (all_raw q)) (encode c) (encodes cs)))
-      (IsUtf8-append (escaped_text (all_raw q) (encode c)) (escaped_text (all_raw q) (encodes cs)) (subst IsUtf8 (sym (char_spelled s q b c p.0)) (element_utf8 c p.0 (letter_for q c) refl)) (chars_utf8 cs p.1))
+      (IsUtf8-append (escaped_text (all_raw q) (encode c)) (escaped_text (all_raw q) (encodes cs))
+      (subst IsUtf8 (sym (char_spelled s q b c p.0)) (element_utf8 c p.0 (letter_for q c) refl)) (chars_utf8 cs p.1))
 
 -- a symbol between quotes
 pub quoted_utf8 : (text : List ℕ) → IsUtf8 text → IsUtf8 (quoted of_symbol text)

@@ -21,8 +21,10 @@ AreRaw quotes octets = AllByRecursion (λ o. is_raw quotes o ≡ true) octets
 raw_prefix : (quotes : Quotes) (octets : List ℕ) → AreRaw quotes (take (prefix_len (is_raw quotes) octets) octets)
 raw_prefix quotes [] = tt
 raw_prefix quotes (o ∷ os) = by (is_raw quotes o) refl (raw_prefix quotes os) where
-  by : (b : Bool) → is_raw quotes o ≡ b → AreRaw quotes (take (prefix_len (is_raw quotes) os) os) → AreRaw quotes (take (cond b (1 + prefix_len (is_raw quotes) os) 0) (o ∷ os))
-  by true e rest = subst (λ (n : ℕ). AreRaw quotes (take n (o ∷ os))) (let next : suc (prefix_len (is_raw quotes) os) ≡ 1 + prefix_len (is_raw quotes) os = omega arith in next) (e, rest)
+  by : (b : Bool) → is_raw quotes o ≡ b → AreRaw quotes (take (prefix_len (is_raw quotes) os) os)
+      → AreRaw quotes (take (cond b (1 + prefix_len (is_raw quotes) os) 0) (o ∷ os))
+  by true e rest = subst (λ (n : ℕ). AreRaw quotes (take n (o ∷ os))) (let next : suc (prefix_len (is_raw quotes) os) ≡ 1 + prefix_len (is_raw quotes) os =
+      omega arith in next) (e, rest)
   by false e rest = tt
 
 pub raw_run : (quotes : Quotes) (octets : List ℕ) (n : ℕ) → n ≡ length (take_while (is_raw quotes) octets) → AreRaw quotes (take n octets)
@@ -44,16 +46,22 @@ raw_text quotes [] h = refl
 raw_text quotes (o ∷ os) h = ap₂ (λ (a b : List ℕ). a ++ b) (raw_escape quotes o h.0) (raw_text quotes os h.1)
 
 -- what is left of octets behind raw ones
-pub raw_then : (quotes : Quotes) (n : ℕ) (octets : List ℕ) → AreRaw quotes (take n octets) → escaped_text quotes octets ≡ take n octets ++ escaped_text quotes (drop n octets)
+pub raw_then : (quotes : Quotes) (n : ℕ) (octets : List ℕ) → AreRaw quotes (take n octets) → escaped_text quotes octets ≡ take n octets
+    ++ escaped_text quotes (drop n octets)
 raw_then quotes n octets h =
-    ap (escaped_text quotes) (sym (take-append-drop n octets)) ∙ (flat_map-append (escape quotes) (take n octets) (drop n octets) ∙ ap (λ (x : List ℕ). x ++ escaped_text quotes (drop n octets)) (raw_text quotes (take n octets) h))
+    ap (escaped_text quotes) (sym (take-append-drop n octets))
+    ∙ (flat_map-append (escape quotes) (take n octets) (drop n octets)
+    ∙ ap (λ (x : List ℕ). x ++ escaped_text quotes (drop n octets)) (raw_text quotes (take n octets) h))
 
 -- raw octets, and then what is left
-pub raw_goes : (quotes : Quotes) (rest raw others out new all : List ℕ) (n : ℕ) → raw ≡ take n rest → others ≡ drop n rest → AreRaw quotes (take n rest) → out ++ escaped_text quotes rest ≡ all → new ≡ out ++ raw → new ++ escaped_text quotes others ≡ all
+pub raw_goes : (quotes : Quotes) (rest raw others out new all : List ℕ) (n : ℕ) → raw ≡ take n rest → others ≡ drop n rest → AreRaw quotes (take n rest)
+    → out ++ escaped_text quotes rest ≡ all → new ≡ out ++ raw → new ++ escaped_text quotes others ≡ all
 raw_goes quotes rest raw others out new all n front back h whole e =
-    rw (e, front, back) (append_assoc out (take n rest) (escaped_text quotes (drop n rest)) ∙ (ap (λ (x : List ℕ). out ++ x) (sym (raw_then quotes n rest h)) ∙ whole))
+    rw (e, front, back) (append_assoc out (take n rest) (escaped_text quotes (drop n rest))
+    ∙ (ap (λ (x : List ℕ). out ++ x) (sym (raw_then quotes n rest h)) ∙ whole))
 
 -- one octet, and then what is left
-pub octet_goes : (quotes : Quotes) (others more out new all : List ℕ) (o : ℕ) → others ≡ o ∷ more → out ++ escaped_text quotes others ≡ all → new ≡ out ++ escape quotes o → new ++ escaped_text quotes more ≡ all
+pub octet_goes : (quotes : Quotes) (others more out new all : List ℕ) (o : ℕ) → others ≡ o ∷ more → out ++ escaped_text quotes others ≡ all
+    → new ≡ out ++ escape quotes o → new ++ escaped_text quotes more ≡ all
 octet_goes quotes others more out new all o first whole e =
     rw e (append_assoc out (escape quotes o) (escaped_text quotes more) ∙ rw first at whole)

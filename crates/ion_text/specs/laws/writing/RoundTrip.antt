@@ -80,7 +80,8 @@ abbrev placed_token : Place → ℕ → ℕ → TokenKind → List ℕ → Place
 placed_token p start end kind octets = record { place = p; lexeme = record { start = start; end = end; kind = kind; octets = octets } }
 
 -- the octets of a token at the front
-word_of : (p : Place) (start end : ℕ) (kind : TokenKind) (octets : List ℕ) (colon : Bool) (w r : List ℕ) → IsLexeme p colon w r kind octets → starts_badly (w ++ r) ≡ false → is_version_word (placed_token p start end kind octets ∷ []) ≡ false
+word_of : (p : Place) (start end : ℕ) (kind : TokenKind) (octets : List ℕ) (colon : Bool) (w r : List ℕ) → IsLexeme p colon w r kind octets
+    → starts_badly (w ++ r) ≡ false → is_version_word (placed_token p start end kind octets ∷ []) ≡ false
 word_of p start end kinds.Word octets colon w r h g = no_version octets (subst (λ (x : List ℕ). starts_badly x ≡ false) (sym h.0) (bad_front w r g))
 word_of p start end kinds.KindName octets colon w r h g = refl
 word_of p start end kinds.Number octets colon w r h g = refl
@@ -92,13 +93,15 @@ word_of p start end kinds.Clob octets colon w r h g = refl
 word_of p start end kinds.Blob octets colon w r h g = refl
 word_of p start end (kinds.Mark m) octets colon w r h g = refl
 
-no_marker : (colon : Bool) (before : ℕ) (octets : List ℕ) (t : Placed) (ts : List Placed) (after : Bool) (end : ℕ) (rest : List ℕ) → LexesTo colon before octets (t ∷ ts) after end rest → starts_badly octets ≡ false → is_version_word (t ∷ ts) ≡ false
+no_marker : (colon : Bool) (before : ℕ) (octets : List ℕ) (t : Placed) (ts : List Placed) (after : Bool) (end : ℕ) (rest : List ℕ)
+    → LexesTo colon before octets (t ∷ ts) after end rest → starts_badly octets ≡ false → is_version_word (t ∷ ts) ≡ false
 no_marker colon before octets t (u ∷ ts) after end rest h g = refl
 no_marker colon before octets t [] after end rest (others, b, h) g =
     let whole = b.cut ∙ append_assoc b.blank b.token others in
     let g' = subst (λ (x : List ℕ). starts_badly x ≡ false) whole g in
     let none = blank_badly b.blank (b.token ++ others) b.is_blank g' in
-    word_of t.place t.lexeme.start t.lexeme.end t.lexeme.kind t.lexeme.octets colon b.token others b.is (subst (λ (x : List ℕ). starts_badly (x ++ (b.token ++ others)) ≡ false) none g')
+    word_of t.place t.lexeme.start t.lexeme.end t.lexeme.kind t.lexeme.octets colon b.token others b.is
+    (subst (λ (x : List ℕ). starts_badly (x ++ (b.token ++ others)) ≡ false) none g')
 
 -- 2. Lines.
 
@@ -133,7 +136,8 @@ module _ (g : Catalog) (l : Limits) where
   MeansAtTop v ts = Means system_slots places.Top ts v
 
   -- one value more
-  value_holds : (us : List Placed) (done : List Value) (v : Value) (at : ℕ) (rest : List ℕ) → WrittenPieces us done → IsKept v → is_table v ≡ false → ValueFits l v → (h : Written (MeansAtTop v) at (value_text v) rest) → WrittenPieces (us ++ tokens h) (done ++ v ∷ [])
+  value_holds : (us : List Placed) (done : List Value) (v : Value) (at : ℕ) (rest : List ℕ) → WrittenPieces us done → IsKept v → is_table v ≡ false
+      → ValueFits l v → (h : Written (MeansAtTop v) at (value_text v) rest) → WrittenPieces (us ++ tokens h) (done ++ v ∷ [])
   value_holds us done v at rest w k no_table fits h =
       let n = no_marker false at (value_text v ++ rest) h.first h.others h.after (at + length (value_text v)) rest (h.lexes false) (value_no_colon v k rest) in
       let s = span_within false at (value_text v ++ rest) (tokens h) h.after (at + length (value_text v)) rest (h.lexes false) in
@@ -143,22 +147,26 @@ module _ (g : Catalog) (l : Limits) where
         short = none_long us (tokens h) w.short h.short;
       }
 
-  lines : (us : List Placed) (done : List Value) → WrittenPieces us done → (vs : List Value) → AreKept vs → NoTables vs → FitsIn l vs → (colon : Bool) (before : ℕ) → Lines us done vs colon before
+  lines : (us : List Placed) (done : List Value) → WrittenPieces us done → (vs : List Value) → AreKept vs → NoTables vs → FitsIn l vs
+      → (colon : Bool) (before : ℕ) → Lines us done vs colon before
   lines us done w [] k n f colon before = record {
     tokens = [];
     lexes = last_line;
-    pieces = subst (λ (x : List Placed). Pieces g l x (done ++ []) system_slots) (sym (append-nil us)) (subst (λ (x : List Value). Pieces g l us x system_slots) (sym (append-nil done)) w.pieces);
+    pieces = subst (λ (x : List Placed). Pieces g l x (done ++ []) system_slots) (sym (append-nil us))
+        (subst (λ (x : List Value). Pieces g l us x system_slots) (sym (append-nil done)) w.pieces);
   }
   lines us done w (v ∷ vs) k n f colon before =
       let rest = 10 ∷ text_of vs in
       let h = value_written system_slots v k.0 places.Top refl (before + 1) rest (line_stops (text_of vs)) in
       let ts = tokens h in
-      let more = lines (us ++ ts) (done ++ v ∷ []) (value_holds us done v (before + 1) rest w k.0 n.0 f.0 h) vs k.1 n.1 f.1 h.after (before + 1 + length (value_text v)) in
+      let more = lines (us ++ ts) (done ++ v ∷ []) (value_holds us done v (before + 1) rest w k.0 n.0 f.0 h) vs k.1 n.1 f.1 h.after
+      (before + 1 + length (value_text v)) in
       record {
         tokens = ts ++ more.tokens;
         lexes = subst (λ (x : List ℕ). Lexes colon before (10 ∷ x) (ts ++ more.tokens)) (sym (one_line v vs))
             (white_before 10 refl (λ c b o. IsLastBlank o) colon before (value_text v ++ rest) h.first (h.others ++ more.tokens)
-            (lexes_end (λ c b o. IsLastBlank o) colon (before + 1) (value_text v ++ rest) ts more.tokens h.after (before + 1 + length (value_text v)) rest (h.lexes colon) more.lexes));
+            (lexes_end (λ c b o. IsLastBlank o) colon (before + 1) (value_text v ++ rest) ts more.tokens h.after (before + 1 + length (value_text v)) rest
+            (h.lexes colon) more.lexes));
         pieces = subst (λ (x : List Placed). Pieces g l x (done ++ v ∷ vs) system_slots) (append_assoc us ts more.tokens)
             (subst (λ (x : List Value). Pieces g l ((us ++ ts) ++ more.tokens) x system_slots) (append_assoc done (v ∷ []) vs) more.pieces);
       }
@@ -170,11 +178,13 @@ module _ (g : Catalog) (l : Limits) where
       let rest = 10 ∷ text_of vs in
       let h = value_written system_slots v k.0 places.Top refl 0 rest (line_stops (text_of vs)) in
       let ts = tokens h in
-      let more = lines ts (v ∷ []) (value_holds [] [] v 0 rest (record { pieces = begins; short = tt }) k.0 n.0 f.0 h) vs k.1 n.1 f.1 h.after (0 + length (value_text v)) in
+      let more = lines ts (v ∷ []) (value_holds [] [] v 0 rest (record { pieces = begins; short = tt }) k.0 n.0 f.0 h) vs k.1 n.1 f.1 h.after
+      (0 + length (value_text v)) in
       record {
         tokens = ts ++ more.tokens;
         context = system_slots;
         lexed = subst (λ (x : List ℕ). Lexes false 0 x (ts ++ more.tokens)) (sym (one_line v vs))
-            (lexes_end (λ c b o. IsLastBlank o) false 0 (value_text v ++ rest) ts more.tokens h.after (0 + length (value_text v)) rest (h.lexes false) more.lexes);
+            (lexes_end (λ c b o. IsLastBlank o) false 0 (value_text v ++ rest) ts more.tokens h.after (0 + length (value_text v)) rest (h.lexes false)
+            more.lexes);
         pieces = more.pieces;
       }

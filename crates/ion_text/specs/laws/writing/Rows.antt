@@ -24,7 +24,11 @@ minus_zero = record { negative = true; magnitude = 0; exponent = pos 0 }
 
 -- the year 2007
 abbrev in_2007 : TimestampParts
-in_2007 = record { local = record { year = 2007; month = 1; day = 1; hour = 0; minute = 0; second = 0; fraction = 0 }; precision = precisions.Year; offset = None }
+in_2007 = record {
+  local = record { year = 2007; month = 1; day = 1; hour = 0; minute = 0; second = 0; fraction = 0 };
+  precision = precisions.Year;
+  offset = None;
+}
 
 abbrev unknown_symbol : Value
 unknown_symbol = bare (payloads.Symbol None)

@@ -156,7 +156,8 @@ symbol_spelled c p (Some w) r u a = by (is_unquoted w) refl where
 
 -- 3. Numbers, bools, nulls and strings.
 
-pub number_spelled : (p : Place) (n : Number) (r : List ℕ) → is_name p ≡ false → ReadsNumber (number_text n) (Ok n) → EndsNumbers r → Spelling p (number_text n) r (Number' n)
+pub number_spelled : (p : Place) (n : Number) (r : List ℕ) → is_name p ≡ false → ReadsNumber (number_text n) (Ok n) → EndsNumbers r
+    → Spelling p (number_text n) r (Number' n)
 number_spelled p n r place h s =
     let run = numeric_run (number_text n) n h in
     record {
@@ -185,7 +186,8 @@ abbrev pub null_said : Kind → Content
 null_said values.Null = Word (codes "null")
 null_said k = TypedNull k
 
-typed_null : (p : Place) (k : Kind) (r : List ℕ) → Each is_word_octet (kind_name k) → kind_named (kind_name k) ≡ Some k → EndsWords r → Spelling p (codes "null." ++ kind_name k) r (TypedNull k)
+typed_null : (p : Place) (k : Kind) (r : List ℕ) → Each is_word_octet (kind_name k) → kind_named (kind_name k) ≡ Some k → EndsWords r
+    → Spelling p (codes "null." ++ kind_name k) r (TypedNull k)
 typed_null p k r e f a = record {
   kind = kinds.KindName;
   octets = kind_name k;

@@ -117,7 +117,8 @@ number_no_colon (o ∷ os) r h = plain_start o (os ++ r) (digit_no_colon o (begi
 pub data Marked (p : Place) (m : Mark) (Names : Content → Type 0) : List Placed → Type 0 where
   marked : (t mark : Placed) (said : Content) → Says p t said → Names said → Says p mark (Mark' m) → Marked p m Names (t ∷ mark ∷ [])
 
-symbol_marked : (c : List Slot) (p : Place) (m : Mark) (s : Option (List ℕ)) (before : ℕ) (rest : List ℕ) → IsText s → EndsWords (mark_spelling m ++ rest) → MarkStands p true m → MarkEnds m rest
+symbol_marked : (c : List Slot) (p : Place) (m : Mark) (s : Option (List ℕ)) (before : ℕ) (rest : List ℕ) → IsText s → EndsWords (mark_spelling m ++ rest)
+    → MarkStands p true m → MarkEnds m rest
     → Written (Marked p m (λ said. IsSymbol c said s)) before (symbol_text s ++ mark_spelling m) rest
 symbol_marked c p m s before rest t a stands ends =
     let h = symbol_spelled c p s (mark_spelling m ++ rest) t a in
@@ -143,7 +144,8 @@ colons_apart r = record { word = refl; dot = refl; quote = refl }
 colon_apart : (r : List ℕ) → EndsWords (codes ":" ++ r)
 colon_apart r = record { word = refl; dot = refl; quote = refl }
 
-note_written : (c : List Slot) (p : Place) (s : Option (List ℕ)) (before : ℕ) (rest : List ℕ) → IsText s → Written (Marked p marks.Colons (λ said. IsSymbol c said s)) before (symbol_text s ++ codes "::") rest
+note_written : (c : List Slot) (p : Place) (s : Option (List ℕ)) (before : ℕ) (rest : List ℕ) → IsText s
+    → Written (Marked p marks.Colons (λ said. IsSymbol c said s)) before (symbol_text s ++ codes "::") rest
 note_written c p s before rest t = symbol_marked c p marks.Colons s before rest t (colons_apart rest) refl tt
 
 -- 3. Annotations before a payload.
@@ -154,15 +156,18 @@ IsPlain c p x ts = Plain c p ts x
 abbrev MeansBehind : List Slot → Place → List Placed → List (Option (List ℕ)) → Payload → List Placed → Type 0
 MeansBehind c p us ss x ts = Means c p (us ++ ts) (annotated ss x)
 
-with_note : (c : List Slot) (p : Place) (us ts : List Placed) (ss : List (Option (List ℕ))) (s : Option (List ℕ)) → Annotations c p us ss → Marked p marks.Colons (λ said. IsSymbol c said s) ts → Annotations c p (us ++ ts) (ss ++ s ∷ [])
+with_note : (c : List Slot) (p : Place) (us ts : List Placed) (ss : List (Option (List ℕ))) (s : Option (List ℕ)) → Annotations c p us ss
+    → Marked p marks.Colons (λ said. IsSymbol c said s) ts → Annotations c p (us ++ ts) (ss ++ s ∷ [])
 with_note c p us _ ss s h (marked t mark said a b d) = one_annotation us ss t mark said s h a b d
 
-behind_notes : (c : List Slot) (p : Place) (us : List Placed) (done ss : List (Option (List ℕ))) (x : Payload) (w : List ℕ) (before : ℕ) (rest : List ℕ) → Annotations c p us done → AreTexts ss → ((at : ℕ) → Written (IsPlain c p x) at w rest)
+behind_notes : (c : List Slot) (p : Place) (us : List Placed) (done ss : List (Option (List ℕ))) (x : Payload) (w : List ℕ) (before : ℕ) (rest : List ℕ)
+    → Annotations c p us done → AreTexts ss → ((at : ℕ) → Written (IsPlain c p x) at w rest)
     → Written (MeansBehind c p us (done ++ ss) x) before (notes_text ss ++ w) rest
 behind_notes c p us done [] x w before rest h t k =
     let now = k before in
     written_as (IsPlain c p x) (MeansBehind c p us (done ++ []) x) before w rest now
-    (subst (λ (ss : List (Option (List ℕ))). Means c p (us ++ tokens now) (annotated ss x)) (sym (append-nil done)) (means p us (now.first ∷ now.others) done x h now.is))
+    (subst (λ (ss : List (Option (List ℕ))). Means c p (us ++ tokens now) (annotated ss x)) (sym (append-nil done))
+    (means p us (now.first ∷ now.others) done x h now.is))
 behind_notes c p us done (s ∷ ss) x w before rest h t k =
     let note = symbol_text s ++ codes "::" in
     let more = notes_text ss ++ w in
@@ -173,7 +178,8 @@ behind_notes c p us done (s ∷ ss) x w before rest h t k =
     let is : MeansBehind c p us (done ++ s ∷ ss) x (ts ++ us') =
     subst (λ (os : List Placed). Means c p os (annotated (done ++ s ∷ ss) x)) (append_assoc us ts us')
     (subst (λ (l : List (Option (List ℕ))). Means c p ((us ++ ts) ++ us') (annotated l x)) (append_assoc done (s ∷ []) ss) tail.is) in
-    let all = both (Marked p marks.Colons (λ said. IsSymbol c said s)) (MeansBehind c p (us ++ ts) ((done ++ s ∷ []) ++ ss) x) (MeansBehind c p us (done ++ s ∷ ss) x) before note more rest one tail is in
+    let all = both (Marked p marks.Colons (λ said. IsSymbol c said s)) (MeansBehind c p (us ++ ts) ((done ++ s ∷ []) ++ ss) x)
+    (MeansBehind c p us (done ++ s ∷ ss) x) before note more rest one tail is in
     subst (λ (o : List ℕ). Written (MeansBehind c p us (done ++ s ∷ ss) x) before o rest) (sym (append_assoc note (notes_text ss) w)) all
 
 -- 4. Scalars.
@@ -181,7 +187,8 @@ behind_notes c p us done (s ∷ ss) x w before rest h t k =
 plain_of : (c : List Slot) (p : Place) (said : Content) (x : Payload) → IsScalar c said x → (ts : List Placed) → One p said ts → Plain c p ts x
 plain_of c p said x h _ (one t k) = one_token p t said x k h
 
-scalar_written : (c : List Slot) (p : Place) (said : Content) (x : Payload) (at : ℕ) (w rest : List ℕ) → IsScalar c said x → Spelling p w rest said → Written (IsPlain c p x) at w rest
+scalar_written : (c : List Slot) (p : Place) (said : Content) (x : Payload) (at : ℕ) (w rest : List ℕ) → IsScalar c said x → Spelling p w rest said
+    → Written (IsPlain c p x) at w rest
 scalar_written c p said x at w rest h k =
     let token = one_written p at w rest said k in
     written_as (One p said) (IsPlain c p x) at w rest token (plain_of c p said x h (tokens token) token.is)
@@ -205,14 +212,16 @@ truth_scalar : (c : List Slot) (b : Bool) → IsScalar c (Word (truth_text b)) (
 truth_scalar c false = is_false
 truth_scalar c true = is_true
 
-symbol_written : (c : List Slot) (p : Place) (s : Option (List ℕ)) (at : ℕ) (rest : List ℕ) → IsText s → EndsWords rest → Written (IsPlain c p (payloads.Symbol s)) at (symbol_text s) rest
+symbol_written : (c : List Slot) (p : Place) (s : Option (List ℕ)) (at : ℕ) (rest : List ℕ) → IsText s → EndsWords rest
+    → Written (IsPlain c p (payloads.Symbol s)) at (symbol_text s) rest
 symbol_written c p s at rest t a =
     let h = symbol_spelled c p s rest t a in
     scalar_written c p h.said (payloads.Symbol s) at (symbol_text s) rest (is_symbol h.said s h.is) h.token
 
 -- 5. What ends a value.
 
-close_stops : (by close : ℕ) (r : List ℕ) → EndsNumbers (by ∷ []) → EndsNumbers (close ∷ []) → (ws : List (List ℕ)) → EndsNumbers ((flat_map (λ (x : List ℕ). by ∷ x) ws ++ close ∷ []) ++ r)
+close_stops : (by close : ℕ) (r : List ℕ) → EndsNumbers (by ∷ []) → EndsNumbers (close ∷ []) → (ws : List (List ℕ))
+    → EndsNumbers ((flat_map (λ (x : List ℕ). by ∷ x) ws ++ close ∷ []) ++ r)
 close_stops by close r a b [] = record { apart = record { word = b.apart.word; dot = b.apart.dot; quote = b.apart.quote }; stop = b.stop }
 close_stops by close r a b (w ∷ ws) = record { apart = record { word = a.apart.word; dot = a.apart.dot; quote = a.apart.quote }; stop = a.stop }
 
@@ -237,40 +246,52 @@ struct_stops r = record { apart = record { word = refl; dot = refl; quote = refl
 -- 6. The contents of lists, s-expressions and structs, up to the mark that closes them.
 
 pub data ClosedList (c : List Slot) : List Placed → List Value → Type 0 where
-  closed_list : (ts : List Placed) (vs : List Value) (more : Bool) (close : Placed) → Elements c ts vs more → Says places.List close (Mark' marks.ListClose) → ClosedList c (ts ++ close ∷ []) vs
+  closed_list : (ts : List Placed) (vs : List Value) (more : Bool) (close : Placed) → Elements c ts vs more → Says places.List close (Mark' marks.ListClose)
+      → ClosedList c (ts ++ close ∷ []) vs
 
 pub data ClosedSexp (c : List Slot) : List Placed → List Value → Type 0 where
-  closed_sexp : (ts : List Placed) (vs : List Value) (close : Placed) → Row c ts vs → Says places.Sexp close (Mark' marks.SexpClose) → ClosedSexp c (ts ++ close ∷ []) vs
+  closed_sexp : (ts : List Placed) (vs : List Value) (close : Placed) → Row c ts vs → Says places.Sexp close (Mark' marks.SexpClose)
+      → ClosedSexp c (ts ++ close ∷ []) vs
 
 pub data ClosedFields (c : List Slot) : List Placed → List Field → Type 0 where
-  closed_fields : (ts : List Placed) (ms : List Field) (more : Bool) (close : Placed) → Members c ts ms more → Says (close_place more) close (Mark' marks.FieldsClose) → ClosedFields c (ts ++ close ∷ []) ms
+  closed_fields : (ts : List Placed) (ms : List Field) (more : Bool) (close : Placed) → Members c ts ms more
+      → Says (close_place more) close (Mark' marks.FieldsClose) → ClosedFields c (ts ++ close ∷ []) ms
 
-list_plain : (c : List Slot) (p : Place) (ts us : List Placed) (vs : List Value) → One p (Mark' marks.ListOpen) ts → ClosedList c us vs → Plain c p (ts ++ us) (payloads.List vs)
+list_plain : (c : List Slot) (p : Place) (ts us : List Placed) (vs : List Value) → One p (Mark' marks.ListOpen) ts → ClosedList c us vs
+    → Plain c p (ts ++ us) (payloads.List vs)
 list_plain c p _ _ _ (one t h) (closed_list us vs more close i k) = is_list p t close us vs more h i k
 
-sexp_plain : (c : List Slot) (p : Place) (ts us : List Placed) (vs : List Value) → One p (Mark' marks.SexpOpen) ts → ClosedSexp c us vs → Plain c p (ts ++ us) (payloads.Sexp vs)
+sexp_plain : (c : List Slot) (p : Place) (ts us : List Placed) (vs : List Value) → One p (Mark' marks.SexpOpen) ts → ClosedSexp c us vs
+    → Plain c p (ts ++ us) (payloads.Sexp vs)
 sexp_plain c p _ _ _ (one t h) (closed_sexp us vs close i k) = is_sexp p t close us vs h i k
 
-struct_plain : (c : List Slot) (p : Place) (ts us : List Placed) (ms : List Field) → One p (Mark' marks.FieldsOpen) ts → ClosedFields c us ms → Plain c p (ts ++ us) (payloads.Fields ms)
+struct_plain : (c : List Slot) (p : Place) (ts us : List Placed) (ms : List Field) → One p (Mark' marks.FieldsOpen) ts → ClosedFields c us ms
+    → Plain c p (ts ++ us) (payloads.Fields ms)
 struct_plain c p _ _ _ (one t h) (closed_fields us ms more close i k) = is_struct p t close us ms more h i k
 
-close_list : (c : List Slot) (us : List Placed) (vs : List Value) (more : Bool) → Elements c us vs more → (ts : List Placed) → One places.List (Mark' marks.ListClose) ts → ClosedList c (us ++ ts) vs
+close_list : (c : List Slot) (us : List Placed) (vs : List Value) (more : Bool) → Elements c us vs more → (ts : List Placed)
+    → One places.List (Mark' marks.ListClose) ts → ClosedList c (us ++ ts) vs
 close_list c us vs more i _ (one t k) = closed_list us vs more t i k
 
-close_sexp : (c : List Slot) (us : List Placed) (vs : List Value) → Row c us vs → (ts : List Placed) → One places.Sexp (Mark' marks.SexpClose) ts → ClosedSexp c (us ++ ts) vs
+close_sexp : (c : List Slot) (us : List Placed) (vs : List Value) → Row c us vs → (ts : List Placed) → One places.Sexp (Mark' marks.SexpClose) ts
+    → ClosedSexp c (us ++ ts) vs
 close_sexp c us vs i _ (one t k) = closed_sexp us vs t i k
 
-close_fields : (c : List Slot) (us : List Placed) (ms : List Field) (more : Bool) → Members c us ms more → (ts : List Placed) → One (close_place more) (Mark' marks.FieldsClose) ts → ClosedFields c (us ++ ts) ms
+close_fields : (c : List Slot) (us : List Placed) (ms : List Field) (more : Bool) → Members c us ms more → (ts : List Placed)
+    → One (close_place more) (Mark' marks.FieldsClose) ts → ClosedFields c (us ++ ts) ms
 close_fields c us ms more i _ (one t k) = closed_fields us ms more t i k
 
 -- a name, a colon and a value
 pub data OneField (c : List Slot) : List Placed → Field → Type 0 where
-  one_field : (ns us : List Placed) (colon : Placed) (s : Option (List ℕ)) (v : Value) → IsName c ns s → Says places.Name colon (Mark' marks.Colon) → Means c places.FieldValue us v → OneField c (ns ++ colon ∷ us) (field_of s v)
+  one_field : (ns us : List Placed) (colon : Placed) (s : Option (List ℕ)) (v : Value) → IsName c ns s → Says places.Name colon (Mark' marks.Colon)
+      → Means c places.FieldValue us v → OneField c (ns ++ colon ∷ us) (field_of s v)
 
-with_field : (c : List Slot) (ts us : List Placed) (ms : List Field) (m : Field) → Members c ts ms true → OneField c us m → Members c (ts ++ us) (ms ++ m ∷ []) false
+with_field : (c : List Slot) (ts us : List Placed) (ms : List Field) (m : Field) → Members c ts ms true → OneField c us m
+    → Members c (ts ++ us) (ms ++ m ∷ []) false
 with_field c ts _ ms _ i (one_field ns us colon s v n k h) = field ts ns us colon ms s v i n k h
 
-field_tokens : (c : List Slot) (s : Option (List ℕ)) (v : Value) (ts us : List Placed) → Marked places.Name marks.Colon (λ said. IsSymbol c said s) ts → Means c places.FieldValue us v → OneField c (ts ++ us) (field_of s v)
+field_tokens : (c : List Slot) (s : Option (List ℕ)) (v : Value) (ts us : List Placed) → Marked places.Name marks.Colon (λ said. IsSymbol c said s) ts
+    → Means c places.FieldValue us v → OneField c (ts ++ us) (field_of s v)
 field_tokens c s v _ us (marked t mark said a b d) h = one_field (t ∷ []) us mark s v (by_symbol t said s a b) d h
 
 -- what is no long string goes on in none
@@ -278,8 +299,10 @@ apart_from : (b : Bool) (t : Placed) → is_long t ≡ false → (b && is_long t
 apart_from false t h = refl
 apart_from true t h = h
 
-with_item : (c : List Slot) (ts us : List Placed) (vs : List Value) (v : Value) → Row c ts vs → (t : Placed) (others : List Placed) → us ≡ t ∷ others → is_long t ≡ false → Means c places.Sexp us v → Row c (ts ++ us) (vs ++ v ∷ [])
-with_item c ts us vs v i t others e short h = item ts us vs v i h (subst (λ (x : List Placed). (ends_long ts && begins_long x) ≡ false) (sym e) (apart_from (ends_long ts) t short))
+with_item : (c : List Slot) (ts us : List Placed) (vs : List Value) (v : Value) → Row c ts vs → (t : Placed) (others : List Placed) → us ≡ t ∷ others
+    → is_long t ≡ false → Means c places.Sexp us v → Row c (ts ++ us) (vs ++ v ∷ [])
+with_item c ts us vs v i t others e short h = item ts us vs v i h
+    (subst (λ (x : List Placed). (ends_long ts && begins_long x) ≡ false) (sym e) (apart_from (ends_long ts) t short))
 
 -- tokens in two groupings
 regroup : (us ts more : List Placed) (t : Placed) → ((us ++ t ∷ []) ++ ts) ++ more ≡ us ++ t ∷ (ts ++ more)
@@ -287,14 +310,17 @@ regroup us ts more t = append_assoc (us ++ t ∷ []) ts more ∙ append_assoc us
 
 -- 7. Values.
 
-by_level : (c : List Slot) (p : Place) (x : Payload) (d : Layer) (at : ℕ) (rest : List ℕ) → views.out-Payload x ≡ d → Written (IsPlain c p x) at (layer_text d) rest → Written (IsPlain c p x) at (layer_text (views.out-Payload x)) rest
+by_level : (c : List Slot) (p : Place) (x : Payload) (d : Layer) (at : ℕ) (rest : List ℕ) → views.out-Payload x ≡ d
+    → Written (IsPlain c p x) at (layer_text d) rest → Written (IsPlain c p x) at (layer_text (views.out-Payload x)) rest
 by_level c p x d at rest e h = subst (λ (d : Layer). Written (IsPlain c p x) at (layer_text d) rest) (sym e) h
 
-number_written : (c : List Slot) (p : Place) (k : Number) (x : Payload) (at : ℕ) (rest : List ℕ) → IsScalar c (Number' k) x → is_name p ≡ false → ReadsNumber (number_text k) (Ok k) → EndsNumbers rest → Written (IsPlain c p x) at (number_text k) rest
+number_written : (c : List Slot) (p : Place) (k : Number) (x : Payload) (at : ℕ) (rest : List ℕ) → IsScalar c (Number' k) x → is_name p ≡ false
+    → ReadsNumber (number_text k) (Ok k) → EndsNumbers rest → Written (IsPlain c p x) at (number_text k) rest
 number_written c p k x at rest h n r s = scalar_written c p (Number' k) x at (number_text k) rest h (number_spelled p k rest n r s)
 
 -- no value's text begins with `:`
-level_no_colon : (x : Payload) (d : Layer) (r : List ℕ) → views.out-Payload x ≡ d → starts_badly (layer_text d ++ r) ≡ false → starts_badly (layer_text (views.out-Payload x) ++ r) ≡ false
+level_no_colon : (x : Payload) (d : Layer) (r : List ℕ) → views.out-Payload x ≡ d → starts_badly (layer_text d ++ r) ≡ false
+    → starts_badly (layer_text (views.out-Payload x) ++ r) ≡ false
 level_no_colon x d r e h = subst (λ (d : Layer). starts_badly (layer_text d ++ r) ≡ false) (sym e) h
 
 null_no_colon : (k : Kind) (r : List ℕ) → starts_badly (null_text k ++ r) ≡ false
@@ -327,27 +353,36 @@ symbol_no_colon (Some w) r = by (is_unquoted w) refl where
 payload_no_colon : (x : Payload) → KeptPayload x → (r : List ℕ) → starts_badly (layer_text (views.out-Payload x) ++ r) ≡ false
 payload_no_colon _ (kept_null k) r = level_no_colon (payloads.Null k) _ r (views.outs-Null k) (null_no_colon k r)
 payload_no_colon _ (kept_truth b) r = level_no_colon (payloads.Truth b) _ r (views.outs-Truth b) (truth_no_colon b r)
-payload_no_colon _ (kept_int z h) r = level_no_colon (payloads.Int z) _ r (views.outs-Int z) (number_no_colon (number_text (numbers.Int z)) r (numeric_run (number_text (numbers.Int z)) (numbers.Int z) (int_reads z h)).begun)
-payload_no_colon _ (kept_decimal d h) r = level_no_colon (payloads.Decimal d) _ r (views.outs-Decimal d) (number_no_colon (number_text (numbers.Decimal d)) r (numeric_run (number_text (numbers.Decimal d)) (numbers.Decimal d) (decimal_reads d h)).begun)
-payload_no_colon _ (kept_timestamp t h) r = level_no_colon (payloads.Timestamp t) _ r (views.outs-Timestamp t) (number_no_colon (number_text (numbers.Timestamp t)) r (numeric_run (number_text (numbers.Timestamp t)) (numbers.Timestamp t) (timestamp_reads t h)).begun)
+payload_no_colon _ (kept_int z h) r = level_no_colon (payloads.Int z) _ r (views.outs-Int z)
+    (number_no_colon (number_text (numbers.Int z)) r (numeric_run (number_text (numbers.Int z)) (numbers.Int z) (int_reads z h)).begun)
+payload_no_colon _ (kept_decimal d h) r = level_no_colon (payloads.Decimal d) _ r (views.outs-Decimal d)
+    (number_no_colon (number_text (numbers.Decimal d)) r (numeric_run (number_text (numbers.Decimal d)) (numbers.Decimal d) (decimal_reads d h)).begun)
+payload_no_colon _ (kept_timestamp t h) r = level_no_colon (payloads.Timestamp t) _ r (views.outs-Timestamp t)
+    (number_no_colon (number_text (numbers.Timestamp t)) r (numeric_run (number_text (numbers.Timestamp t)) (numbers.Timestamp t) (timestamp_reads t h)).begun)
 payload_no_colon _ (kept_symbol s t) r = level_no_colon (payloads.Symbol s) _ r (views.outs-Symbol s) (symbol_no_colon s r)
-payload_no_colon _ (kept_string text u) r = level_no_colon (payloads.Str text) _ r (views.outs-Str text) (plain_start 34 ((escaped_text of_string text ++ 34 ∷ []) ++ r) refl refl)
+payload_no_colon _ (kept_string text u) r = level_no_colon (payloads.Str text) _ r (views.outs-Str text)
+    (plain_start 34 ((escaped_text of_string text ++ 34 ∷ []) ++ r) refl refl)
 payload_no_colon _ (kept_clob body h) r = level_no_colon (payloads.Clob body) _ r (views.outs-Clob body) refl
 payload_no_colon _ (kept_blob body h) r = level_no_colon (payloads.Blob body) _ r (views.outs-Blob body) refl
-payload_no_colon _ (kept_list vs k) r = level_no_colon (payloads.List vs) _ r (views.outs-List vs) (plain_start 91 ((separated (codes ",") (map value_text vs) ++ 93 ∷ []) ++ r) refl refl)
-payload_no_colon _ (kept_sexp vs k) r = level_no_colon (payloads.Sexp vs) _ r (views.outs-Sexp vs) (plain_start 40 ((separated (codes " ") (map value_text vs) ++ 41 ∷ []) ++ r) refl refl)
-payload_no_colon _ (kept_fields ms k) r = level_no_colon (payloads.Fields ms) _ r (views.outs-Fields ms) (plain_start 123 ((separated (codes ",") (map field_text ms) ++ 125 ∷ []) ++ r) refl refl)
+payload_no_colon _ (kept_list vs k) r = level_no_colon (payloads.List vs) _ r (views.outs-List vs)
+    (plain_start 91 ((separated (codes ",") (map value_text vs) ++ 93 ∷ []) ++ r) refl refl)
+payload_no_colon _ (kept_sexp vs k) r = level_no_colon (payloads.Sexp vs) _ r (views.outs-Sexp vs)
+    (plain_start 40 ((separated (codes " ") (map value_text vs) ++ 41 ∷ []) ++ r) refl refl)
+payload_no_colon _ (kept_fields ms k) r = level_no_colon (payloads.Fields ms) _ r (views.outs-Fields ms)
+    (plain_start 123 ((separated (codes ",") (map field_text ms) ++ 125 ∷ []) ++ r) refl refl)
 
 notes_no_colon : (ss : List (Option (List ℕ))) (w r : List ℕ) → starts_badly (w ++ r) ≡ false → starts_badly ((notes_text ss ++ w) ++ r) ≡ false
 notes_no_colon [] w r h = h
 notes_no_colon (s ∷ ss) w r h =
     let more = codes "::" ++ (notes_text ss ++ (w ++ r)) in
-    subst (λ (x : List ℕ). starts_badly x ≡ false) (sym (append_assoc (notes_text (s ∷ ss)) w r ∙ (append_assoc (symbol_text s ++ codes "::") (notes_text ss) (w ++ r) ∙ append_assoc (symbol_text s) (codes "::") (notes_text ss ++ (w ++ r)))))
+    subst (λ (x : List ℕ). starts_badly x ≡ false) (sym (append_assoc (notes_text (s ∷ ss)) w r
+    ∙ (append_assoc (symbol_text s ++ codes "::") (notes_text ss) (w ++ r) ∙ append_assoc (symbol_text s) (codes "::") (notes_text ss ++ (w ++ r)))))
     (symbol_no_colon s more)
 
 pub value_no_colon : (v : Value) → IsKept v → (r : List ℕ) → starts_badly (value_text v ++ r) ≡ false
 value_no_colon _ (kept ss x t k) r =
-    subst (λ (w : List ℕ). starts_badly (w ++ r) ≡ false) (sym (text-out (annotated ss x))) (notes_no_colon ss (layer_text (views.out-Payload x)) r (payload_no_colon x k r))
+    subst (λ (w : List ℕ). starts_badly (w ++ r) ≡ false) (sym (text-out (annotated ss x)))
+    (notes_no_colon ss (layer_text (views.out-Payload x)) r (payload_no_colon x k r))
 
 -- a struct does not open like a lob
 fields_no_brace : (ms : List Field) (r : List ℕ) → begins (λ o. o == 123) ((separated (codes ",") (map field_text ms) ++ 125 ∷ []) ++ r) ≡ false
@@ -355,7 +390,8 @@ fields_no_brace [] r = refl
 fields_no_brace (m ∷ ms) r =
     let f = flat_map (λ (x : List ℕ). 44 ∷ x) (map field_text ms) in
     let more = ((58 ∷ value_text m.value ++ f) ++ 125 ∷ []) ++ r in
-    subst (λ (w : List ℕ). begins (λ o. o == 123) w ≡ false) (sym (ap (λ (x : List ℕ). (x ++ 125 ∷ []) ++ r) (append_assoc (symbol_text m.name) (58 ∷ value_text m.value) f)
+    subst (λ (w : List ℕ). begins (λ o. o == 123) w ≡ false)
+    (sym (ap (λ (x : List ℕ). (x ++ 125 ∷ []) ++ r) (append_assoc (symbol_text m.name) (58 ∷ value_text m.value) f)
     ∙ (ap (λ (x : List ℕ). x ++ r) (append_assoc (symbol_text m.name) (58 ∷ value_text m.value ++ f) (125 ∷ []))
     ∙ append_assoc (symbol_text m.name) ((58 ∷ value_text m.value ++ f) ++ 125 ∷ []) r)))
     (first_no_brace (symbol_text m.name ++ more) (symbol_begins m.name more))
@@ -368,34 +404,48 @@ tails_more : (by close : ℕ) (w : List ℕ) (ws : List (List ℕ)) → tails by
 tails_more by close w ws = ap (λ (x : List ℕ). by ∷ x) (append_assoc w (flat_map (λ (x : List ℕ). by ∷ x) ws) (close ∷ []))
 
 -- a field, where its value is written
-field_by : (c : List Slot) (s : Option (List ℕ)) (v : Value) → IsText s → IsKept v → (at : ℕ) (rest : List ℕ) → ((here : ℕ) → Written (λ ts. Means c places.FieldValue ts v) here (value_text v) rest) → Written (λ ts. OneField c ts (field_of s v)) at (named_text s (value_text v)) rest
+field_by : (c : List Slot) (s : Option (List ℕ)) (v : Value) → IsText s → IsKept v → (at : ℕ) (rest : List ℕ)
+    → ((here : ℕ) → Written (λ ts. Means c places.FieldValue ts v) here (value_text v) rest)
+    → Written (λ ts. OneField c ts (field_of s v)) at (named_text s (value_text v)) rest
 field_by c s v t k at rest written =
     let w = value_text v in
     let name = symbol_text s ++ codes ":" in
     let h = symbol_marked c places.Name marks.Colon s at (w ++ rest) t (colon_apart (w ++ rest)) refl (no_colon_start (w ++ rest) (value_no_colon v k rest)) in
     let x = written (at + length name) in
     subst (λ (o : List ℕ). Written (λ ts. OneField c ts (field_of s v)) at o rest) (append_assoc (symbol_text s) (codes ":") w)
-    (both (Marked places.Name marks.Colon (λ said. IsSymbol c said s)) (λ ts. Means c places.FieldValue ts v) (λ ts. OneField c ts (field_of s v)) at name w rest h x
+    (both (Marked places.Name marks.Colon (λ said. IsSymbol c said s)) (λ ts. Means c places.FieldValue ts v) (λ ts. OneField c ts (field_of s v)) at name w
+    rest h x
     (field_tokens c s v (tokens h) (tokens x) h.is x.is))
 
 module _ (c : List Slot) where
   mutual
     -- the text of a value is tokens that mean it, in each place but a field's name, before what ends it
-    pub value_written : (v : Value) → IsKept v → (p : Place) → is_name p ≡ false → (at : ℕ) (rest : List ℕ) → EndsNumbers rest → Written (λ ts. Means c p ts v) at (value_text v) rest
+    pub value_written : (v : Value) → IsKept v → (p : Place) → is_name p ≡ false → (at : ℕ) (rest : List ℕ) → EndsNumbers rest
+        → Written (λ ts. Means c p ts v) at (value_text v) rest
     value_written _ (kept ss x t k) p n at rest s =
         subst (λ (w : List ℕ). Written (λ ts. Means c p ts (annotated ss x)) at w rest) (sym (text-out (annotated ss x)))
         (behind_notes c p [] [] ss x (layer_text (views.out-Payload x)) at rest no_annotation t (λ here. payload_written x k p n here rest s))
 
-    payload_written : (x : Payload) → KeptPayload x → (p : Place) → is_name p ≡ false → (at : ℕ) (rest : List ℕ) → EndsNumbers rest → Written (IsPlain c p x) at (layer_text (views.out-Payload x)) rest
-    payload_written _ (kept_null k) p n at rest s = by_level c p (payloads.Null k) _ at rest (views.outs-Null k) (scalar_written c p (null_said k) (payloads.Null k) at (null_text k) rest (null_scalar c k) (null_spelled p k rest s.apart))
-    payload_written _ (kept_truth b) p n at rest s = by_level c p (payloads.Truth b) _ at rest (views.outs-Truth b) (scalar_written c p (Word (truth_text b)) (payloads.Truth b) at (truth_text b) rest (truth_scalar c b) (truth_spelled p b rest s.apart))
-    payload_written _ (kept_int z h) p n at rest s = by_level c p (payloads.Int z) _ at rest (views.outs-Int z) (number_written c p (numbers.Int z) (payloads.Int z) at rest (is_int z) n (int_reads z h) s)
-    payload_written _ (kept_decimal d h) p n at rest s = by_level c p (payloads.Decimal d) _ at rest (views.outs-Decimal d) (number_written c p (numbers.Decimal d) (payloads.Decimal d) at rest (is_decimal d) n (decimal_reads d h) s)
-    payload_written _ (kept_timestamp t h) p n at rest s = by_level c p (payloads.Timestamp t) _ at rest (views.outs-Timestamp t) (number_written c p (numbers.Timestamp t) (payloads.Timestamp t) at rest (is_timestamp t) n (timestamp_reads t h) s)
-    payload_written _ (kept_symbol x t) p n at rest s = by_level c p (payloads.Symbol x) _ at rest (views.outs-Symbol x) (symbol_written c p x at rest t s.apart)
-    payload_written _ (kept_string text u) p n at rest s = by_level c p (payloads.Str text) _ at rest (views.outs-Str text) (scalar_written c p (Short text) (payloads.Str text) at (quoted of_string text) rest (is_short text) (string_spelled p text rest u))
-    payload_written _ (kept_clob body h) p n at rest s = by_level c p (payloads.Clob body) _ at rest (views.outs-Clob body) (scalar_written c p (Clob body) (payloads.Clob body) at (clob_text body) rest (is_clob body) (clob_spelled p body rest n h))
-    payload_written _ (kept_blob body h) p n at rest s = by_level c p (payloads.Blob body) _ at rest (views.outs-Blob body) (scalar_written c p (Blob body) (payloads.Blob body) at (blob_text body) rest (is_blob body) (blob_spelled p body rest n h))
+    payload_written : (x : Payload) → KeptPayload x → (p : Place) → is_name p ≡ false → (at : ℕ) (rest : List ℕ) → EndsNumbers rest
+        → Written (IsPlain c p x) at (layer_text (views.out-Payload x)) rest
+    payload_written _ (kept_null k) p n at rest s = by_level c p (payloads.Null k) _ at rest (views.outs-Null k)
+        (scalar_written c p (null_said k) (payloads.Null k) at (null_text k) rest (null_scalar c k) (null_spelled p k rest s.apart))
+    payload_written _ (kept_truth b) p n at rest s = by_level c p (payloads.Truth b) _ at rest (views.outs-Truth b)
+        (scalar_written c p (Word (truth_text b)) (payloads.Truth b) at (truth_text b) rest (truth_scalar c b) (truth_spelled p b rest s.apart))
+    payload_written _ (kept_int z h) p n at rest s = by_level c p (payloads.Int z) _ at rest (views.outs-Int z)
+        (number_written c p (numbers.Int z) (payloads.Int z) at rest (is_int z) n (int_reads z h) s)
+    payload_written _ (kept_decimal d h) p n at rest s = by_level c p (payloads.Decimal d) _ at rest (views.outs-Decimal d)
+        (number_written c p (numbers.Decimal d) (payloads.Decimal d) at rest (is_decimal d) n (decimal_reads d h) s)
+    payload_written _ (kept_timestamp t h) p n at rest s = by_level c p (payloads.Timestamp t) _ at rest (views.outs-Timestamp t)
+        (number_written c p (numbers.Timestamp t) (payloads.Timestamp t) at rest (is_timestamp t) n (timestamp_reads t h) s)
+    payload_written _ (kept_symbol x t) p n at rest s = by_level c p (payloads.Symbol x) _ at rest (views.outs-Symbol x)
+        (symbol_written c p x at rest t s.apart)
+    payload_written _ (kept_string text u) p n at rest s = by_level c p (payloads.Str text) _ at rest (views.outs-Str text)
+        (scalar_written c p (Short text) (payloads.Str text) at (quoted of_string text) rest (is_short text) (string_spelled p text rest u))
+    payload_written _ (kept_clob body h) p n at rest s = by_level c p (payloads.Clob body) _ at rest (views.outs-Clob body)
+        (scalar_written c p (Clob body) (payloads.Clob body) at (clob_text body) rest (is_clob body) (clob_spelled p body rest n h))
+    payload_written _ (kept_blob body h) p n at rest s = by_level c p (payloads.Blob body) _ at rest (views.outs-Blob body)
+        (scalar_written c p (Blob body) (payloads.Blob body) at (blob_text body) rest (is_blob body) (blob_spelled p body rest n h))
     payload_written _ (kept_list vs k) p n at rest s =
         let more = separated (codes ",") (map value_text vs) ++ 93 ∷ [] in
         let front = free_mark p marks.ListOpen at (more ++ rest) (λ colon. n) tt in
@@ -418,19 +468,23 @@ module _ (c : List Slot) where
         (both (One p (Mark' marks.FieldsOpen)) (λ ts. ClosedFields c ts ms) (IsPlain c p (payloads.Fields ms)) at (123 ∷ []) more rest front back
         (struct_plain c p (tokens front) (tokens back) ms front.is back.is))
 
-    list_closed : (vs : List Value) → KeptItems vs → (at : ℕ) (rest : List ℕ) → Written (λ ts. ClosedList c ts vs) at (separated (codes ",") (map value_text vs) ++ 93 ∷ []) rest
+    list_closed : (vs : List Value) → KeptItems vs → (at : ℕ) (rest : List ℕ)
+        → Written (λ ts. ClosedList c ts vs) at (separated (codes ",") (map value_text vs) ++ 93 ∷ []) rest
     list_closed _ no_items at rest =
         let close = free_mark places.List marks.ListClose at rest (λ colon. refl) tt in
-        written_as (One places.List (Mark' marks.ListClose)) (λ ts. ClosedList c ts []) at (93 ∷ []) rest close (close_list c [] [] true no_element (tokens close) close.is)
+        written_as (One places.List (Mark' marks.ListClose)) (λ ts. ClosedList c ts []) at (93 ∷ []) rest close
+        (close_list c [] [] true no_element (tokens close) close.is)
     list_closed _ (an_item v vs k ks) at rest =
         let w = value_text v in
         let more = tails 44 93 (map value_text vs) in
         let h = value_written v k places.List refl at (more ++ rest) (close_stops 44 93 rest (comma_stops []) (list_stops []) (map value_text vs)) in
         let t = list_tail (tokens h) (v ∷ []) (element [] (tokens h) [] v no_element h.is) vs ks (at + length w) rest in
-        subst (λ (x : List ℕ). Written (λ ts. ClosedList c ts (v ∷ vs)) at x rest) (sym (append_assoc w (flat_map (λ (x : List ℕ). 44 ∷ x) (map value_text vs)) (93 ∷ [])))
+        subst (λ (x : List ℕ). Written (λ ts. ClosedList c ts (v ∷ vs)) at x rest)
+        (sym (append_assoc w (flat_map (λ (x : List ℕ). 44 ∷ x) (map value_text vs)) (93 ∷ [])))
         (both (λ ts. Means c places.List ts v) (λ ts. ClosedList c (tokens h ++ ts) (v ∷ vs)) (λ ts. ClosedList c ts (v ∷ vs)) at w more rest h t t.is)
 
-    list_tail : (us : List Placed) (done : List Value) → Elements c us done false → (vs : List Value) → KeptItems vs → (at : ℕ) (rest : List ℕ) → Written (λ ts. ClosedList c (us ++ ts) (done ++ vs)) at (tails 44 93 (map value_text vs)) rest
+    list_tail : (us : List Placed) (done : List Value) → Elements c us done false → (vs : List Value) → KeptItems vs → (at : ℕ) (rest : List ℕ)
+        → Written (λ ts. ClosedList c (us ++ ts) (done ++ vs)) at (tails 44 93 (map value_text vs)) rest
     list_tail us done i _ no_items at rest =
         let close = free_mark places.List marks.ListClose at rest (λ colon. refl) tt in
         written_as (One places.List (Mark' marks.ListClose)) (λ ts. ClosedList c (us ++ ts) (done ++ [])) at (93 ∷ []) rest close
@@ -441,27 +495,34 @@ module _ (c : List Slot) where
         let mark = mark_written places.List marks.Comma at ((w ++ more) ++ rest) tt in
         let h = value_written u k places.List refl (at + 1) (more ++ rest) (close_stops 44 93 rest (comma_stops []) (list_stops []) (map value_text vs)) in
         let us' = us ++ mark.token ∷ [] in
-        let t = list_tail (us' ++ tokens h) (done ++ u ∷ []) (element us' (tokens h) done u (comma us done mark.token i mark.is) h.is) vs ks (at + 1 + length w) rest in
+        let t = list_tail (us' ++ tokens h) (done ++ u ∷ []) (element us' (tokens h) done u (comma us done mark.token i mark.is) h.is) vs ks (at + 1 + length w)
+        rest in
         let is : ClosedList c (us ++ mark.token ∷ (tokens h ++ tokens t)) (done ++ u ∷ vs) =
         subst (λ (x : List Value). ClosedList c (us ++ mark.token ∷ (tokens h ++ tokens t)) x) (append_assoc done (u ∷ []) vs)
         (subst (λ (x : List Placed). ClosedList c x ((done ++ u ∷ []) ++ vs)) (regroup us (tokens h) (tokens t) mark.token) t.is) in
-        let inner = both (λ ts. Means c places.List ts u) (λ ts. ClosedList c ((us' ++ tokens h) ++ ts) ((done ++ u ∷ []) ++ vs)) (λ ts. ClosedList c (us ++ mark.token ∷ ts) (done ++ u ∷ vs)) (at + 1) w more rest h t is in
+        let inner = both (λ ts. Means c places.List ts u) (λ ts. ClosedList c ((us' ++ tokens h) ++ ts) ((done ++ u ∷ []) ++ vs))
+        (λ ts. ClosedList c (us ++ mark.token ∷ ts) (done ++ u ∷ vs)) (at + 1) w more rest h t is in
         subst (λ (x : List ℕ). Written (λ ts. ClosedList c (us ++ ts) (done ++ u ∷ vs)) at x rest) (sym (tails_more 44 93 w (map value_text vs)))
-        (mark_then places.List marks.Comma (λ ts. ClosedList c (us ++ mark.token ∷ ts) (done ++ u ∷ vs)) (λ ts. ClosedList c (us ++ ts) (done ++ u ∷ vs)) at (w ++ more) rest (λ colon. tt) mark inner inner.is)
+        (mark_then places.List marks.Comma (λ ts. ClosedList c (us ++ mark.token ∷ ts) (done ++ u ∷ vs))
+        (λ ts. ClosedList c (us ++ ts) (done ++ u ∷ vs)) at (w ++ more) rest (λ colon. tt) mark inner inner.is)
 
-    sexp_closed : (vs : List Value) → KeptItems vs → (at : ℕ) (rest : List ℕ) → Written (λ ts. ClosedSexp c ts vs) at (separated (codes " ") (map value_text vs) ++ 41 ∷ []) rest
+    sexp_closed : (vs : List Value) → KeptItems vs → (at : ℕ) (rest : List ℕ)
+        → Written (λ ts. ClosedSexp c ts vs) at (separated (codes " ") (map value_text vs) ++ 41 ∷ []) rest
     sexp_closed _ no_items at rest =
         let close = free_mark places.Sexp marks.SexpClose at rest (λ colon. refl) tt in
-        written_as (One places.Sexp (Mark' marks.SexpClose)) (λ ts. ClosedSexp c ts []) at (41 ∷ []) rest close (close_sexp c [] [] no_item (tokens close) close.is)
+        written_as (One places.Sexp (Mark' marks.SexpClose)) (λ ts. ClosedSexp c ts []) at (41 ∷ []) rest close
+        (close_sexp c [] [] no_item (tokens close) close.is)
     sexp_closed _ (an_item v vs k ks) at rest =
         let w = value_text v in
         let more = tails 32 41 (map value_text vs) in
         let h = value_written v k places.Sexp refl at (more ++ rest) (close_stops 32 41 rest (space_stops []) (sexp_stops []) (map value_text vs)) in
         let t = sexp_tail (tokens h) (v ∷ []) (with_item c [] (tokens h) [] v no_item h.first h.others refl h.short.0 h.is) vs ks (at + length w) rest in
-        subst (λ (x : List ℕ). Written (λ ts. ClosedSexp c ts (v ∷ vs)) at x rest) (sym (append_assoc w (flat_map (λ (x : List ℕ). 32 ∷ x) (map value_text vs)) (41 ∷ [])))
+        subst (λ (x : List ℕ). Written (λ ts. ClosedSexp c ts (v ∷ vs)) at x rest)
+        (sym (append_assoc w (flat_map (λ (x : List ℕ). 32 ∷ x) (map value_text vs)) (41 ∷ [])))
         (both (λ ts. Means c places.Sexp ts v) (λ ts. ClosedSexp c (tokens h ++ ts) (v ∷ vs)) (λ ts. ClosedSexp c ts (v ∷ vs)) at w more rest h t t.is)
 
-    sexp_tail : (us : List Placed) (done : List Value) → Row c us done → (vs : List Value) → KeptItems vs → (at : ℕ) (rest : List ℕ) → Written (λ ts. ClosedSexp c (us ++ ts) (done ++ vs)) at (tails 32 41 (map value_text vs)) rest
+    sexp_tail : (us : List Placed) (done : List Value) → Row c us done → (vs : List Value) → KeptItems vs → (at : ℕ) (rest : List ℕ)
+        → Written (λ ts. ClosedSexp c (us ++ ts) (done ++ vs)) at (tails 32 41 (map value_text vs)) rest
     sexp_tail us done i _ no_items at rest =
         let close = free_mark places.Sexp marks.SexpClose at rest (λ colon. refl) tt in
         written_as (One places.Sexp (Mark' marks.SexpClose)) (λ ts. ClosedSexp c (us ++ ts) (done ++ [])) at (41 ∷ []) rest close
@@ -470,18 +531,22 @@ module _ (c : List Slot) where
         let w = value_text u in
         let more = tails 32 41 (map value_text vs) in
         let h = value_written u k places.Sexp refl (at + 1) (more ++ rest) (close_stops 32 41 rest (space_stops []) (sexp_stops []) (map value_text vs)) in
-        let t = sexp_tail (us ++ tokens h) (done ++ u ∷ []) (with_item c us (tokens h) done u i h.first h.others refl h.short.0 h.is) vs ks (at + 1 + length w) rest in
+        let t = sexp_tail (us ++ tokens h) (done ++ u ∷ []) (with_item c us (tokens h) done u i h.first h.others refl h.short.0 h.is) vs ks (at + 1 + length w)
+        rest in
         let is : ClosedSexp c (us ++ (tokens h ++ tokens t)) (done ++ u ∷ vs) =
         subst (λ (x : List Value). ClosedSexp c (us ++ (tokens h ++ tokens t)) x) (append_assoc done (u ∷ []) vs)
         (subst (λ (x : List Placed). ClosedSexp c x ((done ++ u ∷ []) ++ vs)) (append_assoc us (tokens h) (tokens t)) t.is) in
         subst (λ (x : List ℕ). Written (λ ts. ClosedSexp c (us ++ ts) (done ++ u ∷ vs)) at x rest) (sym (tails_more 32 41 w (map value_text vs)))
         (white_written 32 refl (λ ts. ClosedSexp c (us ++ ts) (done ++ u ∷ vs)) at (w ++ more) rest
-        (both (λ ts. Means c places.Sexp ts u) (λ ts. ClosedSexp c ((us ++ tokens h) ++ ts) ((done ++ u ∷ []) ++ vs)) (λ ts. ClosedSexp c (us ++ ts) (done ++ u ∷ vs)) (at + 1) w more rest h t is))
+        (both (λ ts. Means c places.Sexp ts u) (λ ts. ClosedSexp c ((us ++ tokens h) ++ ts) ((done ++ u ∷ []) ++ vs))
+        (λ ts. ClosedSexp c (us ++ ts) (done ++ u ∷ vs)) (at + 1) w more rest h t is))
 
-    fields_closed : (ms : List Field) → KeptFields ms → (at : ℕ) (rest : List ℕ) → Written (λ ts. ClosedFields c ts ms) at (separated (codes ",") (map field_text ms) ++ 125 ∷ []) rest
+    fields_closed : (ms : List Field) → KeptFields ms → (at : ℕ) (rest : List ℕ)
+        → Written (λ ts. ClosedFields c ts ms) at (separated (codes ",") (map field_text ms) ++ 125 ∷ []) rest
     fields_closed _ no_fields at rest =
         let close = free_mark places.Name marks.FieldsClose at rest (λ colon. tt) tt in
-        written_as (One places.Name (Mark' marks.FieldsClose)) (λ ts. ClosedFields c ts []) at (125 ∷ []) rest close (close_fields c [] [] true no_field (tokens close) close.is)
+        written_as (One places.Name (Mark' marks.FieldsClose)) (λ ts. ClosedFields c ts []) at (125 ∷ []) rest close
+        (close_fields c [] [] true no_field (tokens close) close.is)
     fields_closed _ (a_field s v ms t k ks) at rest =
         let m = field_of s v in
         let w = named_text s (value_text v) in
@@ -489,10 +554,12 @@ module _ (c : List Slot) where
         let e = close_stops 44 125 rest (comma_stops []) (struct_stops []) (map field_text ms) in
         let h = field_by c s v t k at (more ++ rest) (λ here. value_written v k places.FieldValue refl here (more ++ rest) e) in
         let x = fields_tail (tokens h) (m ∷ []) (with_field c [] (tokens h) [] m no_field h.is) ms ks (at + length w) rest in
-        subst (λ (o : List ℕ). Written (λ ts. ClosedFields c ts (m ∷ ms)) at o rest) (sym (append_assoc w (flat_map (λ (x : List ℕ). 44 ∷ x) (map field_text ms)) (125 ∷ [])))
+        subst (λ (o : List ℕ). Written (λ ts. ClosedFields c ts (m ∷ ms)) at o rest)
+        (sym (append_assoc w (flat_map (λ (x : List ℕ). 44 ∷ x) (map field_text ms)) (125 ∷ [])))
         (both (λ ts. OneField c ts m) (λ ts. ClosedFields c (tokens h ++ ts) (m ∷ ms)) (λ ts. ClosedFields c ts (m ∷ ms)) at w more rest h x x.is)
 
-    fields_tail : (us : List Placed) (done : List Field) → Members c us done false → (ms : List Field) → KeptFields ms → (at : ℕ) (rest : List ℕ) → Written (λ ts. ClosedFields c (us ++ ts) (done ++ ms)) at (tails 44 125 (map field_text ms)) rest
+    fields_tail : (us : List Placed) (done : List Field) → Members c us done false → (ms : List Field) → KeptFields ms → (at : ℕ) (rest : List ℕ)
+        → Written (λ ts. ClosedFields c (us ++ ts) (done ++ ms)) at (tails 44 125 (map field_text ms)) rest
     fields_tail us done i _ no_fields at rest =
         let close = free_mark places.FieldValue marks.FieldsClose at rest (λ colon. tt) tt in
         written_as (One places.FieldValue (Mark' marks.FieldsClose)) (λ ts. ClosedFields c (us ++ ts) (done ++ [])) at (125 ∷ []) rest close
@@ -505,10 +572,13 @@ module _ (c : List Slot) where
         let e = close_stops 44 125 rest (comma_stops []) (struct_stops []) (map field_text ms) in
         let h = field_by c s v t k (at + 1) (more ++ rest) (λ here. value_written v k places.FieldValue refl here (more ++ rest) e) in
         let us' = us ++ mark.token ∷ [] in
-        let x = fields_tail (us' ++ tokens h) (done ++ m ∷ []) (with_field c us' (tokens h) done m (field_comma us done mark.token i mark.is) h.is) ms ks (at + 1 + length w) rest in
+        let x = fields_tail (us' ++ tokens h) (done ++ m ∷ []) (with_field c us' (tokens h) done m (field_comma us done mark.token i mark.is) h.is) ms ks
+        (at + 1 + length w) rest in
         let is : ClosedFields c (us ++ mark.token ∷ (tokens h ++ tokens x)) (done ++ m ∷ ms) =
         subst (λ (o : List Field). ClosedFields c (us ++ mark.token ∷ (tokens h ++ tokens x)) o) (append_assoc done (m ∷ []) ms)
         (subst (λ (o : List Placed). ClosedFields c o ((done ++ m ∷ []) ++ ms)) (regroup us (tokens h) (tokens x) mark.token) x.is) in
-        let inner = both (λ ts. OneField c ts m) (λ ts. ClosedFields c ((us' ++ tokens h) ++ ts) ((done ++ m ∷ []) ++ ms)) (λ ts. ClosedFields c (us ++ mark.token ∷ ts) (done ++ m ∷ ms)) (at + 1) w more rest h x is in
+        let inner = both (λ ts. OneField c ts m) (λ ts. ClosedFields c ((us' ++ tokens h) ++ ts) ((done ++ m ∷ []) ++ ms))
+        (λ ts. ClosedFields c (us ++ mark.token ∷ ts) (done ++ m ∷ ms)) (at + 1) w more rest h x is in
         subst (λ (o : List ℕ). Written (λ ts. ClosedFields c (us ++ ts) (done ++ m ∷ ms)) at o rest) (sym (tails_more 44 125 w (map field_text ms)))
-        (mark_then places.FieldValue marks.Comma (λ ts. ClosedFields c (us ++ mark.token ∷ ts) (done ++ m ∷ ms)) (λ ts. ClosedFields c (us ++ ts) (done ++ m ∷ ms)) at (w ++ more) rest (λ colon. tt) mark inner inner.is)
+        (mark_then places.FieldValue marks.Comma (λ ts. ClosedFields c (us ++ mark.token ∷ ts) (done ++ m ∷ ms))
+        (λ ts. ClosedFields c (us ++ ts) (done ++ m ∷ ms)) at (w ++ more) rest (λ colon. tt) mark inner inner.is)

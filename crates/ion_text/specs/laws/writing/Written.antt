@@ -31,21 +31,28 @@ token_lexes p colon before w rest kind kept h =
 pub lexes_then : (colon : Bool) (before : ℕ) (octets : List ℕ) (ts us : List Placed) (c : Bool) (e : ℕ) (mid : List ℕ) (after : Bool) (end : ℕ) (rest : List ℕ)
     → LexesTo colon before octets ts c e mid → LexesTo c e mid us after end rest → LexesTo colon before octets (ts ++ us) after end rest
 lexes_then colon before octets [] us c e mid after end rest h k =
-    subst (λ (x : Bool). LexesTo x before octets us after end rest) (sym h.0) (subst (λ (x : ℕ). LexesTo c x octets us after end rest) (sym h.1) (subst (λ (x : List ℕ). LexesTo c e x us after end rest) (sym h.2) k))
-lexes_then colon before octets (t ∷ ts) us c e mid after end rest (others, b, h) k = (others, b, lexes_then (takes_colon t.place t.lexeme.kind) t.lexeme.end others ts us c e mid after end rest h k)
+    subst (λ (x : Bool). LexesTo x before octets us after end rest) (sym h.0)
+    (subst (λ (x : ℕ). LexesTo c x octets us after end rest) (sym h.1) (subst (λ (x : List ℕ). LexesTo c e x us after end rest) (sym h.2) k))
+lexes_then colon before octets (t ∷ ts) us c e mid after end rest (others, b, h) k =
+    (others, b, lexes_then (takes_colon t.place t.lexeme.kind) t.lexeme.end others ts us c e mid after end rest h k)
 
 -- tokens, and what goes on behind them
-pub lexes_end : (R : Bool → ℕ → List ℕ → Type 0) (colon : Bool) (before : ℕ) (octets : List ℕ) (ts us : List Placed) (c : Bool) (e : ℕ) (mid : List ℕ) → LexesTo colon before octets ts c e mid → LexesBefore R c e mid us → LexesBefore R colon before octets (ts ++ us)
+pub lexes_end : (R : Bool → ℕ → List ℕ → Type 0) (colon : Bool) (before : ℕ) (octets : List ℕ) (ts us : List Placed) (c : Bool) (e : ℕ) (mid : List ℕ)
+    → LexesTo colon before octets ts c e mid → LexesBefore R c e mid us → LexesBefore R colon before octets (ts ++ us)
 lexes_end R colon before octets [] us c e mid h k =
-    subst (λ (x : Bool). LexesBefore R x before octets us) (sym h.0) (subst (λ (x : ℕ). LexesBefore R c x octets us) (sym h.1) (subst (λ (x : List ℕ). LexesBefore R c e x us) (sym h.2) k))
-lexes_end R colon before octets (t ∷ ts) us c e mid (others, b, h) k = (others, b, lexes_end R (takes_colon t.place t.lexeme.kind) t.lexeme.end others ts us c e mid h k)
+    subst (λ (x : Bool). LexesBefore R x before octets us) (sym h.0)
+    (subst (λ (x : ℕ). LexesBefore R c x octets us) (sym h.1) (subst (λ (x : List ℕ). LexesBefore R c e x us) (sym h.2) k))
+lexes_end R colon before octets (t ∷ ts) us c e mid (others, b, h) k =
+    (others, b, lexes_end R (takes_colon t.place t.lexeme.kind) t.lexeme.end others ts us c e mid h k)
 
 -- the last token ends where the rest begins
-end_is : (from : ℕ) (ts : List Placed) (colon : Bool) (octets : List ℕ) (after : Bool) (end : ℕ) (rest : List ℕ) → LexesTo colon from octets ts after end rest → end_of from ts ≡ end
+end_is : (from : ℕ) (ts : List Placed) (colon : Bool) (octets : List ℕ) (after : Bool) (end : ℕ) (rest : List ℕ) → LexesTo colon from octets ts after end rest
+    → end_of from ts ≡ end
 end_is from [] colon octets after end rest h = h.1
 end_is from (t ∷ ts) colon octets after end rest (others, b, h) = end_is t.lexeme.end ts _ others after end rest h
 
-pub span_within : (colon : Bool) (before : ℕ) (octets : List ℕ) (ts : List Placed) (after : Bool) (end : ℕ) (rest : List ℕ) → LexesTo colon before octets ts after end rest → span ts ≤ end - before
+pub span_within : (colon : Bool) (before : ℕ) (octets : List ℕ) (ts : List Placed) (after : Bool) (end : ℕ) (rest : List ℕ)
+    → LexesTo colon before octets ts after end rest → span ts ≤ end - before
 span_within colon before octets [] after end rest h = omega arith
 span_within colon before octets (t ∷ ts) after end rest (others, b, h) =
     let e = end_is t.lexeme.end ts _ others after end rest h in
@@ -76,7 +83,9 @@ abbrev pub tokens : {Is : List Placed → Type 0} {before : ℕ} {w rest : List 
 tokens h = h.first ∷ h.others
 
 -- octets behind octets
-pub both_lex : (colon : Bool) (before : ℕ) (x y rest : List ℕ) (ts us : List Placed) (c after : Bool) → LexesTo colon before (x ++ (y ++ rest)) ts c (before + length x) (y ++ rest) → LexesTo c (before + length x) (y ++ rest) us after ((before + length x) + length y) rest
+pub both_lex : (colon : Bool) (before : ℕ) (x y rest : List ℕ) (ts us : List Placed) (c after : Bool)
+    → LexesTo colon before (x ++ (y ++ rest)) ts c (before + length x) (y ++ rest)
+    → LexesTo c (before + length x) (y ++ rest) us after ((before + length x) + length y) rest
     → LexesTo colon before ((x ++ y) ++ rest) (ts ++ us) after (before + length (x ++ y)) rest
 both_lex colon before x y rest ts us c after h k =
     let longer : (before + length x) + length y ≡ before + length (x ++ y) = omega (arith, length-append x y) in
@@ -84,7 +93,8 @@ both_lex colon before x y rest ts us c after h k =
     (subst (λ (o : List ℕ). LexesTo colon before o (ts ++ us) after ((before + length x) + length y) rest) (sym (append_assoc x y rest))
     (lexes_then colon before (x ++ (y ++ rest)) ts us c (before + length x) (y ++ rest) after ((before + length x) + length y) rest h k))
 
-pub both : (Is Js Ks : List Placed → Type 0) (before : ℕ) (x y rest : List ℕ) (h : Written Is before x (y ++ rest)) (k : Written Js (before + length x) y rest) → Ks (tokens h ++ tokens k) → Written Ks before (x ++ y) rest
+pub both : (Is Js Ks : List Placed → Type 0) (before : ℕ) (x y rest : List ℕ) (h : Written Is before x (y ++ rest)) (k : Written Js (before + length x) y rest)
+    → Ks (tokens h ++ tokens k) → Written Ks before (x ++ y) rest
 both Is Js Ks before x y rest h k is = record {
   first = h.first;
   others = h.others ++ tokens k;
@@ -101,17 +111,32 @@ written_as Is Js before w rest h is = record { first = h.first; others = h.other
 white_blank : (o : ℕ) (b : List ℕ) → is_white o ≡ true → IsBlank b → IsBlank (o ∷ b)
 white_blank o b h k = record { pieces = White o ∷ k.pieces; each = (h, k.each); spelled = ap (λ (x : List ℕ). o ∷ x) k.spelled }
 
-pub white_before : (o : ℕ) → is_white o ≡ true → (R : Bool → ℕ → List ℕ → Type 0) (colon : Bool) (before : ℕ) (octets : List ℕ) (t : Placed) (ts : List Placed) → LexesBefore R colon (before + 1) octets (t ∷ ts) → LexesBefore R colon before (o ∷ octets) (t ∷ ts)
-white_before o white R colon before octets t ts (others, b, h) =
-    (others, record { blank = o ∷ b.blank; token = b.token; is_blank = white_blank o b.blank white b.is_blank; cut = ap (λ (x : List ℕ). o ∷ x) b.cut; start = omega (arith, b.start); end = omega (arith, b.end); is = b.is }, h)
+pub white_before : (o : ℕ) → is_white o ≡ true → (R : Bool → ℕ → List ℕ → Type 0) (colon : Bool) (before : ℕ) (octets : List ℕ) (t : Placed) (ts : List Placed)
+    → LexesBefore R colon (before + 1) octets (t ∷ ts) → LexesBefore R colon before (o ∷ octets) (t ∷ ts)
+white_before o white R colon before octets t ts (others, b, h) = (
+  others,
+  record {
+    blank = o ∷ b.blank;
+    token = b.token;
+    is_blank = white_blank o b.blank white b.is_blank;
+    cut = ap (λ (x : List ℕ). o ∷ x) b.cut;
+    start =
+        omega (arith, b.start);
+    end = omega (arith, b.end);
+    is = b.is;
+  },
+  h,
+)
 
 -- the same of what is written
-pub white_written : (o : ℕ) → is_white o ≡ true → (Is : List Placed → Type 0) (before : ℕ) (w rest : List ℕ) → Written Is (before + 1) w rest → Written Is before (o ∷ w) rest
+pub white_written : (o : ℕ) → is_white o ≡ true → (Is : List Placed → Type 0) (before : ℕ) (w rest : List ℕ) → Written Is (before + 1) w rest
+    → Written Is before (o ∷ w) rest
 white_written o white Is before w rest h = record {
   first = h.first;
   others = h.others;
   after = h.after;
-  lexes = λ colon. subst (λ (n : ℕ). LexesTo colon before (o ∷ (w ++ rest)) (tokens h) h.after n rest) (omega arith) (white_before o white _ colon before (w ++ rest) h.first h.others (h.lexes colon));
+  lexes = λ colon. subst (λ (n : ℕ). LexesTo colon before (o ∷ (w ++ rest)) (tokens h) h.after n rest) (omega arith)
+      (white_before o white _ colon before (w ++ rest) h.first h.others (h.lexes colon));
   short = h.short;
   is = h.is;
 }
@@ -133,9 +158,17 @@ one_written p before w rest said h = record {
 }
 
 -- a mark that stands wherever a colon may or may not
-pub free_mark : (p : Place) (m : Mark) (before : ℕ) (rest : List ℕ) → ((colon : Bool) → MarkStands p colon m) → MarkEnds m rest → Written (One p (Mark' m)) before (mark_spelling m) rest
+pub free_mark : (p : Place) (m : Mark) (before : ℕ) (rest : List ℕ) → ((colon : Bool) → MarkStands p colon m) → MarkEnds m rest
+    → Written (One p (Mark' m)) before (mark_spelling m) rest
 free_mark p m before rest stands ends =
-    one_written p before (mark_spelling m) rest (Mark' m) (record { kind = kinds.Mark m; octets = []; lexeme = λ colon. (refl, refl, stands colon, ends); body = refl; short = refl })
+    one_written p before (mark_spelling m) rest (Mark' m) (record {
+      kind = kinds.Mark m;
+      octets = [];
+      lexeme =
+          λ colon. (refl, refl, stands colon, ends);
+      body = refl;
+      short = refl;
+    })
 
 -- a mark, wherever it stands
 pub record MarkWritten (p : Place) (m : Mark) (before : ℕ) (rest : List ℕ) : Type 0 where
@@ -153,7 +186,8 @@ mark_written p m before rest ends = record {
 }
 
 -- a mark, and what is written behind it
-pub mark_then : (p : Place) (m : Mark) (Js Ks : List Placed → Type 0) (before : ℕ) (y rest : List ℕ) → ((colon : Bool) → MarkStands p colon m) → (k : MarkWritten p m before (y ++ rest)) (h : Written Js (before + length (mark_spelling m)) y rest) → Ks (k.token ∷ tokens h)
+pub mark_then : (p : Place) (m : Mark) (Js Ks : List Placed → Type 0) (before : ℕ) (y rest : List ℕ) → ((colon : Bool) → MarkStands p colon m)
+    → (k : MarkWritten p m before (y ++ rest)) (h : Written Js (before + length (mark_spelling m)) y rest) → Ks (k.token ∷ tokens h)
     → Written Ks before (mark_spelling m ++ y) rest
 mark_then p m Js Ks before y rest stands k h is = record {
   first = k.token;

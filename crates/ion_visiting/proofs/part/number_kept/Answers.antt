@@ -12,4 +12,5 @@ pub returns-in-Decimal : goal.returns-in-Decimal
 returns-in-Decimal c = subst (λ n. KeptPayload (number_payload n)) (sym c.in-Decimal.is) (kept_decimal c.in-Decimal.decimal c.magnitude-magnitude.ensures.kept)
 
 pub returns-in-Timestamp : goal.returns-in-Timestamp
-returns-in-Timestamp c = subst (λ n. KeptPayload (number_payload n)) (sym c.in-Timestamp.is) (kept_timestamp c.in-Timestamp.timestamp c.local-local.ensures.kept)
+returns-in-Timestamp c = subst (λ n. KeptPayload (number_payload n)) (sym c.in-Timestamp.is)
+    (kept_timestamp c.in-Timestamp.timestamp c.local-local.ensures.kept)

@@ -17,5 +17,6 @@ returns c =
       moves = record { context = refl; octets = refl; ahead = omega arith; within = omega (arith, within) };
       order = omega arith;
       fits = within;
-      header = header_there w (take (length w - (a.at + 1)) (drop (a.at + 1) w)) a.at used n c.args.size c.args.form (Sized c.args.form c.args.size) some (sym c.requires.opens) refl (whole_rest w (a.at + 1)) c.in_ok-used.ensures.header;
+      header = header_there w (take (length w - (a.at + 1)) (drop (a.at + 1) w)) a.at used n c.args.size c.args.form (Sized c.args.form c.args.size) some
+          (sym c.requires.opens) refl (whole_rest w (a.at + 1)) c.in_ok-used.ensures.header;
     }

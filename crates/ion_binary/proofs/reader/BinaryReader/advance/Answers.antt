@@ -36,12 +36,19 @@ returns-in-Ok-default-Gives-clause-does c =
     let k = c.in-Ok-default-Gives.count in
     let took = c.in-Ok-default-Gives.ensures.does in
     let ran = run m.catalog.now m.limits m.used (machine_of m) (take k (take (length piece - i) (drop i piece))) in
-    subst (λ (o : Option Value). Advances first.used (run first.catalog.now first.limits first.used (machine_of first)) piece (Ok (record { used = i + k; value = o })) (machine_of n)) (sym c.take.ensures.value)
+    subst (λ (o : Option Value). Advances first.used (run first.catalog.now first.limits first.used (machine_of first)) piece
+    (Ok (record { used = i + k; value = o })) (machine_of n)) (sym c.take.ensures.value)
     (leads_to_given first.catalog.now first.limits first.used (machine_of first) (machine_of m) (machine_of n) piece i k
     m.used m.catalog.now m.limits n.given (ap (λ (b : _). b.now) c.loop-i.invariant.setting.catalog) c.loop-i.invariant.setting.limits c.loop-i.invariant.used
     took.0 took.1 (subst (λ (e : Effect). Reached ran (m.used + k) e n) c.in-Ok-default-Gives.field-0-1-is took.2) c.loop-i.invariant.ran)
 
 pub returns-clause-does : goal.returns-clause-does
 returns-clause-does c =
-    let first = c.args.self.now in
-    (omega arith, (refl, leads_to_end first.catalog.now first.limits first.used (machine_of first) (machine_of c.loop-i.self) c.args.piece.now c.loop-i.i (omega arith) c.loop-i.invariant.ran))
+    let first = c.args.self.now in (
+      omega arith,
+      (
+        refl,
+        leads_to_end first.catalog.now first.limits first.used (machine_of first) (machine_of c.loop-i.self) c.args.piece.now c.loop-i.i
+            (omega arith) c.loop-i.invariant.ran,
+      ),
+    )

@@ -15,7 +15,8 @@ returns-clause-carries g c =
     let admitted = found.1 in
     let ready = c.may_walk.ensures c.if-not-may_walk.false in
     let fits : unfit r.limits.item r.start (open_frames r) forms.Wrapper (r.used + n) ≡ None = rw ready.1 (c.admits.ensures c.if-not-admits.false) in
-    let gives = walk_gives r.catalog.now r.limits (spot_of r) (open_frames r) r.body.items r.phase c.args.piece.now n ready.0 ready.1 c.extent-count.ensures v admitted.is admitted.deep admitted.given fits in
+    let gives = walk_gives r.catalog.now r.limits (spot_of r) (open_frames r) r.body.items r.phase c.args.piece.now n ready.0 ready.1 c.extent-count.ensures v
+    admitted.is admitted.deep admitted.given fits in
     let setting : SameSetting r (record r { used = r.used + n; start = r.used + n }) = record { catalog = refl; limits = refl; failed = refl } in (
       v,
       admitted.kept,
@@ -28,7 +29,8 @@ returns-clause-carries g c =
         counts = refl;
         progress = omega (arith, c.if-count-eq0.false);
         awaited = refl;
-        stands = step_stands r (record r { used = r.used + n; start = r.used + n }) c.args.piece.now (Ok (record { used = n; value = Some v })) gives refl setting;
+        stands = step_stands r (record r { used = r.used + n; start = r.used + n }) c.args.piece.now (Ok (record { used = n; value = Some v })) gives refl
+            setting;
       },
       found.2,
     )

@@ -8,7 +8,8 @@ returns-clause-alike c =
     let r = c.args.self.now in
     let q = c.args.other.now in
     let found = c.walk_alike in
-    let both = both_passed r found.new.self q found.new.other c.args.piece.now c.args.beside.now found.result found.ensures.gives found.ensures.used found.ensures.other_used found.ensures.setting found.ensures.other_setting in
+    let both = both_passed r found.new.self q found.new.other c.args.piece.now c.args.beside.now found.result found.ensures.gives found.ensures.used
+    found.ensures.other_used found.ensures.setting found.ensures.other_setting in
     IfSome_then found.result both (λ used both.
     let up = both.1 in
     let other_up = both.2 in

@@ -9,5 +9,7 @@ pub returns-clause-led : goal.returns-clause-led
 returns-clause-led c =
     let r = c.args.self.now in
     let k = c.min-count.result in
-    body_led r.catalog.now r.limits (spot_of r) (open_frames r) r.body.items c.args.scalar c.args.missing k r.phase c.args.piece.now c.requires.phase (omega (arith, c.min-count.ensures)) (omega (arith, c.min-count.ensures))
-    ∙ ap (λ b. led (in_body (moved (spot_of r) (r.used + k)) (open_frames r) c.args.scalar (c.args.missing - k) b)) (sym c.in_ok-extend_from_slice.ensures.items)
+    body_led r.catalog.now r.limits (spot_of r) (open_frames r) r.body.items c.args.scalar c.args.missing k r.phase c.args.piece.now c.requires.phase
+    (omega (arith, c.min-count.ensures)) (omega (arith, c.min-count.ensures))
+    ∙ ap (λ b. led (in_body (moved (spot_of r) (r.used + k)) (open_frames r) c.args.scalar (c.args.missing - k) b))
+    (sym c.in_ok-extend_from_slice.ensures.items)

@@ -19,12 +19,14 @@ returns-in_err-effect-clause-does c =
     let reason = c.in_err-effect.field-0.0 in
     rw (p.1, p.2)
     (λ other.
-    let ends = body_ends r.catalog.now r.limits (spot_of r) (open_frames r) r.body.items c.in-Some.scalar k r.phase piece c.in-Some.ensures.phase c.in-Some.ensures.some c.in-Some.ensures.within in
+    let ends = body_ends r.catalog.now r.limits (spot_of r) (open_frames r) r.body.items c.in-Some.scalar k r.phase piece c.in-Some.ensures.phase
+    c.in-Some.ensures.some c.in-Some.ensures.within in
     let did = c.in_err-effect.ensures.does other in
     let place : r.used + k ≡ c.take_end.new.self.used = omega (arith, c.take_end.ensures.used) in
     refused_whole r.catalog.now r.limits r.used (machine_of r) piece k reason c.in-Some.ensures.within
     (ends
-    ∙ ap (λ j. run_after (r.used + k) (judged (setting_of r) (moved (spot_of r) (r.used + j)) (open_frames r) (judge r.context c.in-Some.scalar (r.body.items ++ take k piece)))) (sym size)
+    ∙ ap (λ j. run_after (r.used + k) (judged (setting_of r) (moved (spot_of r) (r.used + j)) (open_frames r)
+    (judge r.context c.in-Some.scalar (r.body.items ++ take k piece)))) (sym size)
     ∙ ap (run_after (r.used + k)) did)
     ∙ ap (λ j. record { given = []; now = Err (record { offset = j; reason = reason }) }) place)
 
@@ -34,11 +36,13 @@ returns-in-Some-clause-does c =
     let k = c.in-Some.size in
     let piece = c.args.piece.now in
     let size : length (take k piece) ≡ k = length-take-le k piece c.in-Some.ensures.within in
-    let outcome = λ (j : ℕ). judged (setting_of r) (moved (spot_of r) (r.used + j)) (open_frames r) (judge r.context c.in-Some.scalar (r.body.items ++ take k piece)) in (
+    let outcome = λ (j : ℕ). judged (setting_of r) (moved (spot_of r) (r.used + j)) (open_frames r)
+    (judge r.context c.in-Some.scalar (r.body.items ++ take k piece)) in (
       c.in-Some.ensures.some,
       c.in-Some.ensures.within,
       reached (outcome k) c.in_ok-effect.effect c.take_end.new.self (run r.catalog.now r.limits r.used (machine_of r) (take k piece)) (r.used + k)
-          (body_ends r.catalog.now r.limits (spot_of r) (open_frames r) r.body.items c.in-Some.scalar k r.phase piece c.in-Some.ensures.phase c.in-Some.ensures.some c.in-Some.ensures.within)
+          (body_ends r.catalog.now r.limits (spot_of r) (open_frames r) r.body.items c.in-Some.scalar k r.phase piece c.in-Some.ensures.phase
+          c.in-Some.ensures.some c.in-Some.ensures.within)
           (subst (λ (j : ℕ). Does (outcome j) (Ok c.in_ok-effect.effect) c.take_end.new.self) size c.in_ok-effect.ensures.does),
     )
 

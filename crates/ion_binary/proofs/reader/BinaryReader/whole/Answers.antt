@@ -15,9 +15,11 @@ returns c =
     let v = c.whole_value.new.slot in
     let found = c.in_ok-count.ensures in
     let fits : unfit r.limits.item r.start (open_frames r) forms.Wrapper (r.used + n) ≡ None = search rules in
-    let deep : depth v + levels (open_frames r) ≤ r.limits.depth = omega (arith, found.depth, levels_few (open_frames r), length-reverse r.frames.items, c.if-open-depth.false) in
+    let deep : depth v + levels (open_frames r) ≤ r.limits.depth =
+    omega (arith, found.depth, levels_few (open_frames r), length-reverse r.frames.items, c.if-open-depth.false) in
     record {
       within = found.within;
       some = whole_some r.context c.args.piece.now n v found.value;
-      runs = whole_runs r.catalog.now r.limits (spot_of r) (open_frames r) r.body.items r.phase c.args.piece.now n v c.requires.ready found.within found.value fits deep;
+      runs = whole_runs r.catalog.now r.limits (spot_of r) (open_frames r) r.body.items r.phase c.args.piece.now n v c.requires.ready found.within found.value
+          fits deep;
     }

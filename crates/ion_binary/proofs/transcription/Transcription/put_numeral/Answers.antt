@@ -15,9 +15,11 @@ returns-in-Int g c = λ e.
 pub returns-in-Decimal : goal.returns-in-Decimal
 returns-in-Decimal g c = λ e.
     let put : c.put_decimal_value.new.out.items ≡ c.args.self.now.out.items ++ framed 5 (decimal_octets c.in-Decimal.decimal) = search rules in
-    none_added _ _ _ _ (ap (λ n. views.out-Payload (number_payload n)) c.in-Decimal.is ∙ views.outs-Decimal c.in-Decimal.decimal) refl c.number_kept.ensures refl put
+    none_added _ _ _ _ (ap (λ n. views.out-Payload (number_payload n)) c.in-Decimal.is ∙ views.outs-Decimal c.in-Decimal.decimal) refl c.number_kept.ensures
+    refl put
 
 pub returns-in-Timestamp : goal.returns-in-Timestamp
 returns-in-Timestamp g c = λ e.
     let put : c.put_timestamp_value.new.out.items ≡ c.args.self.now.out.items ++ framed 6 (timestamp_octets c.in-Timestamp.stamp) = search rules in
-    none_added _ _ _ _ (ap (λ n. views.out-Payload (number_payload n)) c.in-Timestamp.is ∙ views.outs-Timestamp c.in-Timestamp.stamp) refl c.number_kept.ensures refl put
+    none_added _ _ _ _ (ap (λ n. views.out-Payload (number_payload n)) c.in-Timestamp.is ∙ views.outs-Timestamp c.in-Timestamp.stamp) refl c.number_kept.ensures
+    refl put

@@ -5,4 +5,5 @@ use Rattle.ion_binary.proofs.transcription.texts.transcribe_visited.Goals as goa
 pub returns-clause-value : goal.returns-clause-value
 returns-clause-value g c =
     let same : c.replace-2.result.items ≡ c.args.out.now.items = search rules in
-    visited (λ used v. g.V.Visitable.took_up c.args.items.now c.visit-used.new.self c.args.piece.now used v) c.args.names.now c.args.out.now.items _ _ c.visit-used.result refl same c.visit-used.ensures.value
+    visited (λ used v. g.V.Visitable.took_up c.args.items.now c.visit-used.new.self c.args.piece.now used v) c.args.names.now c.args.out.now.items _ _
+    c.visit-used.result refl same c.visit-used.ensures.value

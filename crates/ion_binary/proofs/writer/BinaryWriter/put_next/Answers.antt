@@ -14,7 +14,8 @@ returns-in_err-write_whole-clause-front g c =
     let names = names_after p.names c.args.value.now in
     let is : c.deref.result.now ≡ opening p.begun ++ table_octets p.names names = search rules in
     on_err c.from_residual-in_err-write_whole.result
-    (front_first g.W.Outlet.took g.W.Outlet.written (opening p.begun) (table_octets p.names names) (value_octets names c.args.value.now) c.deref.result.now is c.args.out.now c.write_whole.new.writer c.in_err-write_whole.ensures.front)
+    (front_first g.W.Outlet.took g.W.Outlet.written (opening p.begun) (table_octets p.names names) (value_octets names c.args.value.now) c.deref.result.now is
+    c.args.out.now c.write_whole.new.writer c.in_err-write_whole.ensures.front)
 
 pub returns-clause-front : goal.returns-clause-front
 returns-clause-front g c =
@@ -22,5 +23,6 @@ returns-clause-front g c =
     let names = names_after p.names c.args.value.now in
     let is : c.deref.result.now ≡ opening p.begun ++ table_octets p.names names = search rules in
     let body : c.deref-2.result.now ≡ value_octets names c.args.value.now = search rules in
-    front_later g.W.Outlet.took g.W.Outlet.written (opening p.begun) (table_octets p.names names) (value_octets names c.args.value.now) c.deref.result.now is c.write_whole-2.result
+    front_later g.W.Outlet.took g.W.Outlet.written (opening p.begun) (table_octets p.names names) (value_octets names c.args.value.now) c.deref.result.now is
+    c.write_whole-2.result
     c.args.out.now c.write_whole.new.writer c.write_whole-2.new.writer c.deref-2.result.now body c.in_ok-write_whole.ensures.whole c.write_whole-2.ensures.front

@@ -21,12 +21,23 @@ returns-clause-writes g c =
     let is : c.note_fault.result ≡ c.put_opened-answer.result = search rules in
     let old = ap (λ f. record { progress = record { names = names; begun = begun }; failed = f }) (sym none) ∙ c.self.view_is in (
       found.value,
-      record { is = subst (λ w. Binary c.args.context.now w found.value) (take_whole c.args.octets.now c.in_ok-count.count all) found.is; deep = found.deep; given = found.given; kept = found.kept },
+      record {
+        is = subst (λ w. Binary c.args.context.now w found.value) (take_whole c.args.octets.now c.in_ok-count.count all) found.is;
+        deep =
+            found.deep;
+        given = found.given;
+        kept = found.kept;
+      },
       subst (λ w. WritesValue g.W.Outlet w c.note_fault.new.self c.args.out.now c.put_opened-answer.new.out found.value c.note_fault.result) old
-          (wrote_known g.W.Outlet names begun c.note_fault.new.self c.args.out.now c.put_opened-answer.new.out found.value c.deref.result.now found.named octets c.note_fault.result
-          (subst (λ r. OnOk r (Took g.W.Outlet.took g.W.Outlet.written c.args.out.now c.put_opened-answer.new.out (opening begun ++ c.deref.result.now))) (sym is) c.put_opened-answer.ensures.ok)
-          (subst (λ r. OnErr r (TookFront g.W.Outlet.took g.W.Outlet.written c.args.out.now c.put_opened-answer.new.out (opening begun ++ c.deref.result.now))) (sym is) c.put_opened-answer.ensures.front)
-          (subst (λ r. IfErr r (λ fault. (fault ≡ Write) × (g.W.Outlet.has_failed c.put_opened-answer.new.out ≡ true))) (sym is) c.put_opened-answer.ensures.cause)
-          (subst (λ f. OnOk c.note_fault.result (c.note_fault.new.self ≡ record { progress = record { names = names; begun = true }; failed = f })) none c.note_fault.ensures.kept)
+          (wrote_known g.W.Outlet names begun c.note_fault.new.self c.args.out.now c.put_opened-answer.new.out found.value c.deref.result.now found.named octets
+          c.note_fault.result
+          (subst (λ r. OnOk r (Took g.W.Outlet.took g.W.Outlet.written c.args.out.now c.put_opened-answer.new.out (opening begun ++ c.deref.result.now)))
+          (sym is) c.put_opened-answer.ensures.ok)
+          (subst (λ r. OnErr r (TookFront g.W.Outlet.took g.W.Outlet.written c.args.out.now c.put_opened-answer.new.out (opening begun ++ c.deref.result.now)))
+          (sym is) c.put_opened-answer.ensures.front)
+          (subst (λ r. IfErr r (λ fault. (fault ≡ Write) × (g.W.Outlet.has_failed c.put_opened-answer.new.out ≡ true))) (sym is)
+          c.put_opened-answer.ensures.cause)
+          (subst (λ f. OnOk c.note_fault.result (c.note_fault.new.self ≡ record { progress = record { names = names; begun = true }; failed = f })) none
+          c.note_fault.ensures.kept)
           c.note_fault.ensures.failed),
     )

@@ -23,10 +23,18 @@ returns-clause-writes g c =
       written.kept,
       found.1,
       subst (λ w. WritesValue g.W.Outlet w c.note_fault-written.new.self c.args.out.now c.put_opened-answer.new.out v c.note_fault-written.result) old
-          (wrote_known g.W.Outlet names begun c.note_fault-written.new.self c.args.out.now c.put_opened-answer.new.out v c.deref.result.now written.named octets c.note_fault-written.result
-          (subst (λ r. OnOk r (Took g.W.Outlet.took g.W.Outlet.written c.args.out.now c.put_opened-answer.new.out (opening begun ++ c.deref.result.now))) (sym is) c.put_opened-answer.ensures.ok)
-          (subst (λ r. OnErr r (TookFront g.W.Outlet.took g.W.Outlet.written c.args.out.now c.put_opened-answer.new.out (opening begun ++ c.deref.result.now))) (sym is) c.put_opened-answer.ensures.front)
-          (subst (λ r. IfErr r (λ fault. (fault ≡ Write) × (g.W.Outlet.has_failed c.put_opened-answer.new.out ≡ true))) (sym is) c.put_opened-answer.ensures.cause)
-          (subst (λ f. OnOk c.note_fault-written.result (c.note_fault-written.new.self ≡ record { progress = record { names = names; begun = true }; failed = f })) none c.note_fault-written.ensures.kept)
+          (wrote_known g.W.Outlet names begun c.note_fault-written.new.self c.args.out.now c.put_opened-answer.new.out v c.deref.result.now written.named octets
+          c.note_fault-written.result
+          (subst (λ r. OnOk r (Took g.W.Outlet.took g.W.Outlet.written c.args.out.now c.put_opened-answer.new.out (opening begun ++ c.deref.result.now)))
+          (sym is) c.put_opened-answer.ensures.ok)
+          (subst (λ r. OnErr r (TookFront g.W.Outlet.took g.W.Outlet.written c.args.out.now c.put_opened-answer.new.out (opening begun ++ c.deref.result.now)))
+          (sym is) c.put_opened-answer.ensures.front)
+          (subst (λ r. IfErr r (λ fault. (fault ≡ Write) × (g.W.Outlet.has_failed c.put_opened-answer.new.out ≡ true))) (sym is)
+          c.put_opened-answer.ensures.cause)
+          (subst (λ f. OnOk c.note_fault-written.result (c.note_fault-written.new.self ≡ record {
+            progress = record { names = names; begun = true };
+            failed =
+                f;
+          })) none c.note_fault-written.ensures.kept)
           c.note_fault-written.ensures.failed),
     )

@@ -19,16 +19,19 @@ put_items-loop-item-preserved g t c =
     let names = c.put_value.new.names in
     record {
       octets = λ later h.
-          octets_at (value_octets later) c.loop-item.out.items c.put_value.new.out.items _ c.args.items.now c.loop-item.item-index v c.loop-item-test.true c.item-item.is (on.ok later h)
+          octets_at (value_octets later) c.loop-item.out.items c.put_value.new.out.items _ c.args.items.now c.loop-item.item-index v c.loop-item-test.true
+          c.item-item.is (on.ok later h)
           (i.octets later (later_by c.loop-item.names (symbols_of v) names later on.after h));
-      names = rw on.after (left symbols_of c.loop-item.names c.args.names.now c.args.items.now c.loop-item.item-index v c.loop-item-test.true c.item-item.is i.names);
+      names = rw on.after (left symbols_of c.loop-item.names c.args.names.now c.args.items.now c.loop-item.item-index v c.loop-item-test.true c.item-item.is
+          i.names);
       kept = items_at c.args.items.now c.loop-item.item-index v c.loop-item-test.true c.item-item.is on.kept i.kept;
       grown = longer_by _ c.loop-item.out.items c.put_value.new.out.items _ (on.ok names (later_self names)) i.grown;
     }
 
 pub put_items-returns-in_err-put_value-clause-cause : goal.put_items-returns-in_err-put_value-clause-cause
 put_items-returns-in_err-put_value-clause-cause g t c =
-    let whole = fault_at symbols_of c.loop-item.names c.args.names.now c.args.items.now c.loop-item.item-index c.item-item.result c.in_err-put_value.field-0.0 c.loop-item-test.true c.item-item.is c.loop-item.invariant.names c.in_err-put_value.ensures.cause in
+    let whole = fault_at symbols_of c.loop-item.names c.args.names.now c.args.items.now c.loop-item.item-index c.item-item.result c.in_err-put_value.field-0.0
+    c.loop-item-test.true c.item-item.is c.loop-item.invariant.names c.in_err-put_value.ensures.cause in
     search rules
 
 pub put_fields-loop-field-preserved : goal.put_fields-loop-field-preserved
@@ -44,24 +47,30 @@ put_fields-loop-field-preserved g t c =
       octets = λ later h.
           let mid = later_by c.add.new.self (symbols_of field.value) names later on.after h in
           let id = var_uint_octets (id_of later field.name) in
-          let octets = on.ok later h ∙ ap (λ w. w ++ value_octets later field.value) (c.in_ok-put_id.ensures.ok ∙ ap (λ (n : ℕ). old ++ var_uint_octets n) (named.id later mid)) ∙ append_assoc old id (value_octets later field.value) in
-          octets_at (field_octets later) old c.put_value.new.out.items _ c.args.fields.now c.loop-field.field-index field c.loop-field-test.true c.field-item.is octets
+          let octets = on.ok later h ∙ ap (λ w. w ++ value_octets later field.value)
+          (c.in_ok-put_id.ensures.ok ∙ ap (λ (n : ℕ). old ++ var_uint_octets n) (named.id later mid))
+          ∙ append_assoc old id (value_octets later field.value) in
+          octets_at (field_octets later) old c.put_value.new.out.items _ c.args.fields.now c.loop-field.field-index field c.loop-field-test.true c.field-item.is
+          octets
           (i.octets later (later_by c.loop-field.names (field.name ∷ []) c.add.new.self later named.ok mid));
-      names = rw (on.after, named.ok) (left field_symbols c.loop-field.names c.args.names.now c.args.fields.now c.loop-field.field-index field c.loop-field-test.true c.field-item.is i.names);
+      names = rw (on.after, named.ok) (left field_symbols c.loop-field.names c.args.names.now c.args.fields.now c.loop-field.field-index field
+          c.loop-field-test.true c.field-item.is i.names);
       kept = fields_at c.args.fields.now c.loop-field.field-index field c.loop-field-test.true c.field-item.is c.kept.ensures on.kept i.kept;
       grown = longer_by _ c.put_id.new.out.items c.put_value.new.out.items _ (on.ok names (later_self names)) first;
     }
 
 pub put_fields-returns-in_err-id-clause-cause : goal.put_fields-returns-in_err-id-clause-cause
 put_fields-returns-in_err-id-clause-cause g t c =
-    let whole = fault_at field_symbols c.loop-field.names c.args.names.now c.args.fields.now c.loop-field.field-index c.field-item.result c.in_err-id.field-0.0 c.loop-field-test.true c.field-item.is c.loop-field.invariant.names
+    let whole = fault_at field_symbols c.loop-field.names c.args.names.now c.args.fields.now c.loop-field.field-index c.field-item.result c.in_err-id.field-0.0
+    c.loop-field-test.true c.field-item.is c.loop-field.invariant.names
     (fault_more _ (symbols_of c.field-item.result.value) _ _ refl c.in_err-id.ensures.cause) in
     search rules
 
 pub put_fields-returns-in_err-put_value-clause-cause : goal.put_fields-returns-in_err-put_value-clause-cause
 put_fields-returns-in_err-put_value-clause-cause g t c =
     let fault = rw c.in_ok-id.ensures.ok at c.in_err-put_value.ensures.cause in
-    let whole = fault_at field_symbols c.loop-field.names c.args.names.now c.args.fields.now c.loop-field.field-index c.field-item.result c.in_err-put_value.field-0.0 c.loop-field-test.true c.field-item.is c.loop-field.invariant.names fault in
+    let whole = fault_at field_symbols c.loop-field.names c.args.names.now c.args.fields.now c.loop-field.field-index c.field-item.result
+    c.in_err-put_value.field-0.0 c.loop-field-test.true c.field-item.is c.loop-field.invariant.names fault in
     search rules
 
 pub put_items-returns-clause-kept : goal.put_items-returns-clause-kept
@@ -73,7 +82,8 @@ put_fields-returns-clause-kept g t c = all_fields c.args.fields.now c.loop-field
 pub put_value-returns-then-is_empty-clause-ok : goal.put_value-returns-then-is_empty-clause-ok
 put_value-returns-then-is_empty-clause-ok g t c =
     let none : length c.args.value.now.annotations ≡ 0 = grind (arith, c.as_slice-annotations.ensures, c.is_empty.ensures, c.if-is_empty.true) in
-    octets_bare_later c.put_payload.result c.put_payload.new.names c.args.value.now c.args.out.now.items c.put_payload.new.out.items none c.put_payload.ensures.ok
+    octets_bare_later c.put_payload.result c.put_payload.new.names c.args.value.now c.args.out.now.items c.put_payload.new.out.items none
+    c.put_payload.ensures.ok
 
 pub put_value-returns-then-is_empty-clause-after : goal.put_value-returns-then-is_empty-clause-after
 put_value-returns-then-is_empty-clause-after g t c =
@@ -119,12 +129,15 @@ put_value-returns-clause-ok g t c = λ later h.
     let ids = with_count (ids_octets later value.annotations) in
     let rest = layer_octets later (out-Payload value.payload) in
     let some : 0 < length value.annotations = grind (arith, c.as_slice-annotations.ensures, c.is_empty.ensures, c.if-is_empty.false) in
-    let mid = later_by c.put_annotations.new.names (layer_symbols (out-Payload value.payload)) c.put_payload-2.new.names later c.in_ok-put_payload.ensures.after h in
-    let front = c.in_ok-put_annotations.ensures.ok later mid ∙ ap (λ w. w ++ with_count (ids_octets later c.as_slice-annotations.result.now)) c.in_ok-push.ensures.items
+    let mid = later_by c.put_annotations.new.names (layer_symbols (out-Payload value.payload)) c.put_payload-2.new.names later c.in_ok-put_payload.ensures.after
+    h in
+    let front = c.in_ok-put_annotations.ensures.ok later mid ∙ ap (λ w. w ++ with_count (ids_octets later c.as_slice-annotations.result.now))
+    c.in_ok-push.ensures.items
     ∙ ap (λ ss. (old ++ 0 ∷ []) ++ with_count (ids_octets later ss)) c.as_slice-annotations.ensures in
     let body = c.in_ok-put_payload.ensures.ok later h ∙ ap (λ w. w ++ rest) front ∙ append_assoc (old ++ 0 ∷ []) ids rest in
     let place : c.len-place.result ≡ length old = search rules in
-    rw (octets_wrapped later value some) (framed_at 14 c.len-place.result old (ids ++ rest) c.put_payload-2.new.out.items c.frame.new.out.items place body c.in_ok-frame.ensures.ok)
+    rw (octets_wrapped later value some) (framed_at 14 c.len-place.result old (ids ++ rest) c.put_payload-2.new.out.items c.frame.new.out.items place body
+    c.in_ok-frame.ensures.ok)
 
 pub put_value-returns-clause-after : goal.put_value-returns-clause-after
 put_value-returns-clause-after g t c =

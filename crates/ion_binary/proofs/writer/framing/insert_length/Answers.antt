@@ -12,7 +12,8 @@ loop-rest-preserved c =
     let longer = length-insert l.out.items place (l.rest % 128) l.invariant.within in
     record {
       within = omega (arith, ap length new);
-      octets = ap (λ w. take place w ++ (digits_of 128 (l.rest / 128) ++ drop place w)) new ∙ digit_next l.out.items _ place l.rest l.invariant.within c.loop-rest-test.true l.invariant.octets;
+      octets = ap (λ w. take place w ++ (digits_of 128 (l.rest / 128) ++ drop place w)) new
+          ∙ digit_next l.out.items _ place l.rest l.invariant.within c.loop-rest-test.true l.invariant.octets;
     }
 
 pub returns-clause-ok : goal.returns-clause-ok

@@ -14,9 +14,11 @@ returns-clause-ok g c =
     let old = c.args.out.now.items in
     let base = c.in_ok-base.base in
     let ids = with_count (var_uint_octets base) in
-    let fields = framed 13 (named_octets names (Some (codes "imports")) (framed 7 (uint_octets base)) ++ named_octets names (Some (codes "symbols")) (framed 11 (flat_map (λ s. framed 8 (name_text s)) more))) in
+    let fields = framed 13 (named_octets names (Some (codes "imports")) (framed 7 (uint_octets base))
+    ++ named_octets names (Some (codes "symbols")) (framed 11 (flat_map (λ s. framed 8 (name_text s)) more))) in
     let front = c.in_ok-put_counted.ensures.ok ∙ ap (λ w. w ++ ids) c.in_ok-push.ensures.items in
     let body = c.in_ok-put_table_fields.ensures.ok ∙ ap (λ w. w ++ fields) front ∙ append_assoc (old ++ 0 ∷ []) ids fields in
     let place : c.len-place.result ≡ length old = search rules in
     rw (table_is names more base c.in_ok-base.ensures.id)
-    (on_ok_weaker c.frame.result (framed_at 14 c.len-place.result old (ids ++ fields) c.put_table_fields.new.out.items c.frame.new.out.items place body) c.frame.ensures.ok)
+    (on_ok_weaker c.frame.result (framed_at 14 c.len-place.result old (ids ++ fields) c.put_table_fields.new.out.items c.frame.new.out.items place body)
+    c.frame.ensures.ok)

@@ -9,7 +9,8 @@ use Rattle.ion_text.proofs.reader.TextReader.advance.Given as goal
 abbrev pub invariant-loop-i : goal.invariant-loop-i
 invariant-loop-i l = record {
   i : l.i ≤ length l.piece;
-  ran : LeadsFromStart l.fn.self.catalog.now l.fn.self.limits (is_some l.fn.self.awaited) (scanned l.fn.self.scanner).used (state_of l.fn.self) l.piece l.i (state_of l.self);
+  ran : LeadsFromStart l.fn.self.catalog.now l.fn.self.limits (is_some l.fn.self.awaited) (scanned l.fn.self.scanner).used (state_of l.fn.self) l.piece l.i
+      (state_of l.self);
   used : (scanned l.self.scanner).used ≡ (scanned l.fn.self.scanner).used + l.i;
   none : l.self.awaited ≡ None;
   fine : IsFine l.self;

@@ -10,7 +10,9 @@ returns-clause-carries g c =
     let r = c.args.self.now in
     let found = c.walk_into in
     let fine : failed r ≡ None = search rules in
-    let all = one_takes_up r found.new.self c.args.piece.now fine found.ensures.fine found.ensures.steady found.ensures.setting (λ v answer. WritesValue g.W.Outlet c.args.writer.now found.new.writer c.args.out.now found.new.out v answer) found.result found.ensures.gives found.ensures.used found.ensures.awaits in
+    let all = one_takes_up r found.new.self c.args.piece.now fine found.ensures.fine found.ensures.steady found.ensures.setting
+    (λ v answer. WritesValue g.W.Outlet c.args.writer.now found.new.writer c.args.out.now found.new.out v answer) found.result found.ensures.gives
+    found.ensures.used found.ensures.awaits in
     IfSome_then found.result all (λ carried one.
     let up = one.2 in (
       one.0,

@@ -6,7 +6,8 @@ use Rattle.ion_text.proofs.reader.TextReader.end_ready.Goals as goal
 
 pub returns-in-Err : goal.returns-in-Err
 returns-in-Err c = record {
-  did = λ used x h. let r = c.args.self.now in ready_refused r.catalog.now r.limits used (reading_of r) x c.in-Err.refusal (subst (λ t. Ends used x t) c.in-Err.is h);
+  did = λ used x h. let r = c.args.self.now in ready_refused r.catalog.now r.limits used (reading_of r) x c.in-Err.refusal
+      (subst (λ t. Ends used x t) c.in-Err.is h);
 }
 
 pub returns-in-Ok-Some : goal.returns-in-Ok-Some

@@ -11,7 +11,9 @@ returns-in-Ok-Goes c = record {
       λ used.
       let r = c.args.self.now in
       let h = c.in-Ok-Goes.ensures.setting in
-      turned_goes r.catalog.now r.limits used (turn r.catalog.now r.limits (reading_of r) (token_in c.args.token)) (reading_of c.turn.new.self) c.turn.new.self.catalog.now c.turn.new.self.limits c.end_settled.result
-      (subst (λ (e : Effect). Does (turn r.catalog.now r.limits (reading_of r) (token_in c.args.token)) (Ok e) c.turn.new.self) c.in-Ok-Goes.field-0-is c.in-Ok-Goes.ensures.does)
+      turned_goes r.catalog.now r.limits used (turn r.catalog.now r.limits (reading_of r) (token_in c.args.token)) (reading_of c.turn.new.self)
+      c.turn.new.self.catalog.now c.turn.new.self.limits c.end_settled.result
+      (subst (λ (e : Effect). Does (turn r.catalog.now r.limits (reading_of r) (token_in c.args.token)) (Ok e) c.turn.new.self) c.in-Ok-Goes.field-0-is
+      c.in-Ok-Goes.ensures.does)
       (ap (λ (b : _). b.now) h.catalog) h.limits (c.end_settled.ensures.did used);
 }

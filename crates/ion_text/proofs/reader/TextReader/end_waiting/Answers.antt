@@ -32,9 +32,11 @@ returns-after-found c = record {
       elim c.match-found.branch [
         | in-None w ↦
             let there = subst (λ (o : Option Token). Ends used x (Ok o)) w.in-None.is ends in
-            subst (λ (q : Result (Option Value) Reason). DidEnd used (end_waiting g l used x t) q) (sym w.result-is) (waiting_none g l used x t w.end_settled.result there (w.end_settled.ensures.did used))
+            subst (λ (q : Result (Option Value) Reason). DidEnd used (end_waiting g l used x t) q) (sym w.result-is)
+            (waiting_none g l used x t w.end_settled.result there (w.end_settled.ensures.did used))
         | in-Some w ↦
             let there = subst (λ (o : Option Token). Ends used x (Ok o)) w.in-Some.is ends in
-            subst (λ (q : Result (Option Value) Reason). DidEnd used (end_waiting g l used x t) q) (sym w.result-is) (waiting_token g l used x t _ w.end_open-in-Some.result there (w.end_open-in-Some.ensures.did used))
+            subst (λ (q : Result (Option Value) Reason). DidEnd used (end_waiting g l used x t) q) (sym w.result-is)
+            (waiting_token g l used x t _ w.end_open-in-Some.result there (w.end_open-in-Some.ensures.did used))
       ];
 }

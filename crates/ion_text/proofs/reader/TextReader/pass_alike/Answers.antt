@@ -11,7 +11,8 @@ returns-clause-alike c =
     let found = c.walk_alike in
     let fine : failed r ≡ None = search rules in
     let other_fine : failed q ≡ None = search rules in
-    let both = both_take_up r found.new.self q found.new.other c.args.piece.now c.args.beside.now fine found.ensures.fine found.ensures.steady found.ensures.setting other_fine found.ensures.other_fine found.ensures.other_steady found.ensures.other_setting
+    let both = both_take_up r found.new.self q found.new.other c.args.piece.now c.args.beside.now fine found.ensures.fine found.ensures.steady
+    found.ensures.setting other_fine found.ensures.other_fine found.ensures.other_steady found.ensures.other_setting
     found.result found.ensures.gives found.ensures.used found.ensures.other_used found.ensures.awaits found.ensures.other_awaits in
     IfSome_then found.result both (λ used both.
     let up = both.1 in

@@ -18,11 +18,16 @@ returns-clause-strides c =
     let s = c.in-Symbol.symbol in
     let behind = c.past_token-behind.result in
     let here = place (reading_of old) in
-    let move : Moved old.scanner c.move_to.new.self behind = record { rests = c.move_to.ensures.rests; failure = c.move_to.ensures.failure; steady = c.move_to.ensures.steady } in
-    note_strides old _ c.move_to.new.self c.args.rest behind octets token c.requires.inside c.requires.rests move (record { catalog = refl; limits = refl; scanner = refl; awaited = refl; failed = refl }) m s c.in-Some.ensures.within
+    let move : Moved old.scanner c.move_to.new.self behind =
+    record { rests = c.move_to.ensures.rests; failure = c.move_to.ensures.failure; steady = c.move_to.ensures.steady } in
+    note_strides old _ c.move_to.new.self c.args.rest behind octets token c.requires.inside c.requires.rests move
+    (record { catalog = refl; limits = refl; scanner = refl; awaited = refl; failed = refl }) m s c.in-Some.ensures.within
     (c.past_token-behind.ensures
     ∙ (ap (λ p. past_token p c.past_blank.result (kinds.Mark marks.Colons) 2) c.requires.here
-    ∙ ap (λ r. past_token here r (kinds.Mark marks.Colons) 2) (c.past_blank.ensures ∙ ap (λ r. past_blank r m) (c.past_token.ensures ∙ ap (λ p. past_token p c.args.rest token.kind token.count) c.requires.here))))
-    c.requires.stage (subst (λ v. BeginsSymbol here c.args.rest octets token v) c.in-Symbol.is (subst (λ p. BeginsSymbol p c.args.rest octets token c.args.payload) c.requires.here c.requires.token))
+    ∙ ap (λ r. past_token here r (kinds.Mark marks.Colons) 2)
+    (c.past_blank.ensures ∙ ap (λ r. past_blank r m) (c.past_token.ensures ∙ ap (λ p. past_token p c.args.rest token.kind token.count) c.requires.here))))
+    c.requires.stage (subst (λ v. BeginsSymbol here c.args.rest octets token v) c.in-Symbol.is
+    (subst (λ p. BeginsSymbol p c.args.rest octets token c.args.payload) c.requires.here c.requires.token))
     c.in-Some.ensures.passed c.in-Some.ensures.one c.in-Some.ensures.two
-    (ap (λ ss. at old.start old.context (open_frames old) ss old.stage) c.in_ok-push.ensures.ok ∙ ap (λ now. at old.start old.context (open_frames old) (old.notes ++ s ∷ []) now) c.requires.stage)
+    (ap (λ ss. at old.start old.context (open_frames old) ss old.stage) c.in_ok-push.ensures.ok
+    ∙ ap (λ now. at old.start old.context (open_frames old) (old.notes ++ s ∷ []) now) c.requires.stage)

@@ -14,7 +14,10 @@ returns-in-Ok-Goes-clause-strides c =
     let new = c.close.new.self in
     let m = c.in-Some.mark in
     let more : 1 < length c.args.octets.now = omega (arith, c.if-octets-lt2.false) in
-    let move : Moved old.scanner c.move_to.new.self c.past_token.result = record { rests = c.move_to.ensures.rests; failure = c.move_to.ensures.failure; steady = c.move_to.ensures.steady } in
-    close_strides old new c.move_to.new.self c.args.rest c.past_token.result c.args.octets.now m c.requires.inside c.requires.rests move c.in-Ok-Goes.ensures.setting more c.in-Some.ensures
+    let move : Moved old.scanner c.move_to.new.self c.past_token.result =
+    record { rests = c.move_to.ensures.rests; failure = c.move_to.ensures.failure; steady = c.move_to.ensures.steady } in
+    close_strides old new c.move_to.new.self c.args.rest c.past_token.result c.args.octets.now m c.requires.inside c.requires.rests move
+    c.in-Ok-Goes.ensures.setting more c.in-Some.ensures
     (c.past_token.ensures ∙ ap (λ p. past_token p c.args.rest (kinds.Mark m) 1) c.place-here.ensures)
-    (subst (λ (e : Effect). Does (closed m (setting_of old) (spot_of old (c.args.rest.used + 1)) (open_frames old)) (Ok e) new) c.in-Ok-Goes.field-0-is c.in-Ok-Goes.ensures.does)
+    (subst (λ (e : Effect). Does (closed m (setting_of old) (spot_of old (c.args.rest.used + 1)) (open_frames old)) (Ok e) new) c.in-Ok-Goes.field-0-is
+    c.in-Ok-Goes.ensures.does)

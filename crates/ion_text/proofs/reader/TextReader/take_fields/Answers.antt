@@ -10,4 +10,5 @@ returns-clause-strides c =
     let piece = c.args.piece.now in
     let behind : List ℕ = take (length piece - 1) (drop 1 piece) in
     let within : c.span-span.result ≤ length behind = omega (arith, c.span-span.ensures.within) in
-    λ first h. strides_on first old new piece behind 1 c.in_ok-count.count (take_rest piece 1) h (strides_front old new behind c.span-span.result c.in_ok-count.count within c.in_ok-count.ensures.strides)
+    λ first h. strides_on first old new piece behind 1 c.in_ok-count.count (take_rest piece 1) h
+    (strides_front old new behind c.span-span.result c.in_ok-count.count within c.in_ok-count.ensures.strides)

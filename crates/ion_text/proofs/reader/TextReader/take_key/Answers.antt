@@ -19,12 +19,17 @@ returns-in-Ok-Goes-clause-strides c =
     let m = c.in-Some.between in
     let behind = c.past_token-behind.result in
     let here = place (reading_of old) in
-    let move : Moved old.scanner c.move_to.new.self behind = record { rests = c.move_to.ensures.rests; failure = c.move_to.ensures.failure; steady = c.move_to.ensures.steady } in
+    let move : Moved old.scanner c.move_to.new.self behind =
+    record { rests = c.move_to.ensures.rests; failure = c.move_to.ensures.failure; steady = c.move_to.ensures.steady } in
     let same = c.in-Ok-Goes.ensures.setting in
-    let setting : SameSetting (with_scanner old c.move_to.new.self) new = record { catalog = same.catalog; limits = same.limits; scanner = same.scanner; awaited = same.awaited; failed = same.failed } in
-    name_strides old new c.move_to.new.self c.args.rest behind octets token c.requires.inside c.requires.rests move setting m c.args.name c.in-Some.ensures.within
+    let setting : SameSetting (with_scanner old c.move_to.new.self) new =
+    record { catalog = same.catalog; limits = same.limits; scanner = same.scanner; awaited = same.awaited; failed = same.failed } in
+    name_strides old new c.move_to.new.self c.args.rest behind octets token c.requires.inside c.requires.rests move setting m c.args.name
+    c.in-Some.ensures.within
     (c.past_token-behind.ensures
     ∙ (ap (λ p. past_token p c.past_blank.result (kinds.Mark marks.Colon) 1) c.requires.here
-    ∙ ap (λ r. past_token here r (kinds.Mark marks.Colon) 1) (c.past_blank.ensures ∙ ap (λ r. past_blank r m) (c.past_token.ensures ∙ ap (λ p. past_token p c.args.rest token.kind token.count) c.requires.here))))
-    c.requires.stage (subst (λ p. BeginsName p c.args.rest octets token c.args.name) c.requires.here c.requires.token) c.in-Some.ensures.passed c.in-Some.ensures.colon c.in-Some.ensures.one
+    ∙ ap (λ r. past_token here r (kinds.Mark marks.Colon) 1)
+    (c.past_blank.ensures ∙ ap (λ r. past_blank r m) (c.past_token.ensures ∙ ap (λ p. past_token p c.args.rest token.kind token.count) c.requires.here))))
+    c.requires.stage (subst (λ p. BeginsName p c.args.rest octets token c.args.name) c.requires.here c.requires.token) c.in-Some.ensures.passed
+    c.in-Some.ensures.colon c.in-Some.ensures.one
     (subst (λ (e : Effect). Does (named old.start old.context (open_frames old) c.args.name) (Ok e) new) c.in-Ok-Goes.field-0-is c.in-Ok-Goes.ensures.does)

@@ -14,11 +14,13 @@ then_so f (Err refusal) p = tt
 pub returns-clause-led : goal.returns-clause-led
 returns-clause-led c =
     let reader = c.args.self.now in
-    then_so (led_by_lull reader.catalog.now reader.limits (reading_of reader) c.args.octets.now (scanned reader.scanner) (scanned c.go_on.new.self) c.requires.lull c.requires.over)
+    then_so (led_by_lull reader.catalog.now reader.limits (reading_of reader) c.args.octets.now (scanned reader.scanner) (scanned c.go_on.new.self)
+    c.requires.lull c.requires.over)
     c.go_on.result (c.go_on.ensures.ran c.requires.fine)
 
 pub returns-clause-used : goal.returns-clause-used
 returns-clause-used c =
     let reader = c.args.self.now in
-    then_so (λ ran. used_by_lull c.args.octets.now (scanned reader.scanner) (scanned c.go_on.new.self) (place (reading_of reader)) (ran (place (reading_of reader))))
+    then_so (λ ran. used_by_lull c.args.octets.now (scanned reader.scanner) (scanned c.go_on.new.self) (place (reading_of reader))
+    (ran (place (reading_of reader))))
     c.go_on.result (c.go_on.ensures.ran c.requires.fine)

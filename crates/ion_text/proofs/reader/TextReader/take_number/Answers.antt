@@ -19,11 +19,16 @@ returns-in-Ok-Goes-clause-strides c =
     let octets = c.args.octets.now in
     let n = c.in-Some.count in
     let v = annotated old.notes (number_payload c.in-Ok.read) in
-    let move : Moved old.scanner c.move_to.new.self c.past_token.result = record { rests = c.move_to.ensures.rests; failure = c.move_to.ensures.failure; steady = c.move_to.ensures.steady } in
+    let move : Moved old.scanner c.move_to.new.self c.past_token.result =
+    record { rests = c.move_to.ensures.rests; failure = c.move_to.ensures.failure; steady = c.move_to.ensures.steady } in
     let more : n < length octets = omega (arith, c.if-count-octets.false) in
     let values : is_name (place (reading_of old)) ≡ false = ap is_name (sym c.requires.here) ∙ c.requires.value in
     let same : Ok c.in-Ok.read ≡ number_read (take n octets) = c.in-Ok.ensures.only (number_read (take n octets)) (number_reads (take n octets)) in
-    value_strides old new c.move_to.new.self c.args.rest c.past_token.result octets kinds.Number (take n octets) n true (Number' c.in-Ok.read) v c.requires.inside c.requires.rests move c.in-Ok-Goes.ensures.setting more
-    (c.past_token.ensures ∙ ap (λ p. past_token p c.args.rest kinds.Number n) c.requires.here) c.requires.stage (c.in-Some.ensures (place (reading_of old)) c.args.rest values) (number_says (take n octets) c.in-Ok.read same) refl
-    (subst (λ p. ended (setting_of old) (spot_of old (c.args.rest.used + n)) (open_frames old) (annotated old.notes p) ≡ goes (reading_of new)) c.number_payload.ensures
-    (subst (λ (e : Effect). Does (ended (setting_of old) (spot_of old (c.args.rest.used + n)) (open_frames old) (annotated old.notes c.number_payload.result)) (Ok e) new) c.in-Ok-Goes.field-0-is c.in-Ok-Goes.ensures.does))
+    value_strides old new c.move_to.new.self c.args.rest c.past_token.result octets kinds.Number (take n octets) n true (Number' c.in-Ok.read) v
+    c.requires.inside c.requires.rests move c.in-Ok-Goes.ensures.setting more
+    (c.past_token.ensures ∙ ap (λ p. past_token p c.args.rest kinds.Number n) c.requires.here) c.requires.stage
+    (c.in-Some.ensures (place (reading_of old)) c.args.rest values) (number_says (take n octets) c.in-Ok.read same) refl
+    (subst (λ p. ended (setting_of old) (spot_of old (c.args.rest.used + n)) (open_frames old) (annotated old.notes p) ≡ goes (reading_of new))
+    c.number_payload.ensures
+    (subst (λ (e : Effect). Does (ended (setting_of old) (spot_of old (c.args.rest.used + n)) (open_frames old) (annotated old.notes c.number_payload.result))
+    (Ok e) new) c.in-Ok-Goes.field-0-is c.in-Ok-Goes.ensures.does))

@@ -17,7 +17,10 @@ returns-in-Ok-Goes-clause-strides c =
     let m = c.in-Some.mark in
     let more : 1 < length c.args.octets.now = omega (arith, c.if-octets-lt2.false) in
     let values : is_name (place (reading_of old)) ≡ false = ap is_name (sym c.requires.here) ∙ c.requires.value in
-    let move : Moved old.scanner c.move_to.new.self c.past_token.result = record { rests = c.move_to.ensures.rests; failure = c.move_to.ensures.failure; steady = c.move_to.ensures.steady } in
-    open_strides old new c.move_to.new.self c.args.rest c.past_token.result c.args.octets.now m c.requires.inside c.requires.rests move c.in-Ok-Goes.ensures.setting more c.in-Some.ensures values
+    let move : Moved old.scanner c.move_to.new.self c.past_token.result =
+    record { rests = c.move_to.ensures.rests; failure = c.move_to.ensures.failure; steady = c.move_to.ensures.steady } in
+    open_strides old new c.move_to.new.self c.args.rest c.past_token.result c.args.octets.now m c.requires.inside c.requires.rests move
+    c.in-Ok-Goes.ensures.setting more c.in-Some.ensures values
     (c.past_token.ensures ∙ ap (λ p. past_token p c.args.rest (kinds.Mark m) 1) c.requires.here) c.requires.stage
-    (subst (λ (e : Effect). Does (on_ready (setting_of old) (spot_of old (c.args.rest.used + 1)) (open_frames old) old.notes (Mark' m)) (Ok e) new) c.in-Ok-Goes.field-0-is c.in-Ok-Goes.ensures.does)
+    (subst (λ (e : Effect). Does (on_ready (setting_of old) (spot_of old (c.args.rest.used + 1)) (open_frames old) old.notes (Mark' m)) (Ok e) new)
+    c.in-Ok-Goes.field-0-is c.in-Ok-Goes.ensures.does)

@@ -19,4 +19,5 @@ pub returns-in-Ok-clause-steady : goal.returns-in-Ok-clause-steady
 returns-in-Ok-clause-steady c =
     let opened = c.in_default.ensures.strides in
     let taken = c.in-Ok.ensures.strides c.args.self.now opened in
-    then_so {P = StaysSteady c.take_fields.new.self c.take_behind.new.self} {Q = StaysSteady c.args.self.now c.take_behind.new.self} (λ steady k. steady (taken.steady k)) c.take_behind.result c.take_behind.ensures.steady
+    then_so {P = StaysSteady c.take_fields.new.self c.take_behind.new.self} {Q = StaysSteady c.args.self.now c.take_behind.new.self}
+    (λ steady k. steady (taken.steady k)) c.take_behind.result c.take_behind.ensures.steady

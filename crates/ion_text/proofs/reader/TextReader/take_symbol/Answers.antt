@@ -15,8 +15,12 @@ returns-in-Ok-Goes-clause-strides c =
     let octets = c.args.octets.now in
     let token = c.args.token in
     let m = c.in-Some.between in
-    let move : Moved old.scanner c.move_to.new.self c.past_blank-behind.result = record { rests = c.move_to.ensures.rests; failure = c.move_to.ensures.failure; steady = c.move_to.ensures.steady } in
-    symbol_strides old c.whole.new.self c.move_to.new.self c.args.rest c.past_blank-behind.result octets token c.requires.inside c.requires.rests move c.in-Ok-Goes.ensures.setting m c.args.payload c.in-Some.ensures.within
-    (c.past_blank-behind.ensures ∙ ap (λ r. past_blank r m) (c.past_token.ensures ∙ ap (λ p. past_token p c.args.rest token.kind token.count) c.requires.here)) c.requires.stage
+    let move : Moved old.scanner c.move_to.new.self c.past_blank-behind.result =
+    record { rests = c.move_to.ensures.rests; failure = c.move_to.ensures.failure; steady = c.move_to.ensures.steady } in
+    symbol_strides old c.whole.new.self c.move_to.new.self c.args.rest c.past_blank-behind.result octets token c.requires.inside c.requires.rests move
+    c.in-Ok-Goes.ensures.setting m c.args.payload c.in-Some.ensures.within
+    (c.past_blank-behind.ensures ∙ ap (λ r. past_blank r m) (c.past_token.ensures ∙ ap (λ p. past_token p c.args.rest token.kind token.count) c.requires.here))
+    c.requires.stage
     (subst (λ p. BeginsSymbol p c.args.rest octets token c.args.payload) c.requires.here c.requires.token) c.in-Some.ensures.passed c.in-Some.ensures.ends
-    (subst (λ (e : Effect). Does (ended (setting_of old) (spot_of old (c.args.rest.used + token.count)) (open_frames old) (annotated old.notes c.args.payload)) (Ok e) c.whole.new.self) c.in-Ok-Goes.field-0-is c.in-Ok-Goes.ensures.does)
+    (subst (λ (e : Effect). Does (ended (setting_of old) (spot_of old (c.args.rest.used + token.count)) (open_frames old) (annotated old.notes c.args.payload))
+    (Ok e) c.whole.new.self) c.in-Ok-Goes.field-0-is c.in-Ok-Goes.ensures.does)

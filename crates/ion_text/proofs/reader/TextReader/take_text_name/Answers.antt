@@ -8,5 +8,6 @@ take_key-requires-clause-token c =
     let octets = c.args.octets.now in
     let token = c.in-Some.token in
     let n = token.count in
-    let is : c.in_ok-name.name ≡ Some (take (n - 2) (drop 1 octets)) = c.in_ok-name.ensures ∙ ap Some (c.from_utf8_unchecked.ensures ∙ ap (take (n - 2)) (take_rest octets 1)) in
+    let is : c.in_ok-name.name ≡ Some (take (n - 2) (drop 1 octets)) =
+    c.in_ok-name.ensures ∙ ap Some (c.from_utf8_unchecked.ensures ∙ ap (take (n - 2)) (take_rest octets 1)) in
     subst (λ s. BeginsName c.args.here c.args.rest octets token s) (sym is) (c.in-Some.ensures.name c.args.here c.args.rest)

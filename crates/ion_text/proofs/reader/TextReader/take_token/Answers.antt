@@ -9,4 +9,5 @@ take_blank-requires-clause-passed c = λ p r.
     let octets = c.args.octets.now in
     let n = c.blanks-count.result in
     let within : n ≤ length octets - 1 = omega (arith, c.blanks-count.ensures.within, length-take {A = ℕ}) in
-    subst (λ (w : List ℕ). run p w (resting r) ≡ Next (resting (past_blank r n))) (take-take n (length octets - 1) octets within) (c.blanks-count.ensures.passed p r)
+    subst (λ (w : List ℕ). run p w (resting r) ≡ Next (resting (past_blank r n))) (take-take n (length octets - 1) octets within)
+    (c.blanks-count.ensures.passed p r)

@@ -14,9 +14,12 @@ returns-in-Ok-Goes-clause-strides c =
     let old = c.args.self.now in
     let octets = c.args.octets.now in
     let token = c.args.token in
-    let move : Moved old.scanner c.move_to.new.self c.past_token.result = record { rests = c.move_to.ensures.rests; failure = c.move_to.ensures.failure; steady = c.move_to.ensures.steady } in
+    let move : Moved old.scanner c.move_to.new.self c.past_token.result =
+    record { rests = c.move_to.ensures.rests; failure = c.move_to.ensures.failure; steady = c.move_to.ensures.steady } in
     let more : token.count < length octets = omega (arith, c.if-token-octets.false) in
-    whole_strides old c.whole.new.self c.move_to.new.self c.args.rest c.past_token.result octets token c.requires.inside c.requires.rests move c.in-Ok-Goes.ensures.setting c.args.payload more
+    whole_strides old c.whole.new.self c.move_to.new.self c.args.rest c.past_token.result octets token c.requires.inside c.requires.rests move
+    c.in-Ok-Goes.ensures.setting c.args.payload more
     (c.past_token.ensures ∙ ap (λ p. past_token p c.args.rest token.kind token.count) c.requires.here) c.requires.stage
     (subst (λ p. BeginsValue p c.args.rest octets token c.args.payload) c.requires.here c.requires.token)
-    (subst (λ (e : Effect). Does (ended (setting_of old) (spot_of old (c.args.rest.used + token.count)) (open_frames old) (annotated old.notes c.args.payload)) (Ok e) c.whole.new.self) c.in-Ok-Goes.field-0-is c.in-Ok-Goes.ensures.does)
+    (subst (λ (e : Effect). Does (ended (setting_of old) (spot_of old (c.args.rest.used + token.count)) (open_frames old) (annotated old.notes c.args.payload))
+    (Ok e) c.whole.new.self) c.in-Ok-Goes.field-0-is c.in-Ok-Goes.ensures.does)

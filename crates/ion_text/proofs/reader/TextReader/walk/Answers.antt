@@ -14,7 +14,9 @@ returns-clause-gives c =
     let told = outlined depth item count c.in_ok-before.begun c.walk_top.new.tally w ahead.level ahead.none levels in (
       w.value,
       told.1 ∙ sym c.outline.ensures,
-      top_advances old c.move_to.new.self c.walk_top.new.beside depth item count c.in_ok-before.begun c.walk_top.new.tally w ahead.rest c.args.piece.now c.in_ok-before.before ahead.most ahead.fresh c.move_to.ensures.rests ahead.is ahead.inside ahead.before ahead.few ahead.size ahead.passed ahead.begins (omega arith),
+      top_advances old c.move_to.new.self c.walk_top.new.beside depth item count c.in_ok-before.begun c.walk_top.new.tally w ahead.rest c.args.piece.now
+          c.in_ok-before.before ahead.most ahead.fresh c.move_to.ensures.rests ahead.is ahead.inside ahead.before ahead.few ahead.size ahead.passed ahead.begins
+          (omega arith),
     )
 
 pub returns-in_err-before-clause-none : goal.returns-in_err-before-clause-none

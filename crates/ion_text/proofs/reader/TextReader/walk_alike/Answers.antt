@@ -11,6 +11,8 @@ returns-clause-gives c =
     let other_top = c.in_ok-top.other_top in
     let found = c.in_ok-top.ensures in (
       found.0,
-      side_advances r c.args.piece.now c.item-octets.result.now front.blank top.count front.rest top.rest found.0 c.in_ok-front.ensures c.item-octets.ensures found.1 c.move_to.new.self c.move_to.ensures.rests,
-      side_advances q c.args.beside.now c.item-other_octets.result.now other_front.blank other_top.count other_front.rest other_top.rest found.0 c.in_ok-other_front.ensures c.item-other_octets.ensures found.2 c.move_to-2.new.self c.move_to-2.ensures.rests,
+      side_advances r c.args.piece.now c.item-octets.result.now front.blank top.count front.rest top.rest found.0 c.in_ok-front.ensures c.item-octets.ensures
+          found.1 c.move_to.new.self c.move_to.ensures.rests,
+      side_advances q c.args.beside.now c.item-other_octets.result.now other_front.blank other_top.count other_front.rest other_top.rest found.0
+          c.in_ok-other_front.ensures c.item-other_octets.ensures found.2 c.move_to-2.new.self c.move_to-2.ensures.rests,
     )

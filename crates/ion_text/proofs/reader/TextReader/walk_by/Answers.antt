@@ -10,5 +10,7 @@ returns-clause-gives g c =
     let found = c.in_ok-count.ensures in (
       found.walked.value,
       found.visited,
-      top_advances old c.move_to.new.self old.beside old.limits.depth c.in_ok-before.item.now count c.in_ok-before.begun c.walk_top.new.tally found.walked ahead.rest c.args.piece.now c.in_ok-before.before ahead.most ahead.fresh c.move_to.ensures.rests ahead.is ahead.inside ahead.before ahead.few ahead.size ahead.passed ahead.begins (omega arith),
+      top_advances old c.move_to.new.self old.beside old.limits.depth c.in_ok-before.item.now count c.in_ok-before.begun c.walk_top.new.tally found.walked
+          ahead.rest c.args.piece.now c.in_ok-before.before ahead.most ahead.fresh c.move_to.ensures.rests ahead.is ahead.inside ahead.before ahead.few
+          ahead.size ahead.passed ahead.begins (omega arith),
     )

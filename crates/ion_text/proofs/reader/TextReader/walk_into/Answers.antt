@@ -10,6 +10,8 @@ returns-clause-gives g c =
     let found = c.in_ok-count.ensures.writes in (
       found.0.value,
       found.1,
-      top_advances old c.move_to.new.self old.beside old.limits.depth c.in_ok-before.item.now count c.in_ok-before.begun c.put_octets.new.tally found.0 ahead.rest c.args.piece.now c.in_ok-before.before ahead.most ahead.fresh c.move_to.ensures.rests ahead.is ahead.inside ahead.before ahead.few ahead.size ahead.passed ahead.begins (omega arith),
+      top_advances old c.move_to.new.self old.beside old.limits.depth c.in_ok-before.item.now count c.in_ok-before.begun c.put_octets.new.tally found.0
+          ahead.rest c.args.piece.now c.in_ok-before.before ahead.most ahead.fresh c.move_to.ensures.rests ahead.is ahead.inside ahead.before ahead.few
+          ahead.size ahead.passed ahead.begins (omega arith),
       found.2,
     )

@@ -16,7 +16,10 @@ returns-in-Quoted c =
     (subst (λ b. Pays (held_of (content b)) (payloads.Symbol (Some w))) (sym c.in-Quoted.is) refl, flat_symbol (Some w))
 
 pub returns-in-TypedNull : goal.returns-in-TypedNull
-returns-in-TypedNull c = (subst (λ b. Pays (held_of (content b)) (payloads.Null c.in-TypedNull.kind)) (sym c.in-TypedNull.is) refl, flat_null c.in-TypedNull.kind)
+returns-in-TypedNull c = (
+  subst (λ b. Pays (held_of (content b)) (payloads.Null c.in-TypedNull.kind)) (sym c.in-TypedNull.is) refl,
+  flat_null c.in-TypedNull.kind,
+)
 
 pub returns-in-Short : goal.returns-in-Short
 returns-in-Short c =
@@ -26,7 +29,8 @@ returns-in-Short c =
 pub returns-in-Operator : goal.returns-in-Operator
 returns-in-Operator c =
     let w = cow_str_bytes c.in-Operator.word in
-    subst (λ w. IsValue false (content c.args.body.now) (payloads.Symbol (Some w)) × IsFlat (payloads.Symbol (Some w)) kinds.Symbol) (sym c.as_str-in-Operator.ensures.value)
+    subst (λ w. IsValue false (content c.args.body.now) (payloads.Symbol (Some w)) × IsFlat (payloads.Symbol (Some w)) kinds.Symbol)
+    (sym c.as_str-in-Operator.ensures.value)
     (λ setting spot fs ss. ap (λ b. on_ready setting spot fs ss (content b)) c.in-Operator.is, flat_symbol (Some w))
 
 pub returns-in-Clob : goal.returns-in-Clob

@@ -8,4 +8,5 @@ pub returns : goal.returns
 returns c = λ rest.
     let octets = c.args.octets.now in
     let token = c.in_ok-token.token in
-    subst (λ w. BeginsName places.Name rest octets token (Some w)) (sym (c.from_utf8_unchecked.ensures ∙ ap (take (token.count - 2)) (take_rest octets 1))) (c.in_ok-token.ensures.name places.Name rest)
+    subst (λ w. BeginsName places.Name rest octets token (Some w)) (sym (c.from_utf8_unchecked.ensures ∙ ap (take (token.count - 2)) (take_rest octets 1)))
+    (c.in_ok-token.ensures.name places.Name rest)

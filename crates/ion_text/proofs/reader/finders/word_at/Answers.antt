@@ -12,7 +12,8 @@ returns c = λ here rest.
     let kept = take n octets in
     let is = c.in_ok-kind.ensures in
     let first : get_or octets 0 0 ≢ 36 = λ e. omega (arith, e, c.if-octets-eq36.false) in
-    let pays : held_payload (held_word kept) ≡ Ok (payload_of c.in_ok-kind.said) = ap (λ w. held_payload (held_word w)) (sym c.from_utf8_unchecked.ensures) ∙ is.0 in
+    let pays : held_payload (held_word kept) ≡ Ok (payload_of c.in_ok-kind.said) = ap (λ w. held_payload (held_word w)) (sym c.from_utf8_unchecked.ensures)
+    ∙ is.0 in
     record {
       token = record {
         kept = kept;

@@ -11,6 +11,8 @@ returns c = λ rest.
     let octets = c.args.octets.now in
     let n = c.in_ok-count.count in
     let first : get_or octets 0 0 ≢ 36 = λ e. omega (arith, e, c.if-octets-eq36.false) in
-    let free : is_keyword (take n octets) ≡ false = ap is_keyword (sym c.from_utf8_unchecked-text.ensures) ∙ (sym c.is_keyword.ensures ∙ c.if-is_keyword.false) in
+    let free : is_keyword (take n octets) ≡ false = ap is_keyword (sym c.from_utf8_unchecked-text.ensures)
+    ∙ (sym c.is_keyword.ensures ∙ c.if-is_keyword.false) in
     subst (λ w. BeginsName places.Name rest octets (record { kind = tokens.Word; count = n; left = true }) (Some w)) (sym c.from_utf8_unchecked-text.ensures)
-    (symbols.word_name places.Name rest octets n (Some (take n octets)) (c.in_ok-count.ensures.found places.Name rest) c.in_ok-count.ensures.text first free refl)
+    (symbols.word_name places.Name rest octets n (Some (take n octets)) (c.in_ok-count.ensures.found places.Name rest) c.in_ok-count.ensures.text first free
+    refl)

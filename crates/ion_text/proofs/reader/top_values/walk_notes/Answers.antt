@@ -10,4 +10,5 @@ pub loop-preserved : goal.loop-preserved
 loop-preserved g c =
     let octets = c.args.octets.now in
     let at = c.loop.at in
-    notes_more g.T.TextVisitor.visits octets (take (length octets - at) (drop at octets)) at c.in_ok-count.count c.args.tally.now c.loop.tally c.walk_note.new.tally _ _ _ (take_rest octets at) c.loop.invariant c.in_ok-count.ensures.walked
+    notes_more g.T.TextVisitor.visits octets (take (length octets - at) (drop at octets)) at c.in_ok-count.count c.args.tally.now c.loop.tally
+    c.walk_note.new.tally _ _ _ (take_rest octets at) c.loop.invariant c.in_ok-count.ensures.walked

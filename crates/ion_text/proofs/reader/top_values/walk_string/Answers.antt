@@ -21,6 +21,8 @@ returns g c =
     let s = c.in_ok-scalar.scalar in
     let none : s.token.count + 0 ≡ s.token.count = omega arith in
     let found = c.in_ok-scalar.ensures.found places.Top c.args.tally.now.rest in
-    bare_scalar_visited g.T.TextVisitor.visits places.Top c.args.tally.now.rest octets s (payload_of c.in_ok-scalar.said) found c.args.level s.token.count c.pass_scalar.result c.args.tally.now c.pass_scalar.new.self _ _ (c.pass_scalar.ensures.total ∙ none)
-    (bare_scalar c.args.level octets s c.args.tally.now c.pass_scalar.new.self found.token c.in_ok-scalar.ensures.waits c.in_ok-scalar.ensures.given c.requires.low c.pass_scalar.ensures.noted)
+    bare_scalar_visited g.T.TextVisitor.visits places.Top c.args.tally.now.rest octets s (payload_of c.in_ok-scalar.said) found c.args.level s.token.count
+    c.pass_scalar.result c.args.tally.now c.pass_scalar.new.self _ _ (c.pass_scalar.ensures.total ∙ none)
+    (bare_scalar c.args.level octets s c.args.tally.now c.pass_scalar.new.self found.token c.in_ok-scalar.ensures.waits c.in_ok-scalar.ensures.given
+    c.requires.low c.pass_scalar.ensures.noted)
     (c.part.ensures c.if-not-part.false)

@@ -15,7 +15,8 @@ returns c =
     let free : is_keyword w ≡ false = ap is_keyword (sym c.from_utf8_unchecked-text.ensures) ∙ (sym c.is_keyword.ensures ∙ c.if-is_keyword.false) in (
       record {
         name = Some w;
-        begins = λ p r. symbols.word_symbol p r octets n (payloads.Symbol (Some w)) (c.in_ok-count.ensures.found p r) c.in_ok-count.ensures.text first (word_free w free);
+        begins = λ p r. symbols.word_symbol p r octets n (payloads.Symbol (Some w)) (c.in_ok-count.ensures.found p r) c.in_ok-count.ensures.text first
+            (word_free w free);
         free = no_table w (word_first n octets first);
       },
       ap Some (sym c.from_utf8_unchecked-text.ensures),

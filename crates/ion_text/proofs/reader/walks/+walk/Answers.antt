@@ -13,15 +13,19 @@ use Rattle.ion_text.proofs.reader.walks.+walk.Goals as goal
 pub walk_value-returns-in-Some : goal.walk_value-returns-in-Some
 walk_value-returns-in-Some g t c =
     let more : 1 < length c.args.octets.now = omega (arith, c.if-octets-lt2.false) in
-    containers_visited g.T.TextVisitor.visits c.args.here c.in-Some.mark c.args.level c.args.octets.now c.args.tally.now c.walk_container.new.tally _ _ c.walk_container.result c.walk_container.ensures more c.in-Some.ensures c.requires.value c.requires.low
+    containers_visited g.T.TextVisitor.visits c.args.here c.in-Some.mark c.args.level c.args.octets.now c.args.tally.now c.walk_container.new.tally _ _
+    c.walk_container.result c.walk_container.ensures more c.in-Some.ensures c.requires.value c.requires.low
 
 pub walk_container-returns : goal.walk_container-returns
 walk_container-returns g t c =
     let octets = c.args.octets.now in
-    container_visited g.T.TextVisitor.visits c.args.here c.args.mark c.args.level octets (take (length octets - 1) (drop 1 octets)) c.in_ok-count.count c.args.tally.now c.pass_token.new.self c.walk_inside.new.tally _ c.in_ok-kept.kept _ _ _ _ (omega (arith, c.if-level-eq0.false)) (take_rest octets 1) c.in_ok-count.ensures
+    container_visited g.T.TextVisitor.visits c.args.here c.args.mark c.args.level octets (take (length octets - 1) (drop 1 octets)) c.in_ok-count.count
+    c.args.tally.now c.pass_token.new.self c.walk_inside.new.tally _ c.in_ok-kept.kept _ _ _ _ (omega (arith, c.if-level-eq0.false)) (take_rest octets 1)
+    c.in_ok-count.ensures
     (search rules) (search rules)
     (subst (λ x. g.T.TextVisitor.visits.opens c.args.visitor.now x c.in_ok-kept.kept c.open.new.self) c.bracket_of.ensures c.in_ok-kept.ensures)
-    (subst (λ x. g.T.TextVisitor.visits.closes c.walk_inside.new.visitor x c.in_ok-kept.kept c.close.new.self) c.bracket_of-2.ensures (c.close.ensures c.if-not-close.false))
+    (subst (λ x. g.T.TextVisitor.visits.closes c.walk_inside.new.visitor x c.in_ok-kept.kept c.close.new.self) c.bracket_of-2.ensures
+    (c.close.ensures c.if-not-close.false))
 
 pub walk_list-returns-then-begins_with : goal.walk_list-returns-then-begins_with
 walk_list-returns-then-begins_with g t c =
@@ -30,12 +34,19 @@ walk_list-returns-then-begins_with g t c =
     let j = c.walk_blank-at.result in
     let vs = c.loop.invariant.values in
     let close = c.begins_with.ensures c.if-begins_with.true in
-    list_visited g.T.TextVisitor.visits c.args.level octets (take (length octets - (at + j)) (drop (at + j) octets)) (at + j) c.args.tally.now c.walk_blank-at.new.tally (take_rest octets (at + j)) close.0 _ _ vs c.loop.behind
-    (gone_blank marks.ListOpen c.args.level octets (take (length octets - at) (drop at octets)) at c.args.tally.now c.loop.tally (λ ss. frames.List ss vs) (element_now c.loop.behind) (depths vs) (sum (map nodes vs)) c.loop.invariant.gone (take_rest octets at)
-    c.walk_blank-at.new.tally j c.walk_blank-at.ensures.passed c.walk_blank-at.ensures.within (element_still c.loop.behind) c.walk_blank-at.ensures.noted) close.1 c.loop.invariant.visited
+    list_visited g.T.TextVisitor.visits c.args.level octets (take (length octets - (at + j)) (drop (at + j) octets)) (at + j) c.args.tally.now
+    c.walk_blank-at.new.tally (take_rest octets (at + j)) close.0 _ _ vs c.loop.behind
+    (gone_blank marks.ListOpen c.args.level octets (take (length octets - at) (drop at octets)) at c.args.tally.now c.loop.tally (λ ss. frames.List ss vs)
+    (element_now c.loop.behind) (depths vs) (sum (map nodes vs)) c.loop.invariant.gone (take_rest octets at)
+    c.walk_blank-at.new.tally j c.walk_blank-at.ensures.passed c.walk_blank-at.ensures.within (element_still c.loop.behind) c.walk_blank-at.ensures.noted)
+    close.1 c.loop.invariant.visited
 
 pub walk_list-loop-init : goal.walk_list-loop-init
-walk_list-loop-init g t c = record { values = []; gone = gone_none marks.ListOpen c.args.level c.args.octets.now c.args.tally.now c.requires.low; visited = no_items c.args.visitor.now }
+walk_list-loop-init g t c = record {
+  values = [];
+  gone = gone_none marks.ListOpen c.args.level c.args.octets.now c.args.tally.now c.requires.low;
+  visited = no_items c.args.visitor.now;
+}
 
 pub walk_list-loop-preserved-then-behind : goal.walk_list-loop-preserved-then-behind
 walk_list-loop-preserved-then-behind g t c =
@@ -43,13 +54,16 @@ walk_list-loop-preserved-then-behind g t c =
     let at = c.loop.at in
     let j = c.walk_blank-at.result in
     let vs = c.loop.invariant.values in
-    let gone = gone_blank marks.ListOpen c.args.level octets (take (length octets - at) (drop at octets)) at c.args.tally.now c.loop.tally (λ ss. frames.List ss vs) (element_now c.loop.behind) (depths vs) (sum (map nodes vs)) c.loop.invariant.gone (take_rest octets at)
+    let gone = gone_blank marks.ListOpen c.args.level octets (take (length octets - at) (drop at octets)) at c.args.tally.now c.loop.tally
+    (λ ss. frames.List ss vs) (element_now c.loop.behind) (depths vs) (sum (map nodes vs)) c.loop.invariant.gone (take_rest octets at)
     c.walk_blank-at.new.tally j c.walk_blank-at.ensures.passed c.walk_blank-at.ensures.within (element_still c.loop.behind) c.walk_blank-at.ensures.noted in
     record {
       values = vs;
       gone = subst (λ k. ListGone c.args.level octets (at + j + k) c.args.tally.now c.walk_comma.new.tally vs false) (sym c.in_ok-comma.ensures.one)
-          (list_comma_on c.args.level octets (take (length octets - (at + j)) (drop (at + j) octets)) (at + j) c.args.tally.now c.walk_blank-at.new.tally c.walk_comma.new.tally (take_rest octets (at + j)) vs
-          (subst (λ b. ListGone c.args.level octets (at + j) c.args.tally.now c.walk_blank-at.new.tally vs b) c.if-behind.true gone) c.in_ok-comma.ensures.some c.in_ok-comma.ensures.comma c.in_ok-comma.ensures.noted);
+          (list_comma_on c.args.level octets (take (length octets - (at + j)) (drop (at + j) octets)) (at + j) c.args.tally.now c.walk_blank-at.new.tally
+          c.walk_comma.new.tally (take_rest octets (at + j)) vs
+          (subst (λ b. ListGone c.args.level octets (at + j) c.args.tally.now c.walk_blank-at.new.tally vs b) c.if-behind.true gone) c.in_ok-comma.ensures.some
+          c.in_ok-comma.ensures.comma c.in_ok-comma.ensures.noted);
       visited = c.loop.invariant.visited;
     }
 
@@ -59,13 +73,17 @@ walk_list-loop-preserved g t c =
     let at = c.loop.at in
     let j = c.walk_blank-at.result in
     let vs = c.loop.invariant.values in
-    let gone = gone_blank marks.ListOpen c.args.level octets (take (length octets - at) (drop at octets)) at c.args.tally.now c.loop.tally (λ ss. frames.List ss vs) (element_now c.loop.behind) (depths vs) (sum (map nodes vs)) c.loop.invariant.gone (take_rest octets at)
+    let gone = gone_blank marks.ListOpen c.args.level octets (take (length octets - at) (drop at octets)) at c.args.tally.now c.loop.tally
+    (λ ss. frames.List ss vs) (element_now c.loop.behind) (depths vs) (sum (map nodes vs)) c.loop.invariant.gone (take_rest octets at)
     c.walk_blank-at.new.tally j c.walk_blank-at.ensures.passed c.walk_blank-at.ensures.within (element_still c.loop.behind) c.walk_blank-at.ensures.noted in
     record {
       values = vs ++ bare c.in_ok-value.ensures.walked.payload ∷ [];
-      gone = list_value_on c.args.level octets (take (length octets - (at + j)) (drop (at + j) octets)) (at + j) c.args.tally.now c.walk_blank-at.new.tally c.walk_value.new.tally (take_rest octets (at + j)) vs
-          (subst (λ b. ListGone c.args.level octets (at + j) c.args.tally.now c.walk_blank-at.new.tally vs b) c.if-behind.false gone) c.in_ok-value.value c.in_ok-value.ensures.walked;
-      visited = one_item vs (bare c.in_ok-value.ensures.walked.payload) _ _ _ c.loop.invariant.visited (bare_visited c.in_ok-value.ensures.walked.payload _ _ c.in_ok-value.ensures.visited);
+      gone = list_value_on c.args.level octets (take (length octets - (at + j)) (drop (at + j) octets)) (at + j) c.args.tally.now c.walk_blank-at.new.tally
+          c.walk_value.new.tally (take_rest octets (at + j)) vs
+          (subst (λ b. ListGone c.args.level octets (at + j) c.args.tally.now c.walk_blank-at.new.tally vs b) c.if-behind.false gone) c.in_ok-value.value
+          c.in_ok-value.ensures.walked;
+      visited = one_item vs (bare c.in_ok-value.ensures.walked.payload) _ _ _ c.loop.invariant.visited
+          (bare_visited c.in_ok-value.ensures.walked.payload _ _ c.in_ok-value.ensures.visited);
     }
 
 pub walk_sexp-returns-then-begins_with : goal.walk_sexp-returns-then-begins_with
@@ -75,12 +93,18 @@ walk_sexp-returns-then-begins_with g t c =
     let j = c.walk_blank-at.result in
     let vs = c.loop.invariant.values in
     let close = c.begins_with.ensures c.if-begins_with.true in
-    sexp_visited g.T.TextVisitor.visits c.args.level octets (take (length octets - (at + j)) (drop (at + j) octets)) (at + j) c.args.tally.now c.walk_blank-at.new.tally (take_rest octets (at + j)) close.0 _ _ vs
-    (gone_blank marks.SexpOpen c.args.level octets (take (length octets - at) (drop at octets)) at c.args.tally.now c.loop.tally (λ ss. frames.Sexp ss vs) nows.Ready (depths vs) (sum (map nodes vs)) c.loop.invariant.gone (take_rest octets at)
+    sexp_visited g.T.TextVisitor.visits c.args.level octets (take (length octets - (at + j)) (drop (at + j) octets)) (at + j) c.args.tally.now
+    c.walk_blank-at.new.tally (take_rest octets (at + j)) close.0 _ _ vs
+    (gone_blank marks.SexpOpen c.args.level octets (take (length octets - at) (drop at octets)) at c.args.tally.now c.loop.tally (λ ss. frames.Sexp ss vs)
+    nows.Ready (depths vs) (sum (map nodes vs)) c.loop.invariant.gone (take_rest octets at)
     c.walk_blank-at.new.tally j c.walk_blank-at.ensures.passed c.walk_blank-at.ensures.within tt c.walk_blank-at.ensures.noted) close.1 c.loop.invariant.visited
 
 pub walk_sexp-loop-init : goal.walk_sexp-loop-init
-walk_sexp-loop-init g t c = record { values = []; gone = gone_none marks.SexpOpen c.args.level c.args.octets.now c.args.tally.now c.requires.low; visited = no_items c.args.visitor.now }
+walk_sexp-loop-init g t c = record {
+  values = [];
+  gone = gone_none marks.SexpOpen c.args.level c.args.octets.now c.args.tally.now c.requires.low;
+  visited = no_items c.args.visitor.now;
+}
 
 pub walk_sexp-loop-preserved : goal.walk_sexp-loop-preserved
 walk_sexp-loop-preserved g t c =
@@ -88,12 +112,15 @@ walk_sexp-loop-preserved g t c =
     let at = c.loop.at in
     let j = c.walk_blank-at.result in
     let vs = c.loop.invariant.values in
-    let gone = gone_blank marks.SexpOpen c.args.level octets (take (length octets - at) (drop at octets)) at c.args.tally.now c.loop.tally (λ ss. frames.Sexp ss vs) nows.Ready (depths vs) (sum (map nodes vs)) c.loop.invariant.gone (take_rest octets at)
+    let gone = gone_blank marks.SexpOpen c.args.level octets (take (length octets - at) (drop at octets)) at c.args.tally.now c.loop.tally
+    (λ ss. frames.Sexp ss vs) nows.Ready (depths vs) (sum (map nodes vs)) c.loop.invariant.gone (take_rest octets at)
     c.walk_blank-at.new.tally j c.walk_blank-at.ensures.passed c.walk_blank-at.ensures.within tt c.walk_blank-at.ensures.noted in
     record {
       values = vs ++ bare c.in_ok-value.ensures.walked.payload ∷ [];
-      gone = sexp_value_on c.args.level octets (take (length octets - (at + j)) (drop (at + j) octets)) (at + j) c.args.tally.now c.walk_blank-at.new.tally c.walk_value.new.tally (take_rest octets (at + j)) vs gone c.in_ok-value.value c.in_ok-value.ensures.walked;
-      visited = one_item vs (bare c.in_ok-value.ensures.walked.payload) _ _ _ c.loop.invariant.visited (bare_visited c.in_ok-value.ensures.walked.payload _ _ c.in_ok-value.ensures.visited);
+      gone = sexp_value_on c.args.level octets (take (length octets - (at + j)) (drop (at + j) octets)) (at + j) c.args.tally.now c.walk_blank-at.new.tally
+          c.walk_value.new.tally (take_rest octets (at + j)) vs gone c.in_ok-value.value c.in_ok-value.ensures.walked;
+      visited = one_item vs (bare c.in_ok-value.ensures.walked.payload) _ _ _ c.loop.invariant.visited
+          (bare_visited c.in_ok-value.ensures.walked.payload _ _ c.in_ok-value.ensures.visited);
     }
 
 pub walk_struct-returns-then-begins_with : goal.walk_struct-returns-then-begins_with
@@ -103,12 +130,19 @@ walk_struct-returns-then-begins_with g t c =
     let j = c.walk_blank-at.result in
     let ms = c.loop.invariant.fields in
     let close = c.begins_with.ensures c.if-begins_with.true in
-    fields_visited g.T.TextVisitor.visits c.args.level octets (take (length octets - (at + j)) (drop (at + j) octets)) (at + j) c.args.tally.now c.walk_blank-at.new.tally (take_rest octets (at + j)) close.0 _ _ ms c.loop.behind
-    (gone_blank marks.FieldsOpen c.args.level octets (take (length octets - at) (drop at octets)) at c.args.tally.now c.loop.tally (λ ss. frames.Fields ss ms) (field_now c.loop.behind) (field_depths ms) (sum (map field_nodes ms)) c.loop.invariant.gone (take_rest octets at)
-    c.walk_blank-at.new.tally j c.walk_blank-at.ensures.passed c.walk_blank-at.ensures.within (field_still c.loop.behind) c.walk_blank-at.ensures.noted) close.1 c.loop.invariant.visited
+    fields_visited g.T.TextVisitor.visits c.args.level octets (take (length octets - (at + j)) (drop (at + j) octets)) (at + j) c.args.tally.now
+    c.walk_blank-at.new.tally (take_rest octets (at + j)) close.0 _ _ ms c.loop.behind
+    (gone_blank marks.FieldsOpen c.args.level octets (take (length octets - at) (drop at octets)) at c.args.tally.now c.loop.tally (λ ss. frames.Fields ss ms)
+    (field_now c.loop.behind) (field_depths ms) (sum (map field_nodes ms)) c.loop.invariant.gone (take_rest octets at)
+    c.walk_blank-at.new.tally j c.walk_blank-at.ensures.passed c.walk_blank-at.ensures.within (field_still c.loop.behind) c.walk_blank-at.ensures.noted) close.1
+    c.loop.invariant.visited
 
 pub walk_struct-loop-init : goal.walk_struct-loop-init
-walk_struct-loop-init g t c = record { fields = []; gone = gone_none marks.FieldsOpen c.args.level c.args.octets.now c.args.tally.now c.requires.low; visited = no_fields c.args.visitor.now }
+walk_struct-loop-init g t c = record {
+  fields = [];
+  gone = gone_none marks.FieldsOpen c.args.level c.args.octets.now c.args.tally.now c.requires.low;
+  visited = no_fields c.args.visitor.now;
+}
 
 pub walk_struct-loop-preserved-then-behind : goal.walk_struct-loop-preserved-then-behind
 walk_struct-loop-preserved-then-behind g t c =
@@ -116,13 +150,16 @@ walk_struct-loop-preserved-then-behind g t c =
     let at = c.loop.at in
     let j = c.walk_blank-at.result in
     let ms = c.loop.invariant.fields in
-    let gone = gone_blank marks.FieldsOpen c.args.level octets (take (length octets - at) (drop at octets)) at c.args.tally.now c.loop.tally (λ ss. frames.Fields ss ms) (field_now c.loop.behind) (field_depths ms) (sum (map field_nodes ms)) c.loop.invariant.gone (take_rest octets at)
+    let gone = gone_blank marks.FieldsOpen c.args.level octets (take (length octets - at) (drop at octets)) at c.args.tally.now c.loop.tally
+    (λ ss. frames.Fields ss ms) (field_now c.loop.behind) (field_depths ms) (sum (map field_nodes ms)) c.loop.invariant.gone (take_rest octets at)
     c.walk_blank-at.new.tally j c.walk_blank-at.ensures.passed c.walk_blank-at.ensures.within (field_still c.loop.behind) c.walk_blank-at.ensures.noted in
     record {
       fields = ms;
       gone = subst (λ k. FieldsGone c.args.level octets (at + j + k) c.args.tally.now c.walk_comma.new.tally ms false) (sym c.in_ok-comma.ensures.one)
-          (field_comma_on c.args.level octets (take (length octets - (at + j)) (drop (at + j) octets)) (at + j) c.args.tally.now c.walk_blank-at.new.tally c.walk_comma.new.tally (take_rest octets (at + j)) ms
-          (subst (λ b. FieldsGone c.args.level octets (at + j) c.args.tally.now c.walk_blank-at.new.tally ms b) c.if-behind.true gone) c.in_ok-comma.ensures.some c.in_ok-comma.ensures.comma c.in_ok-comma.ensures.noted);
+          (field_comma_on c.args.level octets (take (length octets - (at + j)) (drop (at + j) octets)) (at + j) c.args.tally.now c.walk_blank-at.new.tally
+          c.walk_comma.new.tally (take_rest octets (at + j)) ms
+          (subst (λ b. FieldsGone c.args.level octets (at + j) c.args.tally.now c.walk_blank-at.new.tally ms b) c.if-behind.true gone)
+          c.in_ok-comma.ensures.some c.in_ok-comma.ensures.comma c.in_ok-comma.ensures.noted);
       visited = c.loop.invariant.visited;
     }
 
@@ -134,12 +171,17 @@ walk_struct-loop-preserved g t c =
     let i = c.in_ok-name.name in
     let name = c.in_ok-name.ensures.walked.name in
     let ms = c.loop.invariant.fields in
-    let gone = gone_blank marks.FieldsOpen c.args.level octets (take (length octets - at) (drop at octets)) at c.args.tally.now c.loop.tally (λ ss. frames.Fields ss ms) (field_now c.loop.behind) (field_depths ms) (sum (map field_nodes ms)) c.loop.invariant.gone (take_rest octets at)
+    let gone = gone_blank marks.FieldsOpen c.args.level octets (take (length octets - at) (drop at octets)) at c.args.tally.now c.loop.tally
+    (λ ss. frames.Fields ss ms) (field_now c.loop.behind) (field_depths ms) (sum (map field_nodes ms)) c.loop.invariant.gone (take_rest octets at)
     c.walk_blank-at.new.tally j c.walk_blank-at.ensures.passed c.walk_blank-at.ensures.within (field_still c.loop.behind) c.walk_blank-at.ensures.noted in
-    let key = name_on c.args.level octets (take (length octets - (at + j)) (drop (at + j) octets)) (at + j) c.args.tally.now c.walk_blank-at.new.tally c.walk_name.new.tally (take_rest octets (at + j)) ms
-    (subst (λ b. FieldsGone c.args.level octets (at + j) c.args.tally.now c.walk_blank-at.new.tally ms b) c.if-behind.false gone) i c.in_ok-name.ensures.walked in
+    let key = name_on c.args.level octets (take (length octets - (at + j)) (drop (at + j) octets)) (at + j) c.args.tally.now c.walk_blank-at.new.tally
+    c.walk_name.new.tally (take_rest octets (at + j)) ms
+    (subst (λ b. FieldsGone c.args.level octets (at + j) c.args.tally.now c.walk_blank-at.new.tally ms b) c.if-behind.false gone) i
+    c.in_ok-name.ensures.walked in
     record {
       fields = ms ++ field_of name (bare c.in_ok-value.ensures.walked.payload) ∷ [];
-      gone = field_value_on c.args.level octets (take (length octets - (at + j + i)) (drop (at + j + i) octets)) (at + j + i) c.args.tally.now c.walk_name.new.tally c.walk_value.new.tally (take_rest octets (at + j + i)) ms name key c.in_ok-value.value c.in_ok-value.ensures.walked;
-      visited = one_field ms name (bare c.in_ok-value.ensures.walked.payload) _ _ _ _ c.loop.invariant.visited c.in_ok-name.ensures.visited (bare_visited c.in_ok-value.ensures.walked.payload _ _ c.in_ok-value.ensures.visited);
+      gone = field_value_on c.args.level octets (take (length octets - (at + j + i)) (drop (at + j + i) octets)) (at + j + i) c.args.tally.now
+          c.walk_name.new.tally c.walk_value.new.tally (take_rest octets (at + j + i)) ms name key c.in_ok-value.value c.in_ok-value.ensures.walked;
+      visited = one_field ms name (bare c.in_ok-value.ensures.walked.payload) _ _ _ _ c.loop.invariant.visited c.in_ok-name.ensures.visited
+          (bare_visited c.in_ok-value.ensures.walked.payload _ _ c.in_ok-value.ensures.visited);
     }

@@ -24,10 +24,21 @@ returns g c =
     let rest = c.args.tally.now.rest in
     let f = c.requires.found in
     let s : Scalar = record { token = token; kind = c.number_kind.result; waits = false } in
-    let found : FoundScalar c.args.here rest octets s = record { kept = f.kept; content = Number' number; payload = number_payload number; found = f.found; says = f.says; is = λ setting spot fs ss. refl; flat = c.number_kind.ensures } in
+    let found : FoundScalar c.args.here rest octets s = record {
+      kept = f.kept;
+      content = Number' number;
+      payload = number_payload number;
+      found =
+          f.found;
+      says = f.says;
+      is = λ setting spot fs ss. refl;
+      flat = c.number_kind.ensures;
+    } in
     let inside = found_within c.args.here rest octets token.kind f.kept token.count token.left f.found in
     let within : token.count + 0 ≤ length octets = omega arith in
     let none : token.count ≡ token.count + 0 = omega arith in
-    scalar_visited g.T.TextVisitor.visits c.args.here rest octets s (number_payload number) (record { token = found; is = refl }) c.args.level (token.count + 0) c.pass_scalar.result c.args.tally.now c.pass_scalar.new.self _ _ c.pass_scalar.ensures.total
+    scalar_visited g.T.TextVisitor.visits c.args.here rest octets s (number_payload number) (record { token = found; is = refl }) c.args.level (token.count + 0)
+    c.pass_scalar.result c.args.tally.now c.pass_scalar.new.self _ _ c.pass_scalar.ensures.total
     (walked_scalar c.args.here c.args.level rest octets s found c.args.tally.now c.pass_scalar.new.self 0 c.requires.low refl within
-    (subst (λ k. LeadsBehind c.args.here c.args.level rest octets k (past_token c.args.here rest token.kind token.count) (number_payload number)) none (scalar_leads c.args.here c.args.level rest octets s found refl)) c.pass_scalar.ensures.noted) (c.number.ensures c.if-not-number.false)
+    (subst (λ k. LeadsBehind c.args.here c.args.level rest octets k (past_token c.args.here rest token.kind token.count) (number_payload number)) none
+    (scalar_leads c.args.here c.args.level rest octets s found refl)) c.pass_scalar.ensures.noted) (c.number.ensures c.if-not-number.false)

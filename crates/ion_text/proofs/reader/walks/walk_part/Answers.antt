@@ -16,9 +16,11 @@ returns-then-scalar g c =
     let behind = c.in_ok-between.ensures in
     let inside = behind.within in
     let within : s.token.count + m ≤ length octets = omega arith in
-    scalar_visited g.T.TextVisitor.visits c.args.here rest octets s (payload_of c.args.said.now) c.requires.found c.args.level (s.token.count + m) c.pass_scalar.result c.args.tally.now c.pass_scalar.new.self _ _ c.pass_scalar.ensures.total
+    scalar_visited g.T.TextVisitor.visits c.args.here rest octets s (payload_of c.args.said.now) c.requires.found c.args.level (s.token.count + m)
+    c.pass_scalar.result c.args.tally.now c.pass_scalar.new.self _ _ c.pass_scalar.ensures.total
     (walked_scalar c.args.here c.args.level rest octets s found c.args.tally.now c.pass_scalar.new.self m c.requires.low refl within
-    (symbol_leads c.args.here c.args.level rest octets s found m c.if-scalar.true inside behind.passed behind.ends) c.pass_scalar.ensures.noted) (c.part.ensures c.if-not-part.false)
+    (symbol_leads c.args.here c.args.level rest octets s found m c.if-scalar.true inside behind.passed behind.ends) c.pass_scalar.ensures.noted)
+    (c.part.ensures c.if-not-part.false)
 
 pub returns : goal.returns
 returns g c =
@@ -29,6 +31,8 @@ returns g c =
     let inside = found_within c.args.here rest octets s.token.kind found.kept s.token.count s.token.left found.found in
     let within : s.token.count + 0 ≤ length octets = omega arith in
     let none : s.token.count ≡ s.token.count + 0 = omega arith in
-    scalar_visited g.T.TextVisitor.visits c.args.here rest octets s (payload_of c.args.said.now) c.requires.found c.args.level (s.token.count + 0) c.pass_scalar-2.result c.args.tally.now c.pass_scalar-2.new.self _ _ c.pass_scalar-2.ensures.total
+    scalar_visited g.T.TextVisitor.visits c.args.here rest octets s (payload_of c.args.said.now) c.requires.found c.args.level (s.token.count + 0)
+    c.pass_scalar-2.result c.args.tally.now c.pass_scalar-2.new.self _ _ c.pass_scalar-2.ensures.total
     (walked_scalar c.args.here c.args.level rest octets s found c.args.tally.now c.pass_scalar-2.new.self 0 c.requires.low refl within
-    (subst (λ k. LeadsBehind c.args.here c.args.level rest octets k (past_token c.args.here rest s.token.kind s.token.count) found.payload) none (scalar_leads c.args.here c.args.level rest octets s found c.if-scalar.false)) c.pass_scalar-2.ensures.noted) (c.part.ensures c.if-not-part.false)
+    (subst (λ k. LeadsBehind c.args.here c.args.level rest octets k (past_token c.args.here rest s.token.kind s.token.count) found.payload) none
+    (scalar_leads c.args.here c.args.level rest octets s found c.if-scalar.false)) c.pass_scalar-2.ensures.noted) (c.part.ensures c.if-not-part.false)

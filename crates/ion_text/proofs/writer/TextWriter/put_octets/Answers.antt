@@ -13,6 +13,8 @@ returns-clause-writes g c =
     let is : c.note_fault.result ≡ c.write_whole-answer.result = search rules in (
       found.0,
       found.1,
-      wrote_value g.W.Outlet c.args.self.now c.note_fault.new.self c.args.out.now c.write_whole-answer.new.writer found.0.value c.deref.result.now (sym c.self.view_is ∙ none) octets c.write_whole-answer.result c.note_fault.result is
-          c.write_whole-answer.ensures.whole c.write_whole-answer.ensures.front c.write_whole-answer.ensures.cause (subst (λ f. OnOk c.note_fault.result (c.note_fault.new.self ≡ f)) none c.note_fault.ensures.kept) c.note_fault.ensures.failed,
+      wrote_value g.W.Outlet c.args.self.now c.note_fault.new.self c.args.out.now c.write_whole-answer.new.writer found.0.value c.deref.result.now
+          (sym c.self.view_is ∙ none) octets c.write_whole-answer.result c.note_fault.result is
+          c.write_whole-answer.ensures.whole c.write_whole-answer.ensures.front c.write_whole-answer.ensures.cause
+          (subst (λ f. OnOk c.note_fault.result (c.note_fault.new.self ≡ f)) none c.note_fault.ensures.kept) c.note_fault.ensures.failed,
     )

@@ -98,7 +98,8 @@ module _ (g : Catalog) (l : Limits) where
       go true = h
       go false = tt
 
-  top_settled : (item start end : ℕ) (c : List Slot) (v : Value) (d : Result (List Slot) Reason) (b : Bool) → SettledCalm (if b then turned item start end d else within item start end (gives v (fresh c)))
+  top_settled : (item start end : ℕ) (c : List Slot) (v : Value) (d : Result (List Slot) Reason) (b : Bool)
+      → SettledCalm (if b then turned item start end d else within item start end (gives v (fresh c)))
   top_settled item start end c v (Ok d) true = within_settled item start end (goes (fresh d)) (λ m h. tt)
   top_settled item start end c v (Err e) true = tt
   top_settled item start end c v d false = within_settled item start end (gives v (fresh c)) (λ m h. tt)
@@ -124,7 +125,8 @@ module _ (g : Catalog) (l : Limits) where
   released_settled spot [] (s ∷ ss) h = paid_settled spot [] (s ∷ ss) (held_payload h)
   released_settled spot (f ∷ fs) ss h = paid_settled spot (f ∷ fs) ss (held_payload h)
 
-  pub settle_settled : (start : ℕ) (c : List Slot) (fs : List Frame) (ss : Symbols) (now : Now) → (is_top fs ≡ true → IsTopNow now) → SettledCalm (settle g l (at start c fs ss now))
+  pub settle_settled : (start : ℕ) (c : List Slot) (fs : List Frame) (ss : Symbols) (now : Now) → (is_top fs ≡ true → IsTopNow now)
+      → SettledCalm (settle g l (at start c fs ss now))
   settle_settled start c fs ss (nows.Pending h end) k = released_settled (spot_at end start c) fs ss h
   settle_settled start c fs ss (nows.Long w end) k = ended_settled (spot_at end start c) fs _
   settle_settled start c fs ss (nows.LongName w) k = λ m h. k h
@@ -166,15 +168,18 @@ module _ (g : Catalog) (l : Limits) where
 
   -- an octet that is used, and what comes of the others
   abbrev Went : Effect → (State → Run) → List Value → Type 0
-  Went x rest all = ((n : State) × (x ≡ uses n) × Streamed (rest n) all) ⊎ ((v : Value) × (n : State) × (others : List Value) × (x ≡ tells v n) × (all ≡ v ∷ others) × Streamed (rest n) others)
+  Went x rest all = ((n : State) × (x ≡ uses n) × Streamed (rest n) all)
+      ⊎ ((v : Value) × (n : State) × (others : List Value) × (x ≡ tells v n) × (all ≡ v ∷ others) × Streamed (rest n) others)
 
   went_run : (to : ℕ) (again : State → Effect) (rest : State → Run) (x : Effect) (all : List Value) → Went x rest all → Streamed (run_on to again rest x) all
   went_run to again rest x all (inl (n, e, h)) = subst (λ y. Streamed (run_on to again rest y) all) (sym e) h
-  went_run to again rest x all (inr (v, n, others, e, f, h)) = subst (λ y. Streamed (run_on to again rest y) all) (sym e) (with_streamed v (to + 1) (rest n) others all h f)
+  went_run to again rest x all (inr (v, n, others, e, f, h)) =
+      subst (λ y. Streamed (run_on to again rest y) all) (sym e) (with_streamed v (to + 1) (rest n) others all h f)
 
   went_more : (to : ℕ) (rest : State → Run) (x : Effect) (all : List Value) → Went x rest all → Streamed (once_more to rest x) all
   went_more to rest x all (inl (n, e, h)) = subst (λ y. Streamed (once_more to rest y) all) (sym e) h
-  went_more to rest x all (inr (v, n, others, e, f, h)) = subst (λ y. Streamed (once_more to rest y) all) (sym e) (with_streamed v (to + 1) (rest n) others all h f)
+  went_more to rest x all (inr (v, n, others, e, f, h)) = subst (λ y. Streamed (once_more to rest y) all) (sym e)
+      (with_streamed v (to + 1) (rest n) others all h f)
 
   -- the octet shows that what waits goes on, or nothing waits
   abbrev DirectAt : Reading → Outcome → Type 0
@@ -185,46 +190,62 @@ module _ (g : Catalog) (l : Limits) where
     again = λ k. takes g l 2 k o
 
     eats_direct : (r : Reading) (x : Outcome) → feed (place r) s o ≡ x → DirectAt r x → eats g l (with_scan s r) o ≡ on_scan g l (λ k. takes g l 2 k o) r x
-    eats_direct r x e w = subst (λ y. eats g l (with_scan s r) o ≡ on_scan g l (λ k. takes g l 2 k o) r y) e (go (unsettled s r (feed (place r) s o)) refl (subst (DirectAt r) (sym e) w))
+    eats_direct r x e w = subst (λ y. eats g l (with_scan s r) o ≡ on_scan g l (λ k. takes g l 2 k o) r y) e
+        (go (unsettled s r (feed (place r) s o)) refl (subst (DirectAt r) (sym e) w))
       where
         go : (b : Bool) → unsettled s r (feed (place r) s o) ≡ b → DirectAt r (feed (place r) s o)
-            → (if b then on_scan g l (λ k. takes g l 2 k o) r (feed (place r) s o) else on_settled g l (λ k. takes g l 2 k o) s (feed (place r) s o) (settle g l r)) ≡ on_scan g l (λ k. takes g l 2 k o) r (feed (place r) s o)
+            → (if b then on_scan g l (λ k. takes g l 2 k o) r (feed (place r) s o) else on_settled g l (λ k. takes g l 2 k o) s (feed (place r) s o)
+            (settle g l r)) ≡ on_scan g l (λ k. takes g l 2 k o) r (feed (place r) s o)
         go true f d = refl
         go false f (inl d) = absurd (let n : true ≡ false = sym (waits_unsettled s r (feed (place r) s o) d) ∙ f in cc)
         go false f (inr d) = ap (on_settled g l (λ k. takes g l 2 k o) s (feed (place r) s o)) d
 
-    eats_settled : (r : Reading) (x : Outcome) (t : Turn) → feed (place r) s o ≡ x → NotRefused x → waits r x ≡ false → settle g l r ≡ t → eats g l (with_scan s r) o ≡ on_settled g l (λ k. takes g l 2 k o) s x t
-    eats_settled r x t e told w f = subst (λ y. eats g l (with_scan s r) o ≡ on_settled g l (λ k. takes g l 2 k o) s y t) e (go (unsettled s r (feed (place r) s o)) (ap (unsettled s r) e ∙ settles_then (place r) s r o x e told w))
+    eats_settled : (r : Reading) (x : Outcome) (t : Turn) → feed (place r) s o ≡ x → NotRefused x → waits r x ≡ false → settle g l r ≡ t
+        → eats g l (with_scan s r) o ≡ on_settled g l (λ k. takes g l 2 k o) s x t
+    eats_settled r x t e told w f = subst (λ y. eats g l (with_scan s r) o ≡ on_settled g l (λ k. takes g l 2 k o) s y t) e
+        (go (unsettled s r (feed (place r) s o)) (ap (unsettled s r) e ∙ settles_then (place r) s r o x e told w))
       where
-        go : (b : Bool) → b ≡ false → (if b then on_scan g l (λ k. takes g l 2 k o) r (feed (place r) s o) else on_settled g l (λ k. takes g l 2 k o) s (feed (place r) s o) (settle g l r)) ≡ on_settled g l (λ k. takes g l 2 k o) s (feed (place r) s o) t
+        go : (b : Bool) → b ≡ false → (if b then on_scan g l (λ k. takes g l 2 k o) r (feed (place r) s o) else on_settled g l (λ k. takes g l 2 k o) s
+            (feed (place r) s o) (settle g l r)) ≡ on_settled g l (λ k. takes g l 2 k o) s (feed (place r) s o) t
         go true h = absurd cc
         go false h = ap (on_settled g l (λ k. takes g l 2 k o) s (feed (place r) s o)) f
 
     -- An octet that is used, by what comes of it at the scanner.
-    used_run : (to : ℕ) (rest : State → Run) (x : Outcome) (ts : List Placed) (r : Reading) (all : List Value) → feed (place r) s o ≡ x → NotRefused x → TopOk g l r → EndedBy s r → Going g l r ts all → (waits r x ≡ false → TurnGoes g l (settle g l r) ts all)
-        → ((k : Reading) (all : List Value) → place k ≡ place r → TopOk g l k → EndedBy s k → Going g l k ts all → DirectAt k x → Went (on_scan g l (λ k. takes g l 2 k o) k x) rest all)
+    used_run : (to : ℕ) (rest : State → Run) (x : Outcome) (ts : List Placed) (r : Reading) (all : List Value) → feed (place r) s o ≡ x → NotRefused x
+        → TopOk g l r → EndedBy s r → Going g l r ts all → (waits r x ≡ false → TurnGoes g l (settle g l r) ts all)
+        → ((k : Reading) (all : List Value) → place k ≡ place r → TopOk g l k → EndedBy s k → Going g l k ts all → DirectAt k x
+        → Went (on_scan g l (λ k. takes g l 2 k o) k x) rest all)
         → Streamed (run_on to (λ n. eats g l n o) rest (eats g l (with_scan s r) o)) all
     used_run to rest x ts r all e told ok ended d settled went = go (waits r x) refl
       where
-        direct : (k : Reading) (all : List Value) → place k ≡ place r → TopOk g l k → EndedBy s k → Going g l k ts all → DirectAt k x → Went (eats g l (with_scan s k) o) rest all
+        direct : (k : Reading) (all : List Value) → place k ≡ place r → TopOk g l k → EndedBy s k → Going g l k ts all → DirectAt k x
+            → Went (eats g l (with_scan s k) o) rest all
         direct k all p ok ended d w = subst (λ y. Went y rest all) (sym (eats_direct k x (ap (λ q. feed q s o) p ∙ e) w)) (went k all p ok ended d w)
 
-        by : (t : Turn) → settle g l r ≡ t → waits r x ≡ false → Leading g l (λ n. (place n ≡ place r) × (is_top n.frames ≡ is_top r.frames)) t → Leading g l (λ n. settle g l n ≡ goes n) t → SettledCalm t → TurnGoes g l t ts all → Streamed (run_on to (λ n. eats g l n o) rest (eats g l (with_scan s r) o)) all
+        by : (t : Turn) → settle g l r ≡ t → waits r x ≡ false → Leading g l (λ n. (place n ≡ place r) × (is_top n.frames ≡ is_top r.frames)) t
+            → Leading g l (λ n. settle g l n ≡ goes n) t → SettledCalm t → TurnGoes g l t ts all
+            → Streamed (run_on to (λ n. eats g l n o) rest (eats g l (with_scan s r) o)) all
         by (goes k) f w a b c i =
-            let scan : eats g l (with_scan s r) o ≡ eats g l (with_scan s k) o = eats_settled r x (goes k) e told w f ∙ sym (eats_direct k x (ap (λ q. feed q s o) a.0 ∙ e) (inr b)) in
+            let scan : eats g l (with_scan s r) o ≡ eats g l (with_scan s k) o =
+            eats_settled r x (goes k) e told w f ∙ sym (eats_direct k x (ap (λ q. feed q s o) a.0 ∙ e) (inr b)) in
             subst (λ y. Streamed (run_on to (λ n. eats g l n o) rest y) all) (sym scan)
-            (went_run to (λ n. eats g l n o) rest (eats g l (with_scan s k) o) all (direct k all a.0 (λ h. calm_now k.now modes.Blank (c modes.Blank h)) (settled_ended k s.used c) i (inr b)))
+            (went_run to (λ n. eats g l n o) rest (eats g l (with_scan s k) o) all
+            (direct k all a.0 (λ h. calm_now k.now modes.Blank (c modes.Blank h)) (settled_ended k s.used c) i (inr b)))
         by (gives v k) f w a b c i =
             subst (λ y. Streamed (run_on to (λ n. eats g l n o) rest y) all) (sym (eats_settled r x (gives v k) e told w f))
-            (with_streamed v to (once_more to rest (eats g l (with_scan s k) o)) i.0 all (went_more to rest (eats g l (with_scan s k) o) i.0 (direct k i.0 a.0 (λ h. calm_now k.now modes.Blank (c modes.Blank h)) (settled_ended k s.used c) i.2 (inr b))) i.1)
+            (with_streamed v to (once_more to rest (eats g l (with_scan s k) o)) i.0 all
+            (went_more to rest (eats g l (with_scan s k) o) i.0
+            (direct k i.0 a.0 (λ h. calm_now k.now modes.Blank (c modes.Blank h)) (settled_ended k s.used c) i.2 (inr b))) i.1)
         by (refuses y) f w a b c i = absurd i
         by (late y k) f w a b c i = absurd i
 
         go : (b : Bool) → waits r x ≡ b → Streamed (run_on to (λ n. eats g l n o) rest (eats g l (with_scan s r) o)) all
         go true w = went_run to (λ n. eats g l n o) rest (eats g l (with_scan s r) o) all (direct r all refl ok ended d (inl w))
-        go false w = by (settle g l r) refl w (settle_same g l r.start r.context r.frames r.notes r.now) (settle_still g l r.start r.context r.frames r.notes r.now) (settle_settled r.start r.context r.frames r.notes r.now ok) (settled w)
+        go false w = by (settle g l r) refl w (settle_same g l r.start r.context r.frames r.notes r.now)
+            (settle_still g l r.start r.context r.frames r.notes r.now) (settle_settled r.start r.context r.frames r.notes r.now ok) (settled w)
 
-  pub waits_calm : (fs : List Frame) (now : Now) (s : Known) → (is_top fs ≡ true → IsTopNow now) → waits_now (is_top fs) now (Next s) ≡ true → is_top fs ≡ true → CalmNow now s.mode
+  pub waits_calm : (fs : List Frame) (now : Now) (s : Known) → (is_top fs ≡ true → IsTopNow now) → waits_now (is_top fs) now (Next s) ≡ true → is_top fs ≡ true
+      → CalmNow now s.mode
   waits_calm fs (nows.Pending h e) s k w top = w
   waits_calm fs (nows.Long v e) s k w top = w
   waits_calm fs (nows.LongName v) s k w top = k top
@@ -234,17 +255,21 @@ module _ (g : Catalog) (l : Limits) where
   waits_calm fs (nows.Keyed y) s k w top = k top
 
   -- where the scanner goes on
-  next_went : (s s' : Known) (os : List ℕ) (ts : List Placed) (o : ℕ) (rest : State → Run) → Meets s' os ts → is_sane s'.mode ≡ true → Fine s' → s'.used ≡ s.used + 1 → Operators ts
+  next_went : (s s' : Known) (os : List ℕ) (ts : List Placed) (o : ℕ) (rest : State → Run) → Meets s' os ts → is_sane s'.mode ≡ true → Fine s'
+      → s'.used ≡ s.used + 1 → Operators ts
       → ((k : Reading) (all : List Value) → Calm s' k → Going g l k ts all → Streamed (rest (with_scan s' k)) all)
-      → (k : Reading) (all : List Value) → TopOk g l k → EndedBy s k → Going g l k ts all → DirectAt k (Next s') → Went (on_scan g l (λ k. takes g l 2 k o) k (Next s')) rest all
-  next_went s s' os ts o rest m sane fine used ops more k all ok ended d w = inl (with_scan s' k, quiet g l s' os sane fine (omega (arith, used)) k all (calm w) ts m ops d, more k all (calm w) d)
+      → (k : Reading) (all : List Value) → TopOk g l k → EndedBy s k → Going g l k ts all → DirectAt k (Next s')
+      → Went (on_scan g l (λ k. takes g l 2 k o) k (Next s')) rest all
+  next_went s s' os ts o rest m sane fine used ops more k all ok ended d w =
+      inl (with_scan s' k, quiet g l s' os sane fine (omega (arith, used)) k all (calm w) ts m ops d, more k all (calm w) d)
     where
       calm : DirectAt k (Next s') → Calm s' k
       calm (inl h) = λ top. (waits_calm k.frames k.now s' ok h top, ended_more k.now s.used s'.used (omega (arith, used)) (ended top))
       calm (inr h) = λ top. (still_calm k s'.mode ok h top, ended_more k.now s.used s'.used (omega (arith, used)) (ended top))
 
   -- what a turn leads to may stand at the top level, and ended with the token
-  pub turn_ok : (r : Reading) (c : Content) (item start end : ℕ) (t : Turn) → Spans (is_top r.frames) c item start end t → Leading g l (λ n. is_top n.frames ≡ true → IsTopNow n.now × EndedIn end n.now) t
+  pub turn_ok : (r : Reading) (c : Content) (item start end : ℕ) (t : Turn) → Spans (is_top r.frames) c item start end t
+      → Leading g l (λ n. is_top n.frames ≡ true → IsTopNow n.now × EndedIn end n.now) t
   turn_ok r c item start end (goes n) (inl (inl h, from, to)) = λ k. absurd (let x : true ≡ false = sym k ∙ h in cc)
   turn_ok r c item start end (goes n) (inl (inr (top, new, ok), from, to)) = λ k. (ok, ended_at n.now end to)
   turn_ok r c item start end (goes n) (inr h) = λ k. subst (λ x. IsTopNow x × EndedIn end x) (sym (fresh_top n h.2)) (tt, tt)
@@ -253,12 +278,15 @@ module _ (g : Catalog) (l : Limits) where
   turn_ok r c item start end (late e n) h = tt
 
   -- where a token is given
-  given_went : (s s' : Known) (os : List ℕ) (t : Placed) (ts : List Placed) (o : ℕ) (rest : State → Run) → Meets s' os ts → is_sane s'.mode ≡ true → is_idle s'.mode ≡ true → Fine s' → 1 ≤ s'.used → t.lexeme.end ≡ s'.used → Operators ts → is_two_quotes t.lexeme.kind t.lexeme.start t.lexeme.end ≡ false
+  given_went : (s s' : Known) (os : List ℕ) (t : Placed) (ts : List Placed) (o : ℕ) (rest : State → Run) → Meets s' os ts → is_sane s'.mode ≡ true
+      → is_idle s'.mode ≡ true → Fine s' → 1 ≤ s'.used → t.lexeme.end ≡ s'.used → Operators ts → is_two_quotes t.lexeme.kind t.lexeme.start t.lexeme.end ≡ false
       → ((k : Reading) (all : List Value) → Calm s' k → Going g l k ts all → Streamed (rest (with_scan s' k)) all)
-      → (k : Reading) (all : List Value) → TopOk g l k → EndedBy s k → Going g l k (t ∷ ts) all → DirectAt k (Given t.lexeme s') → Went (on_scan g l (λ k. takes g l 2 k o) k (Given t.lexeme s')) rest all
+      → (k : Reading) (all : List Value) → TopOk g l k → EndedBy s k → Going g l k (t ∷ ts) all → DirectAt k (Given t.lexeme s')
+      → Went (on_scan g l (λ k. takes g l 2 k o) k (Given t.lexeme s')) rest all
   given_went s s' os t ts o rest m sane idle fine used last ops two more k all ok ended d w =
       subst (λ y. Went y rest all) (sym (ap (λ y. on_said y (λ c. behind_given l s' (turn g l k (token_of t.lexeme c)))) p.2))
-      (by (turn g l k (token_of t.lexeme p.1)) (turn_ok k p.1 l.item (start_now k.now k.start t.lexeme.start k.frames k.notes) t.lexeme.end (turn g l k (token_of t.lexeme p.1)) (turn_spans g l k (token_of t.lexeme p.1) ok)) (going_turn g l k t ts all p.1 d p.2 (direct w)))
+      (by (turn g l k (token_of t.lexeme p.1)) (turn_ok k p.1 l.item (start_now k.now k.start t.lexeme.start k.frames k.notes) t.lexeme.end
+      (turn g l k (token_of t.lexeme p.1)) (turn_spans g l k (token_of t.lexeme p.1) ok)) (going_turn g l k t ts all p.1 d p.2 (direct w)))
     where
       p : (t.place ≡ place k) × (c : Content) × (said t.lexeme.kind t.lexeme.octets ≡ Ok c)
       p = going_said g l k t ts all d
@@ -270,7 +298,8 @@ module _ (g : Catalog) (l : Limits) where
       calm : (n : Reading) → (is_top n.frames ≡ true → IsTopNow n.now × EndedIn t.lexeme.end n.now) → Calm s' n
       calm n h top = (idle_calm n.now s'.mode (h top).0 idle, ended_more n.now t.lexeme.end s'.used (omega (arith, last)) (h top).1)
 
-      by : (x : Turn) → Leading g l (λ n. is_top n.frames ≡ true → IsTopNow n.now × EndedIn t.lexeme.end n.now) x → TurnGoes g l x ts all → Went (behind_given l s' x) rest all
+      by : (x : Turn) → Leading g l (λ n. is_top n.frames ≡ true → IsTopNow n.now × EndedIn t.lexeme.end n.now) x → TurnGoes g l x ts all
+          → Went (behind_given l s' x) rest all
       by (goes n) h e = inl (with_scan s' n, quiet g l s' os sane fine used n all (calm n h) ts m ops e, more n all (calm n h) e)
       by (gives v n) h e = inr (v, with_scan s' n, e.0, refl, e.1, more n e.0 (calm n h) e.2)
       by (refuses y) h e = absurd e
@@ -280,7 +309,8 @@ module _ (g : Catalog) (l : Limits) where
   ready_still r e = subst (λ n. settle g l (at r.start r.context r.frames r.notes n) ≡ goes (at r.start r.context r.frames r.notes n)) (sym e) refl
 
   -- no colon stands where a value may come
-  no_colon : (k : Reading) (t : Placed) (ts : List Placed) (all : List Value) → k.now ≡ nows.Ready → Going g l k (t ∷ ts) all → t.lexeme.kind ≡ kinds.Mark marks.Colon → ⊥
+  no_colon : (k : Reading) (t : Placed) (ts : List Placed) (all : List Value) → k.now ≡ nows.Ready → Going g l k (t ∷ ts) all
+      → t.lexeme.kind ≡ kinds.Mark marks.Colon → ⊥
   no_colon k t ts all e d i =
       let p = going_said g l k t ts all d in
       let c = mark_said t.lexeme.kind t.lexeme.octets marks.Colon p.1 i (said_body t.lexeme.kind t.lexeme.octets p.1 p.2) in
@@ -289,8 +319,10 @@ module _ (g : Catalog) (l : Limits) where
       (subst (λ y. TurnGoes g l (turn g l k (token_of t.lexeme y)) ts all) c d')
 
   -- where something waited at the top level, a colon doesn't follow
-  settled_colon : (r : Reading) (t : Placed) (ts : List Placed) (all : List Value) → is_top r.frames ≡ true → TopOk g l r → TurnGoes g l (settle g l r) (t ∷ ts) all → t.lexeme.kind ≡ kinds.Mark marks.Colon → ⊥
-  settled_colon r t ts all top ok d i = by (settle g l r) (settle_same g l r.start r.context r.frames r.notes r.now) (settle_settled r.start r.context r.frames r.notes r.now ok) d
+  settled_colon : (r : Reading) (t : Placed) (ts : List Placed) (all : List Value) → is_top r.frames ≡ true → TopOk g l r
+      → TurnGoes g l (settle g l r) (t ∷ ts) all → t.lexeme.kind ≡ kinds.Mark marks.Colon → ⊥
+  settled_colon r t ts all top ok d i = by (settle g l r) (settle_same g l r.start r.context r.frames r.notes r.now)
+      (settle_settled r.start r.context r.frames r.notes r.now ok) d
     where
       by : (x : Turn) → Leading g l (λ n. (place n ≡ place r) × (is_top n.frames ≡ is_top r.frames)) x → SettledCalm x → TurnGoes g l x (t ∷ ts) all → ⊥
       by (goes k) a b e = no_colon k t ts all (always_calm k.now (λ m. b m (a.1 ∙ top))) e i
@@ -299,7 +331,8 @@ module _ (g : Catalog) (l : Limits) where
       by (late y k) a b e = e
 
   -- `''` doesn't go on with a long string
-  no_long : (begin end start : ℕ) (slots : List Slot) (fs : List Frame) (ss : Symbols) (c : Content) (w : List ℕ) (e : ℕ) (ts : List Placed) (all : List Value) → is_long_said c ≡ false → TurnGoes g l (turn_now (under g l) (at start slots fs ss (nows.Long w e)) (token_at begin end c) (nows.Long w e)) ts all → ⊥
+  no_long : (begin end start : ℕ) (slots : List Slot) (fs : List Frame) (ss : Symbols) (c : Content) (w : List ℕ) (e : ℕ) (ts : List Placed) (all : List Value)
+      → is_long_said c ≡ false → TurnGoes g l (turn_now (under g l) (at start slots fs ss (nows.Long w e)) (token_at begin end c) (nows.Long w e)) ts all → ⊥
   no_long begin end start slots fs ss (Long v) w e ts all h d = absurd cc
   no_long begin end start slots fs ss (Word v) w e ts all h d = d
   no_long begin end start slots fs ss (Id v) w e ts all h d = d
@@ -313,12 +346,16 @@ module _ (g : Catalog) (l : Limits) where
   no_long begin end start slots fs ss (Mark' v) w e ts all h d = d
 
   -- a token that goes on with a long string is a segment
-  long_turn : (r : Reading) (t : Placed) (c : Content) (w : List ℕ) (e : ℕ) (ts : List Placed) (all : List Value) → r.now ≡ nows.Long w e → is_segment t.lexeme.kind ≡ false → IsBody t.lexeme.kind t.lexeme.octets (Ok c) → TurnGoes g l (turn g l r (token_of t.lexeme c)) ts all → ⊥
-  long_turn r t c w e ts all n h b d = no_long t.lexeme.start t.lexeme.end r.start r.context r.frames r.notes c w e ts all (sym (segment_agree t.lexeme.kind t.lexeme.octets c b) ∙ h) (subst (λ y. TurnGoes g l (turn_now (under g l) r (token_at t.lexeme.start t.lexeme.end c) y) ts all) n d)
+  long_turn : (r : Reading) (t : Placed) (c : Content) (w : List ℕ) (e : ℕ) (ts : List Placed) (all : List Value) → r.now ≡ nows.Long w e
+      → is_segment t.lexeme.kind ≡ false → IsBody t.lexeme.kind t.lexeme.octets (Ok c) → TurnGoes g l (turn g l r (token_of t.lexeme c)) ts all → ⊥
+  long_turn r t c w e ts all n h b d = no_long t.lexeme.start t.lexeme.end r.start r.context r.frames r.notes c w e ts all
+      (sym (segment_agree t.lexeme.kind t.lexeme.octets c b) ∙ h)
+      (subst (λ y. TurnGoes g l (turn_now (under g l) r (token_at t.lexeme.start t.lexeme.end c) y) ts all) n d)
 
   module _ (s s' : Known) (o : ℕ) (t : Placed) (sane : is_sane s.mode ≡ true) (fine : Fine s) (exactly : Exact s) where
     -- where a token is left before the octet
-    left_run : (to : ℕ) (os : List ℕ) (ts : List Placed) (r : Reading) (all : List Value) → feed (place r) s o ≡ Left t.lexeme s' → Operators (t ∷ ts) → Calm s r → Going g l r (t ∷ ts) all
+    left_run : (to : ℕ) (os : List ℕ) (ts : List Placed) (r : Reading) (all : List Value) → feed (place r) s o ≡ Left t.lexeme s' → Operators (t ∷ ts)
+        → Calm s r → Going g l r (t ∷ ts) all
         → ((k : Reading) (all : List Value) → Calm s' k → Going g l k ts all → Streamed (run g l to (with_scan s' k) (o ∷ os)) all)
         → Streamed (run g l to (with_scan s r) (o ∷ os)) all
     left_run to os ts r all e ops calm d more = go (waits r (Left t.lexeme s')) refl
@@ -333,7 +370,8 @@ module _ (g : Catalog) (l : Limits) where
         f = finely_as (place r) s o (Left t.lexeme s') fine e
 
         agree : waits r (Left t.lexeme s') ≡ continues r (token_of t.lexeme p.1)
-        agree = left_agrees r.frames r.now s' t.lexeme p.1 body (left_colons (place r) s s' o t.lexeme sane e) f.1 (left_two (place r) s s' o t.lexeme fine exactly e)
+        agree = left_agrees r.frames r.now s' t.lexeme p.1 body (left_colons (place r) s s' o t.lexeme sane e) f.1
+            (left_two (place r) s s' o t.lexeme fine exactly e)
 
         ok : TopOk g l r
         ok = calm_ok g l s r calm
@@ -348,9 +386,11 @@ module _ (g : Catalog) (l : Limits) where
         no_close c i k = let n : true ≡ false = sym (closes_kind t.lexeme.kind t.lexeme.octets c k (said_body t.lexeme.kind t.lexeme.octets c i)) ∙ f.5 in cc
 
         -- behind what was settled
-        behind : (k : Reading) (rest : List Value) → place k ≡ place r → TopOk g l k → settle g l k ≡ goes k → Going g l k (t ∷ ts) rest → (x : Effect) → x ≡ on_scan g l (λ k. takes g l 2 k o) k (Left t.lexeme s') → Streamed (run_on to (λ n. eats g l n o) next x) rest
+        behind : (k : Reading) (rest : List Value) → place k ≡ place r → TopOk g l k → settle g l k ≡ goes k → Going g l k (t ∷ ts) rest → (x : Effect)
+            → x ≡ on_scan g l (λ k. takes g l 2 k o) k (Left t.lexeme s') → Streamed (run_on to (λ n. eats g l n o) next x) rest
         behind k rest here ok still d x same =
-            subst (λ y. Streamed (run_on to (λ n. eats g l n o) next y) rest) (sym (same ∙ ap (λ y. on_said y (λ c. behind_left (λ k. takes g l 2 k o) s' (turn g l k (token_of t.lexeme c)))) q.2))
+            subst (λ y. Streamed (run_on to (λ n. eats g l n o) next y) rest)
+            (sym (same ∙ ap (λ y. on_said y (λ c. behind_left (λ k. takes g l 2 k o) s' (turn g l k (token_of t.lexeme c)))) q.2))
             (by (turn g l k (token_of t.lexeme q.1)) (turn_spans g l k (token_of t.lexeme q.1) ok) (going_turn g l k t ts rest q.1 d q.2 (inr still)))
           where
             q : (t.place ≡ place k) × (c : Content) × (said t.lexeme.kind t.lexeme.octets ≡ Ok c)
@@ -359,7 +399,8 @@ module _ (g : Catalog) (l : Limits) where
             start : ℕ
             start = start_now k.now k.start t.lexeme.start k.frames k.notes
 
-            top_of : (n : Reading) → Spans (is_top k.frames) q.1 l.item start t.lexeme.end (goes n) → is_top n.frames ≡ true → (b : Bool) → is_top k.frames ≡ b → b ≡ true
+            top_of : (n : Reading) → Spans (is_top k.frames) q.1 l.item start t.lexeme.end (goes n) → is_top n.frames ≡ true → (b : Bool) → is_top k.frames ≡ b
+                → b ≡ true
             top_of n h i true j = refl
             top_of n (inl (inl h, from, to)) i false j = absurd (let x : true ≡ false = sym i ∙ h in cc)
             top_of n (inl (inr (h, new, ok), from, to)) i false j = absurd (let x : true ≡ false = sym h ∙ j in cc)
@@ -386,18 +427,22 @@ module _ (g : Catalog) (l : Limits) where
                 by' true j i = no_operator g l k t j q.0 ops.0 i
                 by' false j i = no_close q.1 q.2 (subst (λ b. IsClose b q.1) j h.1)
 
-            by : (y : Turn) → Spans (is_top k.frames) q.1 l.item start t.lexeme.end y → TurnGoes g l y ts rest → Streamed (run_on to (λ n. eats g l n o) next (behind_left (λ k. takes g l 2 k o) s' y)) rest
-            by (goes n) h i = subst (λ z. Streamed (run_on to (λ n. eats g l n o) next z) rest) (sym (twice_fuel g l (with_scan s' n) o leaving.1)) (more n rest (calm' n h) i)
+            by : (y : Turn) → Spans (is_top k.frames) q.1 l.item start t.lexeme.end y → TurnGoes g l y ts rest
+                → Streamed (run_on to (λ n. eats g l n o) next (behind_left (λ k. takes g l 2 k o) s' y)) rest
+            by (goes n) h i = subst (λ z. Streamed (run_on to (λ n. eats g l n o) next z) rest) (sym (twice_fuel g l (with_scan s' n) o leaving.1))
+                (more n rest (calm' n h) i)
             by (gives v n) h i =
                 let ready = fresh_top n h.2 in
                 with_streamed v to (once_more to next (eats g l (with_scan s' n) o)) i.0 rest
-                (subst (λ z. Streamed z i.0) (sym (more_same g l to (λ n. eats g l n o) next (eats g l (with_scan s' n) o) (eats_stays g l n s' o (ready_still n ready) (used n h (place n)))))
+                (subst (λ z. Streamed z i.0) (sym (more_same g l to (λ n. eats g l n o) next (eats g l (with_scan s' n) o)
+                (eats_stays g l n s' o (ready_still n ready) (used n h (place n)))))
                 (more n i.0 (λ j. subst (λ z. CalmNow z s'.mode × EndedIn s'.used z) (sym ready) (tt, tt)) i.2)) i.1
             by (refuses z) h i = absurd i
             by (late z n) h i = absurd i
 
         -- nothing that waits at the top level is ended by a token that is left
-        never_gives : (n : Now) → r.now ≡ n → is_top r.frames ≡ true → waits r (Left t.lexeme s') ≡ false → TurnGoes g l (settle g l r) (t ∷ ts) all → CalmNow n s.mode → (n ≡ nows.Ready → ⊥) → ⊥
+        never_gives : (n : Now) → r.now ≡ n → is_top r.frames ≡ true → waits r (Left t.lexeme s') ≡ false → TurnGoes g l (settle g l r) (t ∷ ts) all
+            → CalmNow n s.mode → (n ≡ nows.Ready → ⊥) → ⊥
         never_gives nows.Ready x top w y c z = z refl
         never_gives (nows.Pending h b) x top w y c z = idle (subst (IdleLeft (place r) s.used) e (idle_left (place r) s o c))
           where
@@ -415,15 +460,19 @@ module _ (g : Catalog) (l : Limits) where
             by false i =
                 let q : is_quoting s.mode ≡ true = sym (ap (λ b. b || is_quoting s.mode) i) ∙ c in
                 let k = quoting_left (place r) s s' o t.lexeme exactly q e in
-                let n : true ≡ false = sym (ap is_quoted k.0) ∙ (sym (ap (λ b. b && is_quoted t.lexeme.kind) top) ∙ (ap (λ b. waits_now (is_top r.frames) b (Left t.lexeme s')) (sym x) ∙ w)) in cc
+                let n : true ≡ false = sym (ap is_quoted k.0) ∙ (sym (ap (λ b. b && is_quoted t.lexeme.kind) top)
+                ∙ (ap (λ b. waits_now (is_top r.frames) b (Left t.lexeme s')) (sym x) ∙ w)) in cc
         never_gives nows.After x top w y c z = c
         never_gives nows.Name x top w y c z = c
         never_gives (nows.LongName v) x top w y c z = c
         never_gives (nows.Keyed v) x top w y c z = c
 
-        settled : (x : Turn) → settle g l r ≡ x → waits r (Left t.lexeme s') ≡ false → Leading g l (λ n. (place n ≡ place r) × (is_top n.frames ≡ is_top r.frames)) x → Leading g l (λ n. settle g l n ≡ goes n) x → SettledCalm x → TurnGoes g l x (t ∷ ts) all → Streamed (run g l to (with_scan s r) (o ∷ os)) all
+        settled : (x : Turn) → settle g l r ≡ x → waits r (Left t.lexeme s') ≡ false
+            → Leading g l (λ n. (place n ≡ place r) × (is_top n.frames ≡ is_top r.frames)) x → Leading g l (λ n. settle g l n ≡ goes n) x → SettledCalm x
+            → TurnGoes g l x (t ∷ ts) all → Streamed (run g l to (with_scan s r) (o ∷ os)) all
         settled (goes k) i w a b c y =
-            behind k all a.0 (λ h. calm_now k.now modes.Blank (c modes.Blank h)) b y (eats g l (with_scan s r) o) (eats_settled s o r (Left t.lexeme s') (goes k) e tt w i)
+            behind k all a.0 (λ h. calm_now k.now modes.Blank (c modes.Blank h)) b y (eats g l (with_scan s r) o)
+            (eats_settled s o r (Left t.lexeme s') (goes k) e tt w i)
         settled (gives v k) i w a b c y = absurd (never r.now refl)
           where
             top : is_top r.frames ≡ true
@@ -434,7 +483,8 @@ module _ (g : Catalog) (l : Limits) where
                 by false j = absurd (gives_top g l r v k j i)
 
             never : (n : Now) → r.now ≡ n → ⊥
-            never n x = never_gives n x top w (subst (λ z. TurnGoes g l z (t ∷ ts) all) (sym i) y) (subst (λ z. CalmNow z s.mode) x (calm top).0) (λ z. let q : goes r ≡ gives v k = sym (ready_still r (x ∙ z)) ∙ i in cc)
+            never n x = never_gives n x top w (subst (λ z. TurnGoes g l z (t ∷ ts) all) (sym i) y) (subst (λ z. CalmNow z s.mode) x (calm top).0)
+                (λ z. let q : goes r ≡ gives v k = sym (ready_still r (x ∙ z)) ∙ i in cc)
         settled (refuses z) i w a b c y = absurd y
         settled (late z k) i w a b c y = absurd y
 
@@ -449,16 +499,20 @@ module _ (g : Catalog) (l : Limits) where
 
         go : (b : Bool) → waits r (Left t.lexeme s') ≡ b → Streamed (run g l to (with_scan s r) (o ∷ os)) all
         go true w = absurd (waited r.now refl w (going_turn g l r t ts all p.1 d p.2 (inl (sym agree ∙ w))))
-        go false w = settled (settle g l r) refl w (settle_same g l r.start r.context r.frames r.notes r.now) (settle_still g l r.start r.context r.frames r.notes r.now) (settle_settled r.start r.context r.frames r.notes r.now ok) (going_settle g l r t ts all p.1 d p.2 (sym agree ∙ w))
+        go false w = settled (settle g l r) refl w (settle_same g l r.start r.context r.frames r.notes r.now)
+            (settle_still g l r.start r.context r.frames r.notes r.now) (settle_settled r.start r.context r.frames r.notes r.now ok)
+            (going_settle g l r t ts all p.1 d p.2 (sym agree ∙ w))
 
   -- what the end answers of a reading that is settled
-  settled_ends : (used : ℕ) (all : List Value) (x : Turn) → TurnEnds g l x all → (last : Option Value) × (end_settled used x ≡ Ok last) × (all ≡ option_to_list last)
+  settled_ends : (used : ℕ) (all : List Value) (x : Turn) → TurnEnds g l x all → (last : Option Value) × (end_settled used x ≡ Ok last)
+      × (all ≡ option_to_list last)
   settled_ends used all (goes m) d = (None, ap (λ b. if b then Ok None else cut_short used) (ap is_fresh d.0.1), d.1)
   settled_ends used all (gives v m) d = (Some v, refl, d.1)
   settled_ends used all (refuses e) d = absurd d
   settled_ends used all (late e m) d = absurd d
 
-  turned_ends : (used : ℕ) (all : List Value) (x : Turn) (top : Bool) (c : Content) (start end : ℕ) → Spans top c l.item start end x → TurnGoes g l x [] all → (last : Option Value) × (end_turned g l used x ≡ Ok last) × (all ≡ option_to_list last)
+  turned_ends : (used : ℕ) (all : List Value) (x : Turn) (top : Bool) (c : Content) (start end : ℕ) → Spans top c l.item start end x → TurnGoes g l x [] all
+      → (last : Option Value) × (end_turned g l used x ≡ Ok last) × (all ≡ option_to_list last)
   turned_ends used all (goes n) top c start end s d = settled_ends used all (settle g l n) (going_ends g l n all d)
   turned_ends used all (gives v n) top c start end s d =
       let e = subst (λ y. TurnEnds g l y d.0) (ready_still n (fresh_top n s.2)) (going_ends g l n d.0 d.2) in
@@ -467,7 +521,8 @@ module _ (g : Catalog) (l : Limits) where
   turned_ends used all (late e n) top c start end s d = absurd d
 
   -- the end ends a token
-  module _ (s : Known) (t : Placed) (fine : Fine s) (exactly : Exact s) (ops : Operators (t ∷ [])) (r : Reading) (all : List Value) (calm : Calm s r) (d : Going g l r (t ∷ []) all) (e : at_end t.place s ≡ Ok (Some t.lexeme)) where
+  module _ (s : Known) (t : Placed) (fine : Fine s) (exactly : Exact s) (ops : Operators (t ∷ [])) (r : Reading) (all : List Value) (calm : Calm s r)
+      (d : Going g l r (t ∷ []) all) (e : at_end t.place s ≡ Ok (Some t.lexeme)) where
     said_here : (t.place ≡ place r) × (c : Content) × (said t.lexeme.kind t.lexeme.octets ≡ Ok c)
     said_here = going_said g l r t [] all d
 
@@ -482,7 +537,8 @@ module _ (g : Catalog) (l : Limits) where
       where
         inside : InsideNext g l r.start t said_here.1 [] → ⊥
         inside (stays m rest a b x) = inside_end g l m rest a x
-        inside (closed a b) = let n : true ≡ false = sym (closes_kind t.lexeme.kind t.lexeme.octets said_here.1 b body_here) ∙ (at_end_fine t.place s t.lexeme e).3 in cc
+        inside (closed a b) = let n : true ≡ false = sym (closes_kind t.lexeme.kind t.lexeme.octets said_here.1 b body_here)
+            ∙ (at_end_fine t.place s t.lexeme e).3 in cc
 
         by : (b : Bool) → is_top r.frames ≡ b → b ≡ true
         by true h = refl
@@ -498,17 +554,22 @@ module _ (g : Catalog) (l : Limits) where
       where
         by : (t.lexeme.kind ≡ kinds.Mark marks.Colon) ⊎ (t.lexeme.kind ≡ kinds.Operator) → ⊥
         by (inl k) =
-            let shut : continues r (token_of t.lexeme said_here.1) ≡ false = ap (λ z. continues_now (is_top r.frames) z (token_of t.lexeme said_here.1)) x ∙ (sym (colons_agree (is_top r.frames) h y t.lexeme.start t.lexeme.end t.lexeme.kind t.lexeme.octets said_here.1 body_here) ∙ ap is_colons k) in
+            let shut : continues r (token_of t.lexeme said_here.1) ≡ false = ap (λ z. continues_now (is_top r.frames) z (token_of t.lexeme said_here.1)) x
+            ∙ (sym (colons_agree (is_top r.frames) h y t.lexeme.start t.lexeme.end t.lexeme.kind t.lexeme.octets said_here.1 body_here)
+            ∙ ap is_colons k) in
             settled_colon r t [] all top_here ok_here (going_settle g l r t [] all said_here.1 d said_here.2 shut) k
         by (inr k) = no_operator g l r t top_here said_here.0 ops.0 k
     no_waiting (nows.Long w y) x c = absurd (mode (is_idle s.mode) refl)
       where
-        long : continues r (token_of t.lexeme said_here.1) ≡ (is_segment t.lexeme.kind || (is_top r.frames && is_two_quotes t.lexeme.kind t.lexeme.start t.lexeme.end))
-        long = ap (λ z. continues_now (is_top r.frames) z (token_of t.lexeme said_here.1)) x ∙ long_goes (is_top r.frames) w y t.lexeme.start t.lexeme.end t.lexeme.kind t.lexeme.octets said_here.1 body_here
+        long : continues r (token_of t.lexeme said_here.1) ≡ (is_segment t.lexeme.kind ||
+            (is_top r.frames && is_two_quotes t.lexeme.kind t.lexeme.start t.lexeme.end))
+        long = ap (λ z. continues_now (is_top r.frames) z (token_of t.lexeme said_here.1)) x
+            ∙ long_goes (is_top r.frames) w y t.lexeme.start t.lexeme.end t.lexeme.kind t.lexeme.octets said_here.1 body_here
 
         by : (t.lexeme.kind ≡ kinds.Mark marks.Colon) ⊎ (t.lexeme.kind ≡ kinds.Operator) → ⊥
         by (inl k) =
-            let shut : continues r (token_of t.lexeme said_here.1) ≡ false = long ∙ (ap (λ z. is_segment z || (is_top r.frames && is_two_quotes z t.lexeme.start t.lexeme.end)) k ∙ none (is_top r.frames)) in
+            let shut : continues r (token_of t.lexeme said_here.1) ≡ false =
+            long ∙ (ap (λ z. is_segment z || (is_top r.frames && is_two_quotes z t.lexeme.start t.lexeme.end)) k ∙ none (is_top r.frames)) in
             settled_colon r t [] all top_here ok_here (going_settle g l r t [] all said_here.1 d said_here.2 shut) k
           where
             none : (b : Bool) → (b && false) ≡ false
@@ -520,11 +581,15 @@ module _ (g : Catalog) (l : Limits) where
         quoted q =
             let k = (at_end_fine t.place s t.lexeme e).5 q in
             let span = end_spans s (end_of t.place s.mode) t.lexeme e in
-            let two : is_two_quotes t.lexeme.kind t.lexeme.start t.lexeme.end ≡ true = ap (λ z. is_two_quotes z t.lexeme.start t.lexeme.end) k ∙ ended span (quotes_end t.place s t.lexeme q exactly e) in
-            let on : continues r (token_of t.lexeme said_here.1) ≡ true = long ∙ (ap (λ z. is_segment z || (is_top r.frames && is_two_quotes t.lexeme.kind t.lexeme.start t.lexeme.end)) k ∙ (ap (λ z. z && is_two_quotes t.lexeme.kind t.lexeme.start t.lexeme.end) top_here ∙ two)) in
+            let two : is_two_quotes t.lexeme.kind t.lexeme.start t.lexeme.end ≡ true = ap (λ z. is_two_quotes z t.lexeme.start t.lexeme.end) k
+            ∙ ended span (quotes_end t.place s t.lexeme q exactly e) in
+            let on : continues r (token_of t.lexeme said_here.1) ≡ true =
+            long ∙ (ap (λ z. is_segment z || (is_top r.frames && is_two_quotes t.lexeme.kind t.lexeme.start t.lexeme.end)) k
+            ∙ (ap (λ z. z && is_two_quotes t.lexeme.kind t.lexeme.start t.lexeme.end) top_here ∙ two)) in
             long_turn r t said_here.1 w y [] all x (ap is_segment k) body_here (going_turn g l r t [] all said_here.1 d said_here.2 (inl on))
           where
-            ended : (t.lexeme.start ≡ start_of s.mode s.start s.used) × (t.lexeme.end ≡ s.used) → (s.used ≡ start_of s.mode s.start s.used + 2) → (t.lexeme.end == t.lexeme.start + 2) ≡ true
+            ended : (t.lexeme.start ≡ start_of s.mode s.start s.used) × (t.lexeme.end ≡ s.used) → (s.used ≡ start_of s.mode s.start s.used + 2)
+                → (t.lexeme.end == t.lexeme.start + 2) ≡ true
             ended h k = test t.lexeme.start t.lexeme.end (omega (arith, h.0, h.1, k))
               where
                 test : (a b : ℕ) → b ≡ a + 2 → (b == a + 2) ≡ true
@@ -543,9 +608,14 @@ module _ (g : Catalog) (l : Limits) where
 
     token_ends : (last : Option Value) × (ends g l (with_scan s r) ≡ Ok last) × (all ≡ option_to_list last)
     token_ends =
-        let h = turned_ends s.used all (turn g l r (token_of t.lexeme said_here.1)) (is_top r.frames) said_here.1 (start_now r.now r.start t.lexeme.start r.frames r.notes) t.lexeme.end (turn_spans g l r (token_of t.lexeme said_here.1) ok_here)
-        (going_turn g l r t [] all said_here.1 d said_here.2 (inr (ready_still r ready_here))) in
-        (h.0, ap (λ n. end_now g l s.used r (at_end (place r) s) n) ready_here ∙ (ap (end_ready g l s.used r) ends_here ∙ (ap (end_said g l s.used r t.lexeme) said_here.2 ∙ h.1)), h.2)
+        let h = turned_ends s.used all (turn g l r (token_of t.lexeme said_here.1)) (is_top r.frames) said_here.1
+        (start_now r.now r.start t.lexeme.start r.frames r.notes) t.lexeme.end (turn_spans g l r (token_of t.lexeme said_here.1) ok_here)
+        (going_turn g l r t [] all said_here.1 d said_here.2 (inr (ready_still r ready_here))) in (
+          h.0,
+          ap (λ n. end_now g l s.used r (at_end (place r) s) n) ready_here
+              ∙ (ap (end_ready g l s.used r) ends_here ∙ (ap (end_said g l s.used r t.lexeme) said_here.2 ∙ h.1)),
+          h.2,
+        )
 
   -- where no token is left
   nothing_top : (r : Reading) (all : List Value) → Going g l r [] all → is_top r.frames ≡ true
@@ -555,7 +625,8 @@ module _ (g : Catalog) (l : Limits) where
       by true h = refl
       by false h = absurd (inside_end g l r all h d)
 
-  blank_ends : (s : Known) (r : Reading) (all : List Value) → Calm s r → Going g l r [] all → at_end places.Top s ≡ Ok None → (last : Option Value) × (ends g l (with_scan s r) ≡ Ok last) × (all ≡ option_to_list last)
+  blank_ends : (s : Known) (r : Reading) (all : List Value) → Calm s r → Going g l r [] all → at_end places.Top s ≡ Ok None → (last : Option Value)
+      × (ends g l (with_scan s r) ≡ Ok last) × (all ≡ option_to_list last)
   blank_ends s r all calm d e = by r.now refl (calm top).0
     where
       top : is_top r.frames ≡ true
@@ -565,24 +636,32 @@ module _ (g : Catalog) (l : Limits) where
       here = ap (λ p. at_end p s) (top_place r.frames r.now top) ∙ e
 
       by : (n : Now) → r.now ≡ n → CalmNow n s.mode → (last : Option Value) × (ends g l (with_scan s r) ≡ Ok last) × (all ≡ option_to_list last)
-      by (nows.Pending h y) x c = let z = settled_ends s.used all (settle g l r) (going_ends g l r all d) in (z.0, ap (λ n. end_now g l s.used r (at_end (place r) s) n) x ∙ (ap (λ w. end_waiting g l s.used w (settle g l r)) here ∙ z.1), z.2)
-      by (nows.Long w y) x c = let z = settled_ends s.used all (settle g l r) (going_ends g l r all d) in (z.0, ap (λ n. end_now g l s.used r (at_end (place r) s) n) x ∙ (ap (λ w. end_waiting g l s.used w (settle g l r)) here ∙ z.1), z.2)
+      by (nows.Pending h y) x c = let z = settled_ends s.used all (settle g l r) (going_ends g l r all d) in
+          (z.0, ap (λ n. end_now g l s.used r (at_end (place r) s) n) x ∙ (ap (λ w. end_waiting g l s.used w (settle g l r)) here ∙ z.1), z.2)
+      by (nows.Long w y) x c = let z = settled_ends s.used all (settle g l r) (going_ends g l r all d) in
+          (z.0, ap (λ n. end_now g l s.used r (at_end (place r) s) n) x ∙ (ap (λ w. end_waiting g l s.used w (settle g l r)) here ∙ z.1), z.2)
       by nows.Ready x c =
-          let z = subst (λ y. TurnEnds g l y all) (ready_still r x) (going_ends g l r all d) in
-          (None, ap (λ n. end_now g l s.used r (at_end (place r) s) n) x ∙ (ap (end_ready g l s.used r) here ∙ ap (λ b. if b then Ok None else cut_short s.used) (ap is_fresh z.0.1)), z.1)
+          let z = subst (λ y. TurnEnds g l y all) (ready_still r x) (going_ends g l r all d) in (
+            None,
+            ap (λ n. end_now g l s.used r (at_end (place r) s) n) x
+                ∙ (ap (end_ready g l s.used r) here ∙ ap (λ b. if b then Ok None else cut_short s.used) (ap is_fresh z.0.1)),
+            z.1,
+          )
       by nows.After x c = absurd c
       by nows.Name x c = absurd c
       by (nows.LongName w) x c = absurd c
       by (nows.Keyed y) x c = absurd c
 
   -- a blank octet doesn't settle what waits
-  blank_settled : (r : Reading) (s : Known) (all : List Value) → TopOk g l r → Going g l r [] all → is_idle s.mode ≡ true → waits r (Next s) ≡ false → TurnGoes g l (settle g l r) [] all
+  blank_settled : (r : Reading) (s : Known) (all : List Value) → TopOk g l r → Going g l r [] all → is_idle s.mode ≡ true → waits r (Next s) ≡ false
+      → TurnGoes g l (settle g l r) [] all
   blank_settled r s all ok d i w = by r.now refl (ok (nothing_top r all d))
     where
       by : (n : Now) → r.now ≡ n → IsTopNow n → TurnGoes g l (settle g l r) [] all
       by nows.Ready x k = subst (λ t. TurnGoes g l t [] all) (sym (ready_still r x)) d
       by (nows.Pending h y) x k = absurd (let n : true ≡ false = sym i ∙ (sym (ap (λ z. waits_now (is_top r.frames) z (Next s)) x) ∙ w) in cc)
-      by (nows.Long v y) x k = absurd (let n : true ≡ false = sym (ap (λ b. b || is_quoting s.mode) i) ∙ (sym (ap (λ z. waits_now (is_top r.frames) z (Next s)) x) ∙ w) in cc)
+      by (nows.Long v y) x k = absurd (let n : true ≡ false = sym (ap (λ b. b || is_quoting s.mode) i)
+          ∙ (sym (ap (λ z. waits_now (is_top r.frames) z (Next s)) x) ∙ w) in cc)
       by nows.After x k = absurd k
       by nows.Name x k = absurd k
       by (nows.LongName v) x k = absurd k
@@ -595,7 +674,8 @@ module _ (g : Catalog) (l : Limits) where
   exactly_as p s o x h e = subst Exactly e (feed_exact p s o h)
 
   -- Octets in which the scanner meets tokens that go on to the end are accepted, with all their values.
-  pub streams : (s : Known) (os : List ℕ) (ts : List Placed) → Meets s os ts → is_sane s.mode ≡ true → Fine s → Exact s → Operators ts → (to : ℕ) (r : Reading) (all : List Value) → Calm s r → Going g l r ts all → Streamed (run g l to (with_scan s r) os) all
+  pub streams : (s : Known) (os : List ℕ) (ts : List Placed) → Meets s os ts → is_sane s.mode ≡ true → Fine s → Exact s → Operators ts
+      → (to : ℕ) (r : Reading) (all : List Value) → Calm s r → Going g l r ts all → Streamed (run g l to (with_scan s r) os) all
   streams _ _ _ (at_blank s e) sane fine ex ops to r all calm d = blank_ends s r all calm d e
   streams _ _ _ (at_token s t e) sane fine ex ops to r all calm d = token_ends s t fine ex ops r all calm d e
   streams _ _ _ (in_blank s o os s' e m) sane fine ex ops to r all calm d =
@@ -603,7 +683,8 @@ module _ (g : Catalog) (l : Limits) where
       let a = follows_as (place r) s o (Next s') sane here in
       let f = finely_as (place r) s o (Next s') fine here in
       let i = blank_idle s' os m a.0 in
-      used_run s o to (λ n. run g l (to + 1) n os) (Next s') [] r all here tt (calm_ok g l s r calm) (calm_ended s r calm) d (blank_settled r s' all (calm_ok g l s r calm) d i)
+      used_run s o to (λ n. run g l (to + 1) n os) (Next s') [] r all here tt (calm_ok g l s r calm) (calm_ended s r calm) d
+      (blank_settled r s' all (calm_ok g l s r calm) d i)
       (λ k rest p ok ended d w. next_went s s' os [] o (λ n. run g l (to + 1) n os) m a.0 f (feed_used (place r) s s' o here) tt
       (λ k rest c d. streams s' os [] m a.0 f (exactly_as (place r) s o (Next s') ex here) tt (to + 1) k rest c d) k rest ok ended d w)
   streams _ _ _ (goes_on s o os t ts s' e m) sane fine ex ops to r all calm d =
@@ -635,7 +716,8 @@ module _ (g : Catalog) (l : Limits) where
   pub accepts : (u : List ℕ) (s : List Value) → Document g l u s → Streams (trace g l u) s
   accepts u s d =
       let r = pieces_read g l d.tokens s d.context d.pieces in
-      let going : Going g l (fresh system_slots) d.tokens s = record { vs = r.given; later = r.later; n = r.now; c = d.context; read = r.read; ends = r.settles; whole = r.all } in
+      let going : Going g l (fresh system_slots) d.tokens s =
+      record { vs = r.given; later = r.later; n = r.now; c = d.context; read = r.read; ends = r.settles; whole = r.all } in
       let ops = lexes_operators IsLastBlank' d.tokens false 0 u d.lexed in
       let met = finds_met g l initial u d.tokens (lexes_finds u d.tokens d.lexed) ops (fresh system_slots, s, going) in
       let x = streams initial u d.tokens met refl (record { enough = omega arith }) (record { is = tt }) ops 0 (fresh system_slots) s (λ h. (tt, tt)) going in

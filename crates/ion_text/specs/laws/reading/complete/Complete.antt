@@ -129,7 +129,9 @@ not_version _ = true
 word_not_version : (w : List ℕ) → is_version w ≡ false → not_version (held_word w) ≡ true
 word_not_version w h = go (bytes_eq w (codes "null")) (bytes_eq w (codes "true")) (bytes_eq w (codes "false")) (bytes_eq w (codes "nan")) (is_version w) h
   where
-    go : (a b c d e : Bool) → e ≡ false → not_version (if a then helds.Null values.Null else (if b then helds.Truth true else (if c then helds.Truth false else (if d then helds.Nan else (if e then helds.Version (bytes_eq w the_marker) (Some w) else helds.Symbol (Some w)))))) ≡ true
+    go : (a b c d e : Bool) → e ≡ false → not_version (if a then helds.Null values.Null else
+        (if b then helds.Truth true else (if c then helds.Truth false else
+        (if d then helds.Nan else (if e then helds.Version (bytes_eq w the_marker) (Some w) else helds.Symbol (Some w)))))) ≡ true
     go true b c d e h = refl
     go false true c d e h = refl
     go false false true d e h = refl
@@ -138,7 +140,9 @@ word_not_version w h = go (bytes_eq w (codes "null")) (bytes_eq w (codes "true")
     go false false false false false h = refl
 
 version_word : (p : Place) (t : Placed) (w : List ℕ) → Says p t (Word w) → is_version_word (t ∷ []) ≡ is_version w
-version_word p t w h = let e = word_token t.lexeme.kind t.lexeme.octets w h.body in ap (λ k. is_version_word (record { place = t.place; lexeme = record { start = t.lexeme.start; end = t.lexeme.end; kind = k; octets = t.lexeme.octets } } ∷ [])) e.0 ∙ ap is_version e.1
+version_word p t w h = let e = word_token t.lexeme.kind t.lexeme.octets w h.body in
+    ap (λ k. is_version_word (record { place = t.place; lexeme = record { start = t.lexeme.start; end = t.lexeme.end; kind = k; octets = t.lexeme.octets } }
+    ∷ [])) e.0 ∙ ap is_version e.1
 
 -- a word that is no keyword is held as its symbol
 abbrev IsHeldAs : Held → Option (List ℕ) → Type 0
@@ -147,7 +151,10 @@ IsHeldAs h s = (held_symbol h ≡ Ok s) × (held_payload h ≡ Ok (payloads.Symb
 word_held : (w : List ℕ) → is_keyword w ≡ false → IsHeldAs (held_word w) (Some w)
 word_held w h = go (bytes_eq w (codes "null")) (bytes_eq w (codes "true")) (bytes_eq w (codes "false")) (bytes_eq w (codes "nan")) (is_version w) h
   where
-    go : (a b c d e : Bool) → ((a || b) || (c || d)) ≡ false → IsHeldAs (if a then helds.Null values.Null else (if b then helds.Truth true else (if c then helds.Truth false else (if d then helds.Nan else (if e then helds.Version (bytes_eq w the_marker) (Some w) else helds.Symbol (Some w)))))) (Some w)
+    go : (a b c d e : Bool) → ((a || b) || (c || d)) ≡ false
+        → IsHeldAs (if a then helds.Null values.Null else (if b then helds.Truth true else
+        (if c then helds.Truth false else (if d then helds.Nan else (if e then helds.Version (bytes_eq w the_marker) (Some w) else helds.Symbol (Some w))))))
+        (Some w)
     go true b c d e h = absurd cc
     go false true c d e h = absurd cc
     go false false true d e h = absurd cc
@@ -166,9 +173,15 @@ module _ (g : Catalog) (l : Limits) where
     waits : on_ready (under g l) (spot_at end start c) fs ss said ≡ goes (at start c fs ss (nows.Pending held end))
     is : IsHeldAs held s
 
-  symbol_held : (end start : ℕ) (c : List Slot) (fs : List Frame) (ss : Symbols) (said : Content) (s : Option (List ℕ)) → IsSymbol c said s → Holds end start c fs ss said s
+  symbol_held : (end start : ℕ) (c : List Slot) (fs : List Frame) (ss : Symbols) (said : Content) (s : Option (List ℕ)) → IsSymbol c said s
+      → Holds end start c fs ss said s
   symbol_held end start c fs ss _ _ (is_word w h) = record { held = held_word w; waits = refl; is = word_held w h }
-  symbol_held end start c fs ss _ _ (is_id id s h) = record { held = helds.Symbol s; waits = ap (λ r. resolved r (λ s. goes (at start c fs ss (nows.Pending (helds.Symbol s) end)))) h; is = (refl, refl) }
+  symbol_held end start c fs ss _ _ (is_id id s h) = record {
+    held = helds.Symbol s;
+    waits =
+        ap (λ r. resolved r (λ s. goes (at start c fs ss (nows.Pending (helds.Symbol s) end)))) h;
+    is = (refl, refl);
+  }
   symbol_held end start c fs ss _ _ (is_quoted w) = record { held = helds.Symbol (Some w); waits = refl; is = (refl, refl) }
 
   -- where the item begins once these tokens have come
@@ -182,17 +195,21 @@ module _ (g : Catalog) (l : Limits) where
   begun_some x b (f ∷ fs) [] s = refl
   begun_some x b (f ∷ fs) (y ∷ ss) s = refl
 
-  starts_more : (start : ℕ) (fs : List Frame) (ts us : List Placed) (t : Placed) (ws : List Placed) → starts start fs (ts ++ t ∷ ws) ≡ starts start fs ((ts ++ t ∷ ws) ++ us)
+  starts_more : (start : ℕ) (fs : List Frame) (ts us : List Placed) (t : Placed) (ws : List Placed) → starts start fs (ts ++ t ∷ ws)
+      ≡ starts start fs ((ts ++ t ∷ ws) ++ us)
   starts_more start fs [] us t ws = refl
   starts_more start fs (x ∷ ts) us t ws = refl
 
   -- the item begins at its first token
-  pub begun_behind : (c : List Slot) (p : Place) (start : ℕ) (fs : List Frame) (ts : List Placed) (ss : Symbols) (t : Placed) (us : List Placed) → Annotations c p ts ss → begun_at (starts start fs ts) t.lexeme.start fs ss ≡ starts start fs (ts ++ t ∷ us)
+  pub begun_behind : (c : List Slot) (p : Place) (start : ℕ) (fs : List Frame) (ts : List Placed) (ss : Symbols) (t : Placed) (us : List Placed)
+      → Annotations c p ts ss → begun_at (starts start fs ts) t.lexeme.start fs ss ≡ starts start fs (ts ++ t ∷ us)
   begun_behind c p start fs _ _ t us no_annotation = refl
-  begun_behind c p start fs _ _ t us (one_annotation ts ss u colons said s d h i j) = begun_some _ t.lexeme.start fs ss s ∙ starts_more start fs ts (t ∷ us) u (colons ∷ [])
+  begun_behind c p start fs _ _ t us (one_annotation ts ss u colons said s d h i j) =
+      begun_some _ t.lexeme.start fs ss s ∙ starts_more start fs ts (t ∷ us) u (colons ∷ [])
 
   -- Annotations are read.
-  pub notes_read : (c : List Slot) (p : Place) (start : ℕ) (fs : List Frame) (ts : List Placed) (ss : Symbols) → p ≡ place_in fs nows.Ready → Annotations c p ts ss → reads g l (at start c fs [] nows.Ready) ts ≡ done (at (starts start fs ts) c fs ss nows.Ready)
+  pub notes_read : (c : List Slot) (p : Place) (start : ℕ) (fs : List Frame) (ts : List Placed) (ss : Symbols) → p ≡ place_in fs nows.Ready
+      → Annotations c p ts ss → reads g l (at start c fs [] nows.Ready) ts ≡ done (at (starts start fs ts) c fs ss nows.Ready)
   notes_read c p start fs _ _ here no_annotation = refl
   notes_read c p start fs _ _ here (one_annotation ts ss t colons said s d h i j) =
       let w = symbol_held t.lexeme.end (begun_at (starts start fs ts) t.lexeme.start fs ss) c fs ss said s i in
@@ -201,25 +218,30 @@ module _ (g : Catalog) (l : Limits) where
       ∙ (adds_none g l _
       ∙ (first_token g l p (at (starts start fs ts) c fs ss nows.Ready) t said (colons ∷ []) h here (inr refl)
       ∙ (ap (λ x. on_turn x (λ k. reads g l k (colons ∷ []))) w.waits
-      ∙ (first_token g l p (at (begun_at (starts start fs ts) t.lexeme.start fs ss) c fs ss (nows.Pending w.held t.lexeme.end)) colons (Mark' marks.Colons) [] j (here ∙ sym (pending_at fs w.held t.lexeme.end)) (inl refl)
+      ∙ (first_token g l p (at (begun_at (starts start fs ts) t.lexeme.start fs ss) c fs ss (nows.Pending w.held t.lexeme.end)) colons (Mark' marks.Colons) [] j
+      (here ∙ sym (pending_at fs w.held t.lexeme.end)) (inl refl)
       ∙ (ap (λ x. on_turn (noted (begun_at (starts start fs ts) t.lexeme.start fs ss) c fs ss x) (λ k. reads g l k [])) w.is.0
       ∙ ap (λ x. done (at x c fs (ss ++ s ∷ []) nows.Ready)) (begun_behind c p start fs ts ss t (colons ∷ []) d)))))))
 
   -- The tokens lead to this turn: with the last of them, or once it is known that nothing of what waits goes on.
   pub data LeadsToTurn (c : List Slot) (fs : List Frame) (r : Reading) (ts : List Placed) (t : Turn) : Type 0 where
     at_once : reads g l r ts ≡ on_turn t done → LeadsToTurn c fs r ts t
-    by_held : (start : ℕ) (ss : Symbols) (h : Held) (end : ℕ) → reads g l r ts ≡ done (at start c fs ss (nows.Pending h end)) → released (under g l) (spot_at end start c) fs ss h ≡ t → LeadsToTurn c fs r ts t
-    by_long' : (start : ℕ) (ss : Symbols) (w : List ℕ) (end : ℕ) → reads g l r ts ≡ done (at start c fs ss (nows.Long w end)) → ended (under g l) (spot_at end start c) fs (annotated ss (payloads.Str w)) ≡ t → ends_long ts ≡ true → LeadsToTurn c fs r ts t
+    by_held : (start : ℕ) (ss : Symbols) (h : Held) (end : ℕ) → reads g l r ts ≡ done (at start c fs ss (nows.Pending h end))
+        → released (under g l) (spot_at end start c) fs ss h ≡ t → LeadsToTurn c fs r ts t
+    by_long' : (start : ℕ) (ss : Symbols) (w : List ℕ) (end : ℕ) → reads g l r ts ≡ done (at start c fs ss (nows.Long w end))
+        → ended (under g l) (spot_at end start c) fs (annotated ss (payloads.Str w)) ≡ t → ends_long ts ≡ true → LeadsToTurn c fs r ts t
 
   -- Segments of a long string are read.
-  pub segments_read : (c : List Slot) (p : Place) (start : ℕ) (fs : List Frame) (ss : Symbols) (ts : List Placed) (w : List ℕ) → p ≡ place_in fs nows.Ready → Segments p ts w
+  pub segments_read : (c : List Slot) (p : Place) (start : ℕ) (fs : List Frame) (ss : Symbols) (ts : List Placed) (w : List ℕ) → p ≡ place_in fs nows.Ready
+      → Segments p ts w
       → reads g l (at start c fs ss nows.Ready) ts ≡ done (at (begun_at start (first_start 0 ts) fs ss) c fs ss (nows.Long w (end_of 0 ts)))
   segments_read c p start fs ss _ _ here (segment t w h) = first_token g l p (at start c fs ss nows.Ready) t (Long w) [] h here (inr refl)
   segments_read c p start fs ss _ _ here (joined ts v w t d h) =
       reads-append g l ts (t ∷ []) (at start c fs ss nows.Ready)
       ∙ (ap (λ x. then_walk x (λ k. reads g l k (t ∷ []))) (segments_read c p start fs ss ts v here d)
       ∙ (adds_none g l _
-      ∙ (first_token g l p (at (begun_at start (first_start 0 ts) fs ss) c fs ss (nows.Long v (end_of 0 ts))) t (Long w) [] h (here ∙ sym (long_at fs v (end_of 0 ts))) (inl refl)
+      ∙ (first_token g l p (at (begun_at start (first_start 0 ts) fs ss) c fs ss (nows.Long v (end_of 0 ts))) t (Long w) [] h
+      (here ∙ sym (long_at fs v (end_of 0 ts))) (inl refl)
       ∙ (ap (λ x. done (at (begun_at start (first_start 0 ts) fs ss) c fs ss (nows.Long (v ++ w) x))) (sym (end_more ts t 0))
       ∙ ap (λ x. done (at (begun_at start x fs ss) c fs ss (nows.Long (v ++ w) (end_of 0 (ts ++ t ∷ []))))) (first_more ts (segments_some ts v d))))))
     where
@@ -232,7 +254,8 @@ module _ (g : Catalog) (l : Limits) where
       segments_some _ _ (joined [] v w t d h) = (t, [], refl)
       segments_some _ _ (joined (u ∷ ts) v w t d h) = (u, ts ++ t ∷ [], refl)
 
-  pub released_paid : (end start : ℕ) (c : List Slot) (fs : List Frame) (ss : Symbols) (h : Held) → (fs ≡ [] → ss ≡ [] → not_version h ≡ true) → released (under g l) (spot_at end start c) fs ss h ≡ paid (under g l) (spot_at end start c) fs ss (held_payload h)
+  pub released_paid : (end start : ℕ) (c : List Slot) (fs : List Frame) (ss : Symbols) (h : Held) → (fs ≡ [] → ss ≡ [] → not_version h ≡ true)
+      → released (under g l) (spot_at end start c) fs ss h ≡ paid (under g l) (spot_at end start c) fs ss (held_payload h)
   released_paid end start c [] [] (helds.Version b s) n = absurd (let e : false ≡ true = n refl refl in cc)
   released_paid end start c [] [] (helds.Symbol s) n = refl
   released_paid end start c [] [] (helds.Null k) n = refl
@@ -242,16 +265,21 @@ module _ (g : Catalog) (l : Limits) where
   released_paid end start c (f ∷ fs) ss h n = refl
 
   -- a token of which it isn't known whether `::` follows
-  held_leads : (c : List Slot) (p : Place) (start : ℕ) (fs : List Frame) (ss : Symbols) (t : Placed) (said : Content) (h : Held) (q : Payload) → p ≡ place_in fs nows.Ready → Says p t said
-      → on_ready (under g l) (spot_at t.lexeme.end (begun_at start t.lexeme.start fs ss) c) fs ss said ≡ goes (at (begun_at start t.lexeme.start fs ss) c fs ss (nows.Pending h t.lexeme.end))
+  held_leads : (c : List Slot) (p : Place) (start : ℕ) (fs : List Frame) (ss : Symbols) (t : Placed) (said : Content) (h : Held) (q : Payload)
+      → p ≡ place_in fs nows.Ready → Says p t said
+      → on_ready (under g l) (spot_at t.lexeme.end (begun_at start t.lexeme.start fs ss) c) fs ss said
+      ≡ goes (at (begun_at start t.lexeme.start fs ss) c fs ss (nows.Pending h t.lexeme.end))
       → held_payload h ≡ Ok q → (fs ≡ [] → ss ≡ [] → not_version h ≡ true)
-      → LeadsToTurn c fs (at start c fs ss nows.Ready) (t ∷ []) (ended (under g l) (spot_at t.lexeme.end (begun_at start t.lexeme.start fs ss) c) fs (annotated ss q))
+      → LeadsToTurn c fs (at start c fs ss nows.Ready) (t ∷ [])
+      (ended (under g l) (spot_at t.lexeme.end (begun_at start t.lexeme.start fs ss) c) fs (annotated ss q))
   held_leads c p start fs ss t said h q here i w e n =
       by_held (begun_at start t.lexeme.start fs ss) ss h t.lexeme.end
       (first_token g l p (at start c fs ss nows.Ready) t said [] i here (inr refl) ∙ ap (λ x. on_turn x done) w)
-      (released_paid t.lexeme.end (begun_at start t.lexeme.start fs ss) c fs ss h n ∙ ap (paid (under g l) (spot_at t.lexeme.end (begun_at start t.lexeme.start fs ss) c) fs ss) e)
+      (released_paid t.lexeme.end (begun_at start t.lexeme.start fs ss) c fs ss h n
+      ∙ ap (paid (under g l) (spot_at t.lexeme.end (begun_at start t.lexeme.start fs ss) c) fs ss) e)
 
-  symbol_not_version : (c : List Slot) (p : Place) (start : ℕ) (fs : List Frame) (ss : Symbols) (t : Placed) (said : Content) (s : Option (List ℕ)) → Says p t said → (d : IsSymbol c said s) → is_version_word (t ∷ []) ≡ false
+  symbol_not_version : (c : List Slot) (p : Place) (start : ℕ) (fs : List Frame) (ss : Symbols) (t : Placed) (said : Content) (s : Option (List ℕ))
+      → Says p t said → (d : IsSymbol c said s) → is_version_word (t ∷ []) ≡ false
       → not_version (symbol_held t.lexeme.end start c fs ss said s d).held ≡ true
   unfolding symbol_held
   symbol_not_version c p start fs ss t _ _ h (is_word w k) v = word_not_version w (sym (version_word p t w h) ∙ v)
@@ -259,15 +287,18 @@ module _ (g : Catalog) (l : Limits) where
   symbol_not_version c p start fs ss t _ _ h (is_quoted w) v = refl
 
   -- One token that is a value is read.
-  pub scalar_read : (c : List Slot) (p : Place) (start : ℕ) (fs : List Frame) (ss : Symbols) (t : Placed) (said : Content) (q : Payload) → p ≡ place_in fs nows.Ready → Says p t said → IsScalar c said q → (fs ≡ [] → ss ≡ [] → is_version_word (t ∷ []) ≡ false)
-      → LeadsToTurn c fs (at start c fs ss nows.Ready) (t ∷ []) (ended (under g l) (spot_at t.lexeme.end (begun_at start t.lexeme.start fs ss) c) fs (annotated ss q))
+  pub scalar_read : (c : List Slot) (p : Place) (start : ℕ) (fs : List Frame) (ss : Symbols) (t : Placed) (said : Content) (q : Payload)
+      → p ≡ place_in fs nows.Ready → Says p t said → IsScalar c said q → (fs ≡ [] → ss ≡ [] → is_version_word (t ∷ []) ≡ false)
+      → LeadsToTurn c fs (at start c fs ss nows.Ready) (t ∷ [])
+      (ended (under g l) (spot_at t.lexeme.end (begun_at start t.lexeme.start fs ss) c) fs (annotated ss q))
   scalar_read c p start fs ss t _ _ here h is_null v = held_leads c p start fs ss t _ (helds.Null values.Null) _ here h refl refl (λ i j. refl)
   scalar_read c p start fs ss t _ _ here h (is_typed_null k) v = held_leads c p start fs ss t _ (helds.Null k) _ here h refl refl (λ i j. refl)
   scalar_read c p start fs ss t _ _ here h is_true v = held_leads c p start fs ss t _ (helds.Truth true) _ here h refl refl (λ i j. refl)
   scalar_read c p start fs ss t _ _ here h is_false v = held_leads c p start fs ss t _ (helds.Truth false) _ here h refl refl (λ i j. refl)
   scalar_read c p start fs ss t _ _ here h (is_symbol said s d) v =
       let w = symbol_held t.lexeme.end (begun_at start t.lexeme.start fs ss) c fs ss said s d in
-      held_leads c p start fs ss t said w.held _ here h w.waits w.is.1 (λ i j. symbol_not_version c p (begun_at start t.lexeme.start fs ss) fs ss t said s h d (v i j))
+      held_leads c p start fs ss t said w.held _ here h w.waits w.is.1
+      (λ i j. symbol_not_version c p (begun_at start t.lexeme.start fs ss) fs ss t said s h d (v i j))
   scalar_read c p start fs ss t _ _ here h (is_int z) v = at_once (first_token g l p (at start c fs ss nows.Ready) t _ [] h here (inr refl))
   scalar_read c p start fs ss t _ _ here h (is_decimal z) v = at_once (first_token g l p (at start c fs ss nows.Ready) t _ [] h here (inr refl))
   scalar_read c p start fs ss t _ _ here h (is_timestamp z) v = at_once (first_token g l p (at start c fs ss nows.Ready) t _ [] h here (inr refl))
@@ -289,7 +320,8 @@ module _ (g : Catalog) (l : Limits) where
   read_behind r n ts us e = reads-append g l ts us r ∙ (ap (λ x. then_walk x (λ k. reads g l k us)) e ∙ adds_none g l (reads g l n us))
 
   -- behind tokens that led somewhere
-  leads_behind : (c : List Slot) (fs : List Frame) (r n : Reading) (ts us : List Placed) (t : Turn) → reads g l r ts ≡ done n → LeadsToTurn c fs n us t → LeadsToTurn c fs r (ts ++ us) t
+  leads_behind : (c : List Slot) (fs : List Frame) (r n : Reading) (ts us : List Placed) (t : Turn) → reads g l r ts ≡ done n → LeadsToTurn c fs n us t
+      → LeadsToTurn c fs r (ts ++ us) t
   leads_behind c fs r n ts us t e (at_once h) = at_once (read_behind r n ts us e ∙ h)
   leads_behind c fs r n ts us t e (by_held start ss h end i j) = by_held start ss h end (read_behind r n ts us e ∙ i) j
   leads_behind c fs r n ts us t e (by_long' start ss w end i j k) = by_long' start ss w end (read_behind r n ts us e ∙ i) j (ends_behind ts us k)
@@ -302,7 +334,8 @@ module _ (g : Catalog) (l : Limits) where
     -- what may go on
     pub shuts : (t : Token) → continues now t ≡ true → (t.said ≡ Mark' marks.Colons) ⊎ ((ends_long ts ≡ true) × (w : List ℕ) × (t.said ≡ Long w))
 
-  pub pending_goes : (start : ℕ) (c : List Slot) (fs : List Frame) (ss : Symbols) (h : Held) (end : ℕ) (t : Token) → continues (at start c fs ss (nows.Pending h end)) t ≡ true → t.said ≡ Mark' marks.Colons
+  pub pending_goes : (start : ℕ) (c : List Slot) (fs : List Frame) (ss : Symbols) (h : Held) (end : ℕ) (t : Token)
+      → continues (at start c fs ss (nows.Pending h end)) t ≡ true → t.said ≡ Mark' marks.Colons
   pending_goes start c fs ss h end t e = go t.said e
     where
       go : (s : Content) → continues_now (is_top fs) (nows.Pending h end) (record { start = 0; end = 0; said = s }) ≡ true → s ≡ Mark' marks.Colons
@@ -326,7 +359,8 @@ module _ (g : Catalog) (l : Limits) where
       go (Clob w) e = absurd cc
       go (Blob w) e = absurd cc
 
-  long_goes : (start : ℕ) (c : List Slot) (f : Frame) (fs : List Frame) (ss : Symbols) (w : List ℕ) (end : ℕ) (t : Token) → continues (at start c (f ∷ fs) ss (nows.Long w end)) t ≡ true → (v : List ℕ) × (t.said ≡ Long v)
+  long_goes : (start : ℕ) (c : List Slot) (f : Frame) (fs : List Frame) (ss : Symbols) (w : List ℕ) (end : ℕ) (t : Token)
+      → continues (at start c (f ∷ fs) ss (nows.Long w end)) t ≡ true → (v : List ℕ) × (t.said ≡ Long v)
   long_goes start c f fs ss w end t e = go t.said e
     where
       go : (s : Content) → continues_now false (nows.Long w end) (record { start = t.start; end = t.end; said = s }) ≡ true → (v : List ℕ) × (s ≡ Long v)
@@ -342,13 +376,23 @@ module _ (g : Catalog) (l : Limits) where
       go (Clob w) e = absurd cc
       go (Blob w) e = absurd cc
 
-  reached : (c : List Slot) (f : Frame) (fs : List Frame) (r n : Reading) (ts : List Placed) → settle g l n ≡ goes n → ((t : Token) → continues n t ≡ false) → LeadsToTurn c (f ∷ fs) r ts (goes n) → Reached c r ts n
+  reached : (c : List Slot) (f : Frame) (fs : List Frame) (r n : Reading) (ts : List Placed) → settle g l n ≡ goes n → ((t : Token) → continues n t ≡ false)
+      → LeadsToTurn c (f ∷ fs) r ts (goes n) → Reached c r ts n
   reached c f fs r n ts s k (at_once h) = record { now = n; read = h; settles = s; shuts = λ t e. absurd (let i : true ≡ false = sym e ∙ k t in cc) }
-  reached c f fs r n ts s k (by_held start ss h end i j) = record { now = at start c (f ∷ fs) ss (nows.Pending h end); read = i; settles = j; shuts = λ t e. inl (pending_goes start c (f ∷ fs) ss h end t e) }
-  reached c f fs r n ts s k (by_long' start ss w end i j m) = record { now = at start c (f ∷ fs) ss (nows.Long w end); read = i; settles = j; shuts = λ t e. let x = long_goes start c f fs ss w end t e in inr (m, x.0, x.1) }
+  reached c f fs r n ts s k (by_held start ss h end i j) =
+      record { now = at start c (f ∷ fs) ss (nows.Pending h end); read = i; settles = j; shuts = λ t e. inl (pending_goes start c (f ∷ fs) ss h end t e) }
+  reached c f fs r n ts s k (by_long' start ss w end i j m) =
+      record {
+        now = at start c (f ∷ fs) ss (nows.Long w end);
+        read = i;
+        settles = j;
+        shuts = λ t e. let x = long_goes start c f fs ss w end t e in
+            inr (m, x.0, x.1);
+      }
 
   -- a mark that is no `::` ends what waits
-  mark_shut : (top : Bool) (n : Now) (start end : ℕ) (m : Mark) → (m ≡ marks.Colons → ⊥) → continues_now top n (record { start = start; end = end; said = Mark' m }) ≡ false
+  mark_shut : (top : Bool) (n : Now) (start end : ℕ) (m : Mark) → (m ≡ marks.Colons → ⊥)
+      → continues_now top n (record { start = start; end = end; said = Mark' m }) ≡ false
   mark_shut top (nows.Pending h e) start end marks.Colons k = absurd (k refl)
   mark_shut top (nows.Pending h e) start end marks.Colon k = refl
   mark_shut top (nows.Pending h e) start end marks.Comma k = refl
@@ -366,7 +410,8 @@ module _ (g : Catalog) (l : Limits) where
   mark_shut top (nows.Keyed s) start end m k = refl
 
   -- behind what was reached, a mark is read where nothing waits
-  mark_behind : (c : List Slot) (p : Place) (r n : Reading) (ts : List Placed) (t : Placed) (m : Mark) → p ≡ place n → Reached c r ts n → Says p t (Mark' m) → (m ≡ marks.Colons → ⊥) → reads g l r (ts ++ t ∷ []) ≡ on_turn (turn g l n (token_of t.lexeme (Mark' m))) done
+  mark_behind : (c : List Slot) (p : Place) (r n : Reading) (ts : List Placed) (t : Placed) (m : Mark) → p ≡ place n → Reached c r ts n → Says p t (Mark' m)
+      → (m ≡ marks.Colons → ⊥) → reads g l r (ts ++ t ∷ []) ≡ on_turn (turn g l n (token_of t.lexeme (Mark' m))) done
   mark_behind c p r n ts t m here d h k =
       read_behind r d.now ts (t ∷ []) d.read
       ∙ behind_waiting g l p d.now n t (Mark' m) [] h here (mark_shut (is_top d.now.frames) d.now.now t.lexeme.start t.lexeme.end m k) d.settles
@@ -404,14 +449,30 @@ module _ (g : Catalog) (l : Limits) where
   scalar_no_colons c _ _ (is_blob w) e = cc
 
   begins_more : (p : Place) (ts us : List Placed) → Begins p ts → Begins p (ts ++ us)
-  begins_more p ts us b = record { first = b.first; later = b.later ++ us; said = b.said; cut = ap (λ x. x ++ us) b.cut; says = b.says; no_colons = b.no_colons }
+  begins_more p ts us b = record {
+    first = b.first;
+    later = b.later ++ us;
+    said = b.said;
+    cut =
+        ap (λ x. x ++ us) b.cut;
+    says = b.says;
+    no_colons = b.no_colons;
+  }
 
   pub segments_begin : (p : Place) (ts : List Placed) (w : List ℕ) → Segments p ts w → Begins p ts
   segments_begin p _ _ (segment t w h) = record { first = t; later = []; said = Long w; cut = refl; says = h; no_colons = λ e. cc }
   segments_begin p _ _ (joined ts v w t d h) = begins_more p ts (t ∷ []) (segments_begin p ts v d)
 
   plain_begins : (c : List Slot) (p : Place) (ts : List Placed) (q : Payload) → Plain c p ts q → Begins p ts
-  plain_begins c p _ _ (one_token p' t said q h i) = record { first = t; later = []; said = said; cut = refl; says = h; no_colons = scalar_no_colons c said q i }
+  plain_begins c p _ _ (one_token p' t said q h i) = record {
+    first = t;
+    later = [];
+    said = said;
+    cut = refl;
+    says =
+        h;
+    no_colons = scalar_no_colons c said q i;
+  }
   plain_begins c p ts _ (long_string p' _ w d) = segments_begin p ts w d
   plain_begins c p _ _ (is_list p' o e ts vs more h d i) = record { first = o; later = ts ++ e ∷ []; said = _; cut = refl; says = h; no_colons = λ e. cc }
   plain_begins c p _ _ (is_sexp p' o e ts vs h d i) = record { first = o; later = ts ++ e ∷ []; said = _; cut = refl; says = h; no_colons = λ e. cc }
@@ -420,17 +481,28 @@ module _ (g : Catalog) (l : Limits) where
   pub notes_begin : (c : List Slot) (p : Place) (ts us : List Placed) (ss : Symbols) → Annotations c p ts ss → Begins p us → Begins p (ts ++ us)
   notes_begin c p _ us _ no_annotation b = b
   notes_begin c p _ us _ (one_annotation ts ss t colons said s d h i j) b =
-      subst (Begins p) (sym (append_assoc ts (t ∷ colons ∷ []) us)) (notes_begin c p ts (t ∷ colons ∷ us) ss d (record { first = t; later = colons ∷ us; said = said; cut = refl; says = h; no_colons = symbol_no_colons c said s i }))
+      subst (Begins p) (sym (append_assoc ts (t ∷ colons ∷ []) us))
+      (notes_begin c p ts (t ∷ colons ∷ us) ss d (record {
+        first = t;
+        later = colons ∷ us;
+        said = said;
+        cut = refl;
+        says =
+            h;
+        no_colons = symbol_no_colons c said s i;
+      }))
 
   pub means_begins : (c : List Slot) (p : Place) (ts : List Placed) (v : Value) → Means c p ts v → Begins p ts
   means_begins c p _ _ (means p' notes ts ss q a d) = notes_begin c p notes ts ss a (plain_begins c p ts q d)
 
   -- the first token of a value doesn't go on with what waits
-  first_shut : (c : List Slot) (p : Place) (r n : Reading) (ts us : List Placed) (d : Reached c r ts n) (b : Begins p us) → (ends_long ts && begins_long us) ≡ false → continues d.now (token_of b.first.lexeme b.said) ≡ false
+  first_shut : (c : List Slot) (p : Place) (r n : Reading) (ts us : List Placed) (d : Reached c r ts n) (b : Begins p us) → (ends_long ts && begins_long us)
+      ≡ false → continues d.now (token_of b.first.lexeme b.said) ≡ false
   first_shut c p r n ts us d b e = go (continues d.now (token_of b.first.lexeme b.said)) refl
     where
       segment_first : (w : List ℕ) → b.said ≡ Long w → begins_long us ≡ true
-      segment_first w h = ap begins_long b.cut ∙ segment_kind b.first.lexeme.kind b.first.lexeme.octets w (subst (λ x. IsBody b.first.lexeme.kind b.first.lexeme.octets (Ok x)) h b.says.body)
+      segment_first w h = ap begins_long b.cut ∙ segment_kind b.first.lexeme.kind b.first.lexeme.octets w
+          (subst (λ x. IsBody b.first.lexeme.kind b.first.lexeme.octets (Ok x)) h b.says.body)
 
       none : (t : Token) → t ≡ token_of b.first.lexeme b.said → (t.said ≡ Mark' marks.Colons) ⊎ ((ends_long ts ≡ true) × (w : List ℕ) × (t.said ≡ Long w)) → ⊥
       none t k (inl h) = b.no_colons (sym (ap (λ (x : Token). x.said) k) ∙ h)
@@ -445,7 +517,8 @@ module _ (g : Catalog) (l : Limits) where
       go true k = absurd (none (token_of b.first.lexeme b.said) refl (d.shuts (token_of b.first.lexeme b.said) k))
 
   -- a value behind what was reached in an s-expression
-  pub item_behind : (c : List Slot) (p : Place) (r n : Reading) (ts us : List Placed) → settle g l n ≡ goes n → p ≡ place n → Reached c r ts n → Begins p us → (ends_long ts && begins_long us) ≡ false → reads g l r (ts ++ us) ≡ reads g l n us
+  pub item_behind : (c : List Slot) (p : Place) (r n : Reading) (ts us : List Placed) → settle g l n ≡ goes n → p ≡ place n → Reached c r ts n → Begins p us
+      → (ends_long ts && begins_long us) ≡ false → reads g l r (ts ++ us) ≡ reads g l n us
   item_behind c p r n ts us s here d b e =
       read_behind r d.now ts us d.read
       ∙ (ap (reads g l d.now) b.cut
@@ -453,7 +526,8 @@ module _ (g : Catalog) (l : Limits) where
       ∙ (sym (first_token g l p n b.first b.said b.later b.says here (inr s))
       ∙ sym (ap (reads g l n) b.cut))))
 
-  leads_as : (c : List Slot) (fs : List Frame) (r n : Reading) (ts us : List Placed) (t : Turn) → reads g l r (ts ++ us) ≡ reads g l n us → LeadsToTurn c fs n us t → LeadsToTurn c fs r (ts ++ us) t
+  leads_as : (c : List Slot) (fs : List Frame) (r n : Reading) (ts us : List Placed) (t : Turn) → reads g l r (ts ++ us) ≡ reads g l n us
+      → LeadsToTurn c fs n us t → LeadsToTurn c fs r (ts ++ us) t
   leads_as c fs r n ts us t e (at_once h) = at_once (e ∙ h)
   leads_as c fs r n ts us t e (by_held start ss h end i j) = by_held start ss h end (e ∙ i) j
   leads_as c fs r n ts us t e (by_long' start ss w end i j k) = by_long' start ss w end (e ∙ i) j (ends_behind ts us k)
@@ -465,7 +539,8 @@ module _ (g : Catalog) (l : Limits) where
   lift P ts b h = subst P (sym b.2) h
 
   -- without annotations the payload's tokens are the value's
-  unnoted : (c : List Slot) (p : Place) (notes ts : List Placed) (ss : Symbols) (fs : List Frame) → Annotations c p notes ss → (fs ≡ [] → is_version_word (notes ++ ts) ≡ false) → fs ≡ [] → ss ≡ [] → is_version_word ts ≡ false
+  unnoted : (c : List Slot) (p : Place) (notes ts : List Placed) (ss : Symbols) (fs : List Frame) → Annotations c p notes ss
+      → (fs ≡ [] → is_version_word (notes ++ ts) ≡ false) → fs ≡ [] → ss ≡ [] → is_version_word ts ≡ false
   unnoted c p _ ts _ fs no_annotation v i j = v i
   unnoted c p _ ts _ fs (one_annotation us ss t colons said s d h k m) v i j = absurd (none ss j)
     where
@@ -474,19 +549,27 @@ module _ (g : Catalog) (l : Limits) where
       none (x ∷ ss) e = cc
 
   -- notes and a payload behind them
-  noted_leads : (c : List Slot) (p : Place) (start : ℕ) (fs : List Frame) (notes : List Placed) (t : Placed) (us : List Placed) (ss : Symbols) (q : Payload) → p ≡ place_in fs nows.Ready → Annotations c p notes ss
-      → LeadsToTurn c fs (at (starts start fs notes) c fs ss nows.Ready) (t ∷ us) (ended (under g l) (spot_at (end_of 0 (t ∷ us)) (begun_at (starts start fs notes) t.lexeme.start fs ss) c) fs (annotated ss q))
-      → LeadsToTurn c fs (at start c fs [] nows.Ready) (notes ++ t ∷ us) (ended (under g l) (spot_at (end_of 0 (notes ++ t ∷ us)) (starts start fs (notes ++ t ∷ us)) c) fs (annotated ss q))
+  noted_leads : (c : List Slot) (p : Place) (start : ℕ) (fs : List Frame) (notes : List Placed) (t : Placed) (us : List Placed) (ss : Symbols) (q : Payload)
+      → p ≡ place_in fs nows.Ready → Annotations c p notes ss
+      → LeadsToTurn c fs (at (starts start fs notes) c fs ss nows.Ready) (t ∷ us)
+      (ended (under g l) (spot_at (end_of 0 (t ∷ us)) (begun_at (starts start fs notes) t.lexeme.start fs ss) c) fs (annotated ss q))
+      → LeadsToTurn c fs (at start c fs [] nows.Ready) (notes ++ t ∷ us)
+      (ended (under g l) (spot_at (end_of 0 (notes ++ t ∷ us)) (starts start fs (notes ++ t ∷ us)) c) fs (annotated ss q))
   noted_leads c p start fs notes t us ss q here a d =
-      subst (λ (n : ℕ). LeadsToTurn c fs (at start c fs [] nows.Ready) (notes ++ t ∷ us) (ended (under g l) (spot_at n (starts start fs (notes ++ t ∷ us)) c) fs (annotated ss q))) (sym (end_of_front notes us t 0))
-      (subst (λ (n : ℕ). LeadsToTurn c fs (at start c fs [] nows.Ready) (notes ++ t ∷ us) (ended (under g l) (spot_at (end_of 0 (t ∷ us)) n c) fs (annotated ss q))) (begun_behind c p start fs notes ss t us a)
-      (leads_behind c fs (at start c fs [] nows.Ready) (at (starts start fs notes) c fs ss nows.Ready) notes (t ∷ us) _ (notes_read c p start fs notes ss here a) d))
+      subst (λ (n : ℕ). LeadsToTurn c fs (at start c fs [] nows.Ready) (notes ++ t ∷ us)
+      (ended (under g l) (spot_at n (starts start fs (notes ++ t ∷ us)) c) fs (annotated ss q))) (sym (end_of_front notes us t 0))
+      (subst (λ (n : ℕ). LeadsToTurn c fs (at start c fs [] nows.Ready) (notes ++ t ∷ us)
+      (ended (under g l) (spot_at (end_of 0 (t ∷ us)) n c) fs (annotated ss q))) (begun_behind c p start fs notes ss t us a)
+      (leads_behind c fs (at start c fs [] nows.Ready) (at (starts start fs notes) c fs ss nows.Ready) notes (t ∷ us) _
+      (notes_read c p start fs notes ss here a) d))
 
   -- what stands between brackets, and the close
-  closed_by : (c : List Slot) (p : Place) (r n : Reading) (ts : List Placed) (t : Placed) (m : Mark) (x : Turn) → p ≡ place n → Reached c r ts n → Says p t (Mark' m) → (m ≡ marks.Colons → ⊥) → turn g l n (token_of t.lexeme (Mark' m)) ≡ x → reads g l r (ts ++ t ∷ []) ≡ on_turn x done
+  closed_by : (c : List Slot) (p : Place) (r n : Reading) (ts : List Placed) (t : Placed) (m : Mark) (x : Turn) → p ≡ place n → Reached c r ts n
+      → Says p t (Mark' m) → (m ≡ marks.Colons → ⊥) → turn g l n (token_of t.lexeme (Mark' m)) ≡ x → reads g l r (ts ++ t ∷ []) ≡ on_turn x done
   closed_by c p r n ts t m x here d h k e = mark_behind c p r n ts t m here d h k ∙ ap (λ y. on_turn y done) e
 
-  pub ready_reached : (c : List Slot) (r n : Reading) (ts : List Placed) → settle g l n ≡ goes n → ((t : Token) → continues n t ≡ false) → reads g l r ts ≡ done n → Reached c r ts n
+  pub ready_reached : (c : List Slot) (r n : Reading) (ts : List Placed) → settle g l n ≡ goes n → ((t : Token) → continues n t ≡ false)
+      → reads g l r ts ≡ done n → Reached c r ts n
   ready_reached c r n ts s k e = record { now = n; read = e; settles = s; shuts = λ t i. absurd (let j : true ≡ false = sym i ∙ k t in cc) }
 
   -- in a list: where another element may come, or behind one
@@ -494,26 +577,35 @@ module _ (g : Catalog) (l : Limits) where
   InList c start fs ss ts vs true = reads g l (at start c (frames.List ss [] ∷ fs) [] nows.Ready) ts ≡ done (at start c (frames.List ss vs ∷ fs) [] nows.Ready)
   InList c start fs ss ts vs false = Reached c (at start c (frames.List ss [] ∷ fs) [] nows.Ready) ts (at start c (frames.List ss vs ∷ fs) [] nows.After)
 
-  list_ends : (c : List Slot) (start : ℕ) (fs : List Frame) (ss : Symbols) (ts : List Placed) (vs : List Value) (more : Bool) (t : Placed) → InList c start fs ss ts vs more → Says places.List t (Mark' marks.ListClose)
-      → reads g l (at start c (frames.List ss [] ∷ fs) [] nows.Ready) (ts ++ t ∷ []) ≡ on_turn (ended (under g l) (spot_at t.lexeme.end start c) fs (annotated ss (payloads.List vs))) done
-  list_ends c start fs ss ts vs true t h i = closed_by c places.List (at start c (frames.List ss [] ∷ fs) [] nows.Ready) (at start c (frames.List ss vs ∷ fs) [] nows.Ready) ts t marks.ListClose _ refl (ready_reached c (at start c (frames.List ss [] ∷ fs) [] nows.Ready) (at start c (frames.List ss vs ∷ fs) [] nows.Ready) ts refl (λ t. refl) h) i (λ e. cc) refl
-  list_ends c start fs ss ts vs false t h i = closed_by c places.List (at start c (frames.List ss [] ∷ fs) [] nows.Ready) (at start c (frames.List ss vs ∷ fs) [] nows.After) ts t marks.ListClose _ refl h i (λ e. cc) refl
+  list_ends : (c : List Slot) (start : ℕ) (fs : List Frame) (ss : Symbols) (ts : List Placed) (vs : List Value) (more : Bool) (t : Placed)
+      → InList c start fs ss ts vs more → Says places.List t (Mark' marks.ListClose)
+      → reads g l (at start c (frames.List ss [] ∷ fs) [] nows.Ready) (ts ++ t ∷ [])
+      ≡ on_turn (ended (under g l) (spot_at t.lexeme.end start c) fs (annotated ss (payloads.List vs))) done
+  list_ends c start fs ss ts vs true t h i = closed_by c places.List (at start c (frames.List ss [] ∷ fs) [] nows.Ready)
+      (at start c (frames.List ss vs ∷ fs) [] nows.Ready) ts t marks.ListClose _ refl
+      (ready_reached c (at start c (frames.List ss [] ∷ fs) [] nows.Ready) (at start c (frames.List ss vs ∷ fs) [] nows.Ready) ts refl (λ t. refl) h) i
+      (λ e. cc) refl
+  list_ends c start fs ss ts vs false t h i = closed_by c places.List (at start c (frames.List ss [] ∷ fs) [] nows.Ready)
+      (at start c (frames.List ss vs ∷ fs) [] nows.After) ts t marks.ListClose _ refl h i (λ e. cc) refl
 
-  pub opened : (c : List Slot) (p : Place) (start s : ℕ) (fs : List Frame) (ss : Symbols) (o : Placed) (us : List Placed) → p ≡ place_in fs nows.Ready → length fs < l.depth → Says p o (Mark' marks.ListOpen) → begun_at start o.lexeme.start fs ss ≡ s
+  pub opened : (c : List Slot) (p : Place) (start s : ℕ) (fs : List Frame) (ss : Symbols) (o : Placed) (us : List Placed) → p ≡ place_in fs nows.Ready
+      → length fs < l.depth → Says p o (Mark' marks.ListOpen) → begun_at start o.lexeme.start fs ss ≡ s
       → reads g l (at start c fs ss nows.Ready) (o ∷ us) ≡ reads g l (at s c (frames.List ss [] ∷ fs) [] nows.Ready) us
   opened c p start s fs ss o us here deep h e =
       first_token g l p (at start c fs ss nows.Ready) o (Mark' marks.ListOpen) us h here (inr refl)
       ∙ (ap (λ x. on_turn x (λ k. reads g l k us)) (cond-true _ _ _ (lt-ltb (length fs) l.depth deep))
       ∙ ap (λ x. reads g l (at x c (frames.List ss [] ∷ fs) [] nows.Ready) us) e)
 
-  pub opened_sexp : (c : List Slot) (p : Place) (start s : ℕ) (fs : List Frame) (ss : Symbols) (o : Placed) (us : List Placed) → p ≡ place_in fs nows.Ready → length fs < l.depth → Says p o (Mark' marks.SexpOpen) → begun_at start o.lexeme.start fs ss ≡ s
+  pub opened_sexp : (c : List Slot) (p : Place) (start s : ℕ) (fs : List Frame) (ss : Symbols) (o : Placed) (us : List Placed) → p ≡ place_in fs nows.Ready
+      → length fs < l.depth → Says p o (Mark' marks.SexpOpen) → begun_at start o.lexeme.start fs ss ≡ s
       → reads g l (at start c fs ss nows.Ready) (o ∷ us) ≡ reads g l (at s c (frames.Sexp ss [] ∷ fs) [] nows.Ready) us
   opened_sexp c p start s fs ss o us here deep h e =
       first_token g l p (at start c fs ss nows.Ready) o (Mark' marks.SexpOpen) us h here (inr refl)
       ∙ (ap (λ x. on_turn x (λ k. reads g l k us)) (cond-true _ _ _ (lt-ltb (length fs) l.depth deep))
       ∙ ap (λ x. reads g l (at x c (frames.Sexp ss [] ∷ fs) [] nows.Ready) us) e)
 
-  pub opened_struct : (c : List Slot) (p : Place) (start s : ℕ) (fs : List Frame) (ss : Symbols) (o : Placed) (us : List Placed) → p ≡ place_in fs nows.Ready → length fs < l.depth → Says p o (Mark' marks.FieldsOpen) → begun_at start o.lexeme.start fs ss ≡ s
+  pub opened_struct : (c : List Slot) (p : Place) (start s : ℕ) (fs : List Frame) (ss : Symbols) (o : Placed) (us : List Placed) → p ≡ place_in fs nows.Ready
+      → length fs < l.depth → Says p o (Mark' marks.FieldsOpen) → begun_at start o.lexeme.start fs ss ≡ s
       → reads g l (at start c fs ss nows.Ready) (o ∷ us) ≡ reads g l (at s c (frames.Fields ss [] ∷ fs) [] nows.Name) us
   opened_struct c p start s fs ss o us here deep h e =
       first_token g l p (at start c fs ss nows.Ready) o (Mark' marks.FieldsOpen) us h here (inr refl)
@@ -522,28 +614,38 @@ module _ (g : Catalog) (l : Limits) where
 
   -- in a struct: where a name may come, or behind a field
   abbrev pub InStruct : List Slot → ℕ → List Frame → Symbols → List Placed → List Field → Bool → Type 0
-  InStruct c start fs ss ts ms true = reads g l (at start c (frames.Fields ss [] ∷ fs) [] nows.Name) ts ≡ done (at start c (frames.Fields ss ms ∷ fs) [] nows.Name)
+  InStruct c start fs ss ts ms true = reads g l (at start c (frames.Fields ss [] ∷ fs) [] nows.Name) ts
+      ≡ done (at start c (frames.Fields ss ms ∷ fs) [] nows.Name)
   InStruct c start fs ss ts ms false = Reached c (at start c (frames.Fields ss [] ∷ fs) [] nows.Name) ts (at start c (frames.Fields ss ms ∷ fs) [] nows.After)
 
-  pub struct_ends : (c : List Slot) (start : ℕ) (fs : List Frame) (ss : Symbols) (ts : List Placed) (ms : List Field) (more : Bool) (t : Placed) → InStruct c start fs ss ts ms more → Says (close_place more) t (Mark' marks.FieldsClose)
-      → reads g l (at start c (frames.Fields ss [] ∷ fs) [] nows.Name) (ts ++ t ∷ []) ≡ on_turn (ended (under g l) (spot_at t.lexeme.end start c) fs (annotated ss (payloads.Fields ms))) done
-  struct_ends c start fs ss ts ms true t h i = closed_by c places.Name (at start c (frames.Fields ss [] ∷ fs) [] nows.Name) (at start c (frames.Fields ss ms ∷ fs) [] nows.Name) ts t marks.FieldsClose _ refl (ready_reached c (at start c (frames.Fields ss [] ∷ fs) [] nows.Name) (at start c (frames.Fields ss ms ∷ fs) [] nows.Name) ts refl (λ t. refl) h) i (λ e. cc) refl
-  struct_ends c start fs ss ts ms false t h i = closed_by c places.FieldValue (at start c (frames.Fields ss [] ∷ fs) [] nows.Name) (at start c (frames.Fields ss ms ∷ fs) [] nows.After) ts t marks.FieldsClose _ refl h i (λ e. cc) refl
+  pub struct_ends : (c : List Slot) (start : ℕ) (fs : List Frame) (ss : Symbols) (ts : List Placed) (ms : List Field) (more : Bool) (t : Placed)
+      → InStruct c start fs ss ts ms more → Says (close_place more) t (Mark' marks.FieldsClose)
+      → reads g l (at start c (frames.Fields ss [] ∷ fs) [] nows.Name) (ts ++ t ∷ [])
+      ≡ on_turn (ended (under g l) (spot_at t.lexeme.end start c) fs (annotated ss (payloads.Fields ms))) done
+  struct_ends c start fs ss ts ms true t h i = closed_by c places.Name (at start c (frames.Fields ss [] ∷ fs) [] nows.Name)
+      (at start c (frames.Fields ss ms ∷ fs) [] nows.Name) ts t marks.FieldsClose _ refl
+      (ready_reached c (at start c (frames.Fields ss [] ∷ fs) [] nows.Name) (at start c (frames.Fields ss ms ∷ fs) [] nows.Name) ts refl (λ t. refl) h) i
+      (λ e. cc) refl
+  struct_ends c start fs ss ts ms false t h i = closed_by c places.FieldValue (at start c (frames.Fields ss [] ∷ fs) [] nows.Name)
+      (at start c (frames.Fields ss ms ∷ fs) [] nows.After) ts t marks.FieldsClose _ refl h i (λ e. cc) refl
 
   -- a symbol is a name
-  pub symbol_named : (c : List Slot) (start end : ℕ) (fs : List Frame) (said : Content) (s : Option (List ℕ)) → IsSymbol c said s → on_name (under g l) (spot_at end start c) fs said ≡ goes (at start c fs [] (nows.Keyed s))
+  pub symbol_named : (c : List Slot) (start end : ℕ) (fs : List Frame) (said : Content) (s : Option (List ℕ)) → IsSymbol c said s
+      → on_name (under g l) (spot_at end start c) fs said ≡ goes (at start c fs [] (nows.Keyed s))
   symbol_named c start end fs _ _ (is_word w h) = cond-false _ _ _ h
   symbol_named c start end fs _ _ (is_id id s h) = ap (λ r. resolved r (λ s. goes (at start c fs [] (nows.Keyed s)))) h
   symbol_named c start end fs _ _ (is_quoted w) = refl
 
-  pub long_named : (c : List Slot) (start : ℕ) (fs : List Frame) (ts : List Placed) (w : List ℕ) → places.Name ≡ place_in fs nows.Name → Segments places.Name ts w → reads g l (at start c fs [] nows.Name) ts ≡ done (at start c fs [] (nows.LongName w))
+  pub long_named : (c : List Slot) (start : ℕ) (fs : List Frame) (ts : List Placed) (w : List ℕ) → places.Name ≡ place_in fs nows.Name
+      → Segments places.Name ts w → reads g l (at start c fs [] nows.Name) ts ≡ done (at start c fs [] (nows.LongName w))
   long_named c start fs _ _ here (segment t w h) = first_token g l places.Name (at start c fs [] nows.Name) t (Long w) [] h here (inr refl)
   long_named c start fs _ _ here (joined ts v w t d h) =
       read_behind (at start c fs [] nows.Name) (at start c fs [] (nows.LongName v)) ts (t ∷ []) (long_named c start fs ts v here d)
       ∙ first_token g l places.Name (at start c fs [] (nows.LongName v)) t (Long w) [] h (here ∙ sym (name_at fs v)) (inl refl)
 
   -- A name and its colon are read.
-  pub name_read : (c : List Slot) (start : ℕ) (fs : List Frame) (ss : Symbols) (ms : List Field) (ns : List Placed) (s : Option (List ℕ)) (colon : Placed) (us : List Placed) → IsName c ns s → Says places.Name colon (Mark' marks.Colon)
+  pub name_read : (c : List Slot) (start : ℕ) (fs : List Frame) (ss : Symbols) (ms : List Field) (ns : List Placed) (s : Option (List ℕ)) (colon : Placed)
+      (us : List Placed) → IsName c ns s → Says places.Name colon (Mark' marks.Colon)
       → reads g l (at start c (frames.Fields ss ms ∷ fs) [] nows.Name) (ns ++ colon ∷ us) ≡ reads g l (at start c (frames.Named ss ms s ∷ fs) [] nows.Ready) us
   name_read c start fs ss ms _ _ colon us (by_symbol t said s h i) k =
       first_token g l places.Name (at start c (frames.Fields ss ms ∷ fs) [] nows.Name) t said (colon ∷ us) h refl (inr refl)
@@ -553,15 +655,20 @@ module _ (g : Catalog) (l : Limits) where
       first_token g l places.Name (at start c (frames.Fields ss ms ∷ fs) [] nows.Name) t (Short w) (colon ∷ us) h refl (inr refl)
       ∙ first_token g l places.Name (at start c (frames.Fields ss ms ∷ fs) [] (nows.Keyed (Some w))) colon (Mark' marks.Colon) us k refl (inr refl)
   name_read c start fs ss ms _ _ colon us (by_long ts w d) k =
-      read_behind (at start c (frames.Fields ss ms ∷ fs) [] nows.Name) (at start c (frames.Fields ss ms ∷ fs) [] (nows.LongName w)) ts (colon ∷ us) (long_named c start (frames.Fields ss ms ∷ fs) ts w refl d)
-      ∙ behind_waiting g l places.Name (at start c (frames.Fields ss ms ∷ fs) [] (nows.LongName w)) (at start c (frames.Fields ss ms ∷ fs) [] (nows.Keyed (Some w))) colon (Mark' marks.Colon) us k refl refl refl
+      read_behind (at start c (frames.Fields ss ms ∷ fs) [] nows.Name) (at start c (frames.Fields ss ms ∷ fs) [] (nows.LongName w)) ts (colon ∷ us)
+      (long_named c start (frames.Fields ss ms ∷ fs) ts w refl d)
+      ∙ behind_waiting g l places.Name (at start c (frames.Fields ss ms ∷ fs) [] (nows.LongName w))
+      (at start c (frames.Fields ss ms ∷ fs) [] (nows.Keyed (Some w))) colon (Mark' marks.Colon) us k refl refl refl
 
   mutual
     -- A value without annotations is read.
-    plain_read : (c : List Slot) (p : Place) (start : ℕ) (fs : List Frame) (ss : Symbols) (ts : List Placed) (q : Payload) → p ≡ place_in fs nows.Ready → Plain c p ts q → (fs ≡ [] → ss ≡ [] → is_version_word ts ≡ false) → depth (annotated ss q) + length fs ≤ l.depth
-        → LeadsToTurn c fs (at start c fs ss nows.Ready) ts (ended (under g l) (spot_at (end_of 0 ts) (begun_at start (first_start 0 ts) fs ss) c) fs (annotated ss q))
+    plain_read : (c : List Slot) (p : Place) (start : ℕ) (fs : List Frame) (ss : Symbols) (ts : List Placed) (q : Payload) → p ≡ place_in fs nows.Ready
+        → Plain c p ts q → (fs ≡ [] → ss ≡ [] → is_version_word ts ≡ false) → depth (annotated ss q) + length fs ≤ l.depth
+        → LeadsToTurn c fs (at start c fs ss nows.Ready) ts (ended (under g l) (spot_at (end_of 0 ts) (begun_at start (first_start 0 ts) fs ss) c) fs
+        (annotated ss q))
     plain_read c p start fs ss _ _ here (one_token p' t said q h i) v deep = scalar_read c p start fs ss t said q here h i v
-    plain_read c p start fs ss ts _ here (long_string p' _ w d) v deep = by_long' (begun_at start (first_start 0 ts) fs ss) ss w (end_of 0 ts) (segments_read c p start fs ss ts w here d) refl (segments_long p ts w d)
+    plain_read c p start fs ss ts _ here (long_string p' _ w d) v deep =
+        by_long' (begun_at start (first_start 0 ts) fs ss) ss w (end_of 0 ts) (segments_read c p start fs ss ts w here d) refl (segments_long p ts w d)
     plain_read c p start fs ss _ _ here (is_list p' o e ts vs more h d i) v deep =
         let s = begun_at start o.lexeme.start fs ss in
         let dl = depth-list ss vs in
@@ -572,7 +679,8 @@ module _ (g : Catalog) (l : Limits) where
         let s = begun_at start o.lexeme.start fs ss in
         let dl = depth-sexp ss vs in
         at_once (opened_sexp c p start s fs ss o (ts ++ e ∷ []) here (omega arith) h refl
-        ∙ (closed_by c places.Sexp (at s c (frames.Sexp ss [] ∷ fs) [] nows.Ready) (at s c (frames.Sexp ss vs ∷ fs) [] nows.Ready) ts e marks.SexpClose _ refl (row_read c s fs ss ts vs d (omega arith)) i (λ e. cc) refl
+        ∙ (closed_by c places.Sexp (at s c (frames.Sexp ss [] ∷ fs) [] nows.Ready) (at s c (frames.Sexp ss vs ∷ fs) [] nows.Ready) ts e marks.SexpClose _ refl
+        (row_read c s fs ss ts vs d (omega arith)) i (λ e. cc) refl
         ∙ ap (λ (n : ℕ). on_turn (ended (under g l) (spot_at n s c) fs (annotated ss (payloads.Sexp vs))) done) (sym (end_of_front (o ∷ ts) [] e 0))))
     plain_read c p start fs ss _ _ here (is_struct p' o e ts ms more h d i) v deep =
         let s = begun_at start o.lexeme.start fs ss in
@@ -582,53 +690,70 @@ module _ (g : Catalog) (l : Limits) where
         ∙ ap (λ (n : ℕ). on_turn (ended (under g l) (spot_at n s c) fs (annotated ss (payloads.Fields ms))) done) (sym (end_of_front (o ∷ ts) [] e 0))))
 
     -- A value is read.
-    pub means_read : (c : List Slot) (p : Place) (start : ℕ) (fs : List Frame) (ts : List Placed) (v : Value) → p ≡ place_in fs nows.Ready → Means c p ts v → (fs ≡ [] → is_version_word ts ≡ false) → depth v + length fs ≤ l.depth
+    pub means_read : (c : List Slot) (p : Place) (start : ℕ) (fs : List Frame) (ts : List Placed) (v : Value) → p ≡ place_in fs nows.Ready → Means c p ts v
+        → (fs ≡ [] → is_version_word ts ≡ false) → depth v + length fs ≤ l.depth
         → LeadsToTurn c fs (at start c fs [] nows.Ready) ts (ended (under g l) (spot_at (end_of 0 ts) (starts start fs ts) c) fs v)
     means_read c p start fs _ _ here (means p' notes ts ss q a d) v deep =
         let b = plain_begins c p ts q d in
-        subst (λ x. LeadsToTurn c fs (at start c fs [] nows.Ready) (notes ++ x) (ended (under g l) (spot_at (end_of 0 (notes ++ x)) (starts start fs (notes ++ x)) c) fs (annotated ss q))) (sym b.cut)
+        subst (λ x. LeadsToTurn c fs (at start c fs [] nows.Ready) (notes ++ x)
+        (ended (under g l) (spot_at (end_of 0 (notes ++ x)) (starts start fs (notes ++ x)) c) fs (annotated ss q))) (sym b.cut)
         (noted_leads c p start fs notes b.first b.later ss q here a
-        (subst (λ x. LeadsToTurn c fs (at (starts start fs notes) c fs ss nows.Ready) x (ended (under g l) (spot_at (end_of 0 x) (begun_at (starts start fs notes) (first_start 0 x) fs ss) c) fs (annotated ss q))) b.cut
+        (subst (λ x. LeadsToTurn c fs (at (starts start fs notes) c fs ss nows.Ready) x
+        (ended (under g l) (spot_at (end_of 0 x) (begun_at (starts start fs notes) (first_start 0 x) fs ss) c) fs (annotated ss q))) b.cut
         (plain_read c p (starts start fs notes) fs ss ts q here d (unnoted c p notes ts ss fs a v) deep)))
 
-    pub elements_read : (c : List Slot) (start : ℕ) (fs : List Frame) (ss : Symbols) (ts : List Placed) (vs : List Value) (more : Bool) → Elements c ts vs more → depths vs + suc (length fs) ≤ l.depth → InList c start fs ss ts vs more
+    pub elements_read : (c : List Slot) (start : ℕ) (fs : List Frame) (ss : Symbols) (ts : List Placed) (vs : List Value) (more : Bool) → Elements c ts vs more
+        → depths vs + suc (length fs) ≤ l.depth → InList c start fs ss ts vs more
     elements_read c start fs ss _ _ _ no_element deep = refl
     elements_read c start fs ss _ _ _ (element ts us vs v d m) deep =
         let k = deepest-more vs v in
         let n = at start c (frames.List ss (vs ++ v ∷ []) ∷ fs) [] nows.After in
         reached c (frames.List ss vs) fs (at start c (frames.List ss [] ∷ fs) [] nows.Ready) n (ts ++ us) refl (λ t. refl)
-        (leads_behind c (frames.List ss vs ∷ fs) (at start c (frames.List ss [] ∷ fs) [] nows.Ready) (at start c (frames.List ss vs ∷ fs) [] nows.Ready) ts us (goes n) (elements_read c start fs ss ts vs true d (omega arith))
-        (subst (λ (x : ℕ). LeadsToTurn c (frames.List ss vs ∷ fs) (at start c (frames.List ss vs ∷ fs) [] nows.Ready) us (goes (at x c (frames.List ss (vs ++ v ∷ []) ∷ fs) [] nows.After))) (starts_in start (frames.List ss vs) fs us)
+        (leads_behind c (frames.List ss vs ∷ fs) (at start c (frames.List ss [] ∷ fs) [] nows.Ready) (at start c (frames.List ss vs ∷ fs) [] nows.Ready) ts us
+        (goes n) (elements_read c start fs ss ts vs true d (omega arith))
+        (subst (λ (x : ℕ). LeadsToTurn c (frames.List ss vs ∷ fs) (at start c (frames.List ss vs ∷ fs) [] nows.Ready) us
+        (goes (at x c (frames.List ss (vs ++ v ∷ []) ∷ fs) [] nows.After))) (starts_in start (frames.List ss vs) fs us)
         (means_read c places.List start (frames.List ss vs ∷ fs) us v refl m (λ e. absurd cc) (omega arith))))
-    elements_read c start fs ss _ _ _ (comma ts vs t d h) deep = mark_behind c places.List (at start c (frames.List ss [] ∷ fs) [] nows.Ready) (at start c (frames.List ss vs ∷ fs) [] nows.After) ts t marks.Comma refl (elements_read c start fs ss ts vs false d deep) h (λ e. cc)
+    elements_read c start fs ss _ _ _ (comma ts vs t d h) deep =
+        mark_behind c places.List (at start c (frames.List ss [] ∷ fs) [] nows.Ready) (at start c (frames.List ss vs ∷ fs) [] nows.After) ts t marks.Comma refl
+        (elements_read c start fs ss ts vs false d deep) h (λ e. cc)
 
-    pub row_read : (c : List Slot) (start : ℕ) (fs : List Frame) (ss : Symbols) (ts : List Placed) (vs : List Value) → Row c ts vs → depths vs + suc (length fs) ≤ l.depth
+    pub row_read : (c : List Slot) (start : ℕ) (fs : List Frame) (ss : Symbols) (ts : List Placed) (vs : List Value) → Row c ts vs
+        → depths vs + suc (length fs) ≤ l.depth
         → Reached c (at start c (frames.Sexp ss [] ∷ fs) [] nows.Ready) ts (at start c (frames.Sexp ss vs ∷ fs) [] nows.Ready)
-    row_read c start fs ss _ _ no_item deep = ready_reached c (at start c (frames.Sexp ss [] ∷ fs) [] nows.Ready) (at start c (frames.Sexp ss [] ∷ fs) [] nows.Ready) [] refl (λ t. refl) refl
+    row_read c start fs ss _ _ no_item deep = ready_reached c (at start c (frames.Sexp ss [] ∷ fs) [] nows.Ready)
+        (at start c (frames.Sexp ss [] ∷ fs) [] nows.Ready) [] refl (λ t. refl) refl
     row_read c start fs ss _ _ (item ts us vs v d m apart) deep =
         let k = deepest-more vs v in
         let n = at start c (frames.Sexp ss (vs ++ v ∷ []) ∷ fs) [] nows.Ready in
         let before = at start c (frames.Sexp ss vs ∷ fs) [] nows.Ready in
         reached c (frames.Sexp ss vs) fs (at start c (frames.Sexp ss [] ∷ fs) [] nows.Ready) n (ts ++ us) refl (λ t. refl)
         (leads_as c (frames.Sexp ss vs ∷ fs) (at start c (frames.Sexp ss [] ∷ fs) [] nows.Ready) before ts us (goes n)
-        (item_behind c places.Sexp (at start c (frames.Sexp ss [] ∷ fs) [] nows.Ready) before ts us refl refl (row_read c start fs ss ts vs d (omega arith)) (means_begins c places.Sexp us v m) apart)
-        (subst (λ (x : ℕ). LeadsToTurn c (frames.Sexp ss vs ∷ fs) before us (goes (at x c (frames.Sexp ss (vs ++ v ∷ []) ∷ fs) [] nows.Ready))) (starts_in start (frames.Sexp ss vs) fs us)
+        (item_behind c places.Sexp (at start c (frames.Sexp ss [] ∷ fs) [] nows.Ready) before ts us refl refl (row_read c start fs ss ts vs d (omega arith))
+        (means_begins c places.Sexp us v m) apart)
+        (subst (λ (x : ℕ). LeadsToTurn c (frames.Sexp ss vs ∷ fs) before us (goes (at x c (frames.Sexp ss (vs ++ v ∷ []) ∷ fs) [] nows.Ready)))
+        (starts_in start (frames.Sexp ss vs) fs us)
         (means_read c places.Sexp start (frames.Sexp ss vs ∷ fs) us v refl m (λ e. absurd cc) (omega arith))))
 
-    pub members_read : (c : List Slot) (start : ℕ) (fs : List Frame) (ss : Symbols) (ts : List Placed) (ms : List Field) (more : Bool) → Members c ts ms more → field_depths ms + suc (length fs) ≤ l.depth → InStruct c start fs ss ts ms more
+    pub members_read : (c : List Slot) (start : ℕ) (fs : List Frame) (ss : Symbols) (ts : List Placed) (ms : List Field) (more : Bool) → Members c ts ms more
+        → field_depths ms + suc (length fs) ≤ l.depth → InStruct c start fs ss ts ms more
     members_read c start fs ss _ _ _ no_field deep = refl
     members_read c start fs ss _ _ _ (field ts ns us colon ms s v d m i w) deep =
         let k = field_deepest-more ms (field_of s v) in
         let n = at start c (frames.Fields ss (ms ++ field_of s v ∷ []) ∷ fs) [] nows.After in
         let r = at start c (frames.Fields ss [] ∷ fs) [] nows.Name in
         let before = at start c (frames.Named ss ms s ∷ fs) [] nows.Ready in
-        let cut : ts ++ (ns ++ colon ∷ us) ≡ (ts ++ (ns ++ colon ∷ [])) ++ us = ap (λ x. ts ++ x) (sym (append_assoc ns (colon ∷ []) us)) ∙ sym (append_assoc ts (ns ++ colon ∷ []) us) in
+        let cut : ts ++ (ns ++ colon ∷ us) ≡ (ts ++ (ns ++ colon ∷ [])) ++ us = ap (λ x. ts ++ x) (sym (append_assoc ns (colon ∷ []) us))
+        ∙ sym (append_assoc ts (ns ++ colon ∷ []) us) in
         subst (λ x. Reached c r x n) (sym cut)
         (reached c (frames.Named ss ms s) fs r n ((ts ++ (ns ++ colon ∷ [])) ++ us) refl (λ t. refl)
         (leads_as c (frames.Named ss ms s ∷ fs) r before (ts ++ (ns ++ colon ∷ [])) us (goes n)
         (ap (reads g l r) (sym cut)
         ∙ (read_behind r (at start c (frames.Fields ss ms ∷ fs) [] nows.Name) ts (ns ++ colon ∷ us) (members_read c start fs ss ts ms true d (omega arith))
         ∙ name_read c start fs ss ms ns s colon us m i))
-        (subst (λ (x : ℕ). LeadsToTurn c (frames.Named ss ms s ∷ fs) before us (goes (at x c (frames.Fields ss (ms ++ field_of s v ∷ []) ∷ fs) [] nows.After))) (starts_in start (frames.Named ss ms s) fs us)
+        (subst (λ (x : ℕ). LeadsToTurn c (frames.Named ss ms s ∷ fs) before us (goes (at x c (frames.Fields ss (ms ++ field_of s v ∷ []) ∷ fs) [] nows.After)))
+        (starts_in start (frames.Named ss ms s) fs us)
         (means_read c places.FieldValue start (frames.Named ss ms s ∷ fs) us v refl w (λ e. absurd cc) (omega arith)))))
-    members_read c start fs ss _ _ _ (field_comma ts ms t d h) deep = mark_behind c places.FieldValue (at start c (frames.Fields ss [] ∷ fs) [] nows.Name) (at start c (frames.Fields ss ms ∷ fs) [] nows.After) ts t marks.Comma refl (members_read c start fs ss ts ms false d deep) h (λ e. cc)
+    members_read c start fs ss _ _ _ (field_comma ts ms t d h) deep =
+        mark_behind c places.FieldValue (at start c (frames.Fields ss [] ∷ fs) [] nows.Name) (at start c (frames.Fields ss ms ∷ fs) [] nows.After) ts t
+        marks.Comma refl (members_read c start fs ss ts ms false d deep) h (λ e. cc)

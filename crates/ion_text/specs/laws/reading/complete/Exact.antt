@@ -63,7 +63,8 @@ went modes.Quote s k h e = let x = and_parts _ _ h in record { is = omega (arith
 went modes.Quotes s k h e = record { is = from_one s.mode s.start s.used h e.is }
 went _ s k h e = record { is = tt }
 
-left_exact : (p : Place) (kind : TokenKind) (m : Mode) (k : List ℕ) (start used : ℕ) → (not (is_one m) && not (is_two m)) ≡ true → Exact (past p kind m k start used)
+left_exact : (p : Place) (kind : TokenKind) (m : Mode) (k : List ℕ) (start used : ℕ) → (not (is_one m) && not (is_two m)) ≡ true
+    → Exact (past p kind m k start used)
 left_exact p kind modes.Quote k start used h = absurd cc
 left_exact p kind modes.Quotes k start used h = absurd cc
 left_exact p kind _ k start used h = record { is = tt }
@@ -74,7 +75,8 @@ acts_exact p s o (actions.Give kind k) f e = record { is = tt }
 acts_exact p s o (actions.Before kind k m) f e = left_exact p kind m _ _ _ f
 acts_exact p s o actions.EndWord f e = word ((o == 46) && bytes_eq s.kept (codes "null"))
   where
-    word : (b : Bool) → Exactly (cond b (Next (go_to s modes.KindName [])) (Left (cut s kinds.Word s.kept s.used) (past p kinds.Word modes.Blank [] s.used s.used)))
+    word : (b : Bool) → Exactly (cond b (Next (go_to s modes.KindName []))
+        (Left (cut s kinds.Word s.kept s.used) (past p kinds.Word modes.Blank [] s.used s.used)))
     word true = record { is = tt }
     word false = record { is = tt }
 acts_exact p s o (actions.Split n) f e = record { is = tt }

@@ -31,9 +31,12 @@ use Rattle.ion_text.specs.machine.Pieces.{followed}
 -- What the scanner finds in octets up to the end of the input. An operator before a last word that begins as `inf` is told by neither.
 pub data Finds : Known → List ℕ → List Placed → Type 0 where
   nothing : (s : Known) (octets : List ℕ) → ((p : Place) → (s' : Known) × (run p octets s ≡ Next s') × (at_end p s' ≡ Ok None)) → Finds s octets []
-  last : (s : Known) (octets : List ℕ) (t : Placed) (s' : Known) → run t.place octets s ≡ Next s' → at_end t.place s' ≡ Ok (Some t.lexeme) → Finds s octets (t ∷ [])
-  gives' : (s : Known) (octets : List ℕ) (t : Placed) (ts : List Placed) (s' : Known) → run t.place octets s ≡ Given t.lexeme s' → Finds s' (drop (s'.used - s.used) octets) ts → Finds s octets (t ∷ ts)
-  leaves' : (s : Known) (octets : List ℕ) (t : Placed) (ts : List Placed) (s' : Known) → run t.place octets s ≡ Left t.lexeme s' → Finds s' (drop (s'.used - s.used) octets) ts → Finds s octets (t ∷ ts)
+  last : (s : Known) (octets : List ℕ) (t : Placed) (s' : Known) → run t.place octets s ≡ Next s' → at_end t.place s' ≡ Ok (Some t.lexeme)
+      → Finds s octets (t ∷ [])
+  gives' : (s : Known) (octets : List ℕ) (t : Placed) (ts : List Placed) (s' : Known) → run t.place octets s ≡ Given t.lexeme s'
+      → Finds s' (drop (s'.used - s.used) octets) ts → Finds s octets (t ∷ ts)
+  leaves' : (s : Known) (octets : List ℕ) (t : Placed) (ts : List Placed) (s' : Known) → run t.place octets s ≡ Left t.lexeme s'
+      → Finds s' (drop (s'.used - s.used) octets) ts → Finds s octets (t ∷ ts)
   unclosed : (s : Known) (octets : List ℕ) (t w : Placed) → t.lexeme.kind ≡ kinds.Operator → w.lexeme.kind ≡ kinds.Word → Finds s octets (t ∷ w ∷ [])
 
 pub next_is : (s t : Known) → Next s ≡ Next t → s ≡ t
@@ -44,15 +47,18 @@ next_is s t e = ap (state_in s) e
     state_in d _ = d
 
 -- Behind letters of a word, at the end of the input, there is no token, or that word alone.
-pub alone_word : (letters : List ℕ) (colon : Bool) (start used : ℕ) (ts : List Placed) → found.Finds (found.in_word letters colon start used) [] ts → (ts ≡ []) ⊎ ((w : Placed) × (ts ≡ w ∷ []) × (w.lexeme.kind ≡ kinds.Word))
+pub alone_word : (letters : List ℕ) (colon : Bool) (start used : ℕ) (ts : List Placed) → found.Finds (found.in_word letters colon start used) [] ts → (ts ≡ [])
+    ⊎ ((w : Placed) × (ts ≡ w ∷ []) × (w.lexeme.kind ≡ kinds.Word))
 alone_word letters colon start used _ (found.Nothing _ _ f) = inl refl
-alone_word letters colon start used _ (found.Last _ _ t s' e f) = inr (t, refl, kind_of t.lexeme (ap (at_end t.place) (next_is (found.in_word letters colon start used) s' e) ∙ f))
+alone_word letters colon start used _ (found.Last _ _ t s' e f) =
+    inr (t, refl, kind_of t.lexeme (ap (at_end t.place) (next_is (found.in_word letters colon start used) s' e) ∙ f))
   where
     kind_of : (x : Lexeme) → at_end t.place (found.in_word letters colon start used) ≡ Ok (Some x) → x.kind ≡ kinds.Word
     kind_of x h = cc
 alone_word letters colon start used _ (found.Gives _ _ t ts s' e f) = absurd cc
 alone_word letters colon start used _ (found.Leaves _ _ t ts s' e f) = absurd cc
-alone_word letters colon start used _ (found.Unclosed _ _ t ts s' c more bare e f first operator rest) = absurd (let h = ap (at_end t.place) (next_is (found.in_word letters colon start used) s' e) ∙ f in cc)
+alone_word letters colon start used _ (found.Unclosed _ _ t ts s' c more bare e f first operator rest) =
+    absurd (let h = ap (at_end t.place) (next_is (found.in_word letters colon start used) s' e) ∙ f in cc)
 
 lexes_found : (s : Known) (octets : List ℕ) (ts : List Placed) → found.Finds s octets ts → Finds s octets ts
 lexes_found _ _ _ (found.Nothing s octets f) = nothing s octets f
@@ -84,7 +90,8 @@ no_more : (os : List ℕ) → length os ≡ 0 → os ≡ []
 no_more [] h = refl
 no_more (o ∷ os) h = absurd (omega arith)
 
-given_met : (os rest : List ℕ) (s s' : Known) (t : Placed) (ts : List Placed) → run t.place os s ≡ Given t.lexeme s' → s'.used ≡ s.used + length os → Meets s' rest ts → Meets s (os ++ rest) (t ∷ ts)
+given_met : (os rest : List ℕ) (s s' : Known) (t : Placed) (ts : List Placed) → run t.place os s ≡ Given t.lexeme s' → s'.used ≡ s.used + length os
+    → Meets s' rest ts → Meets s (os ++ rest) (t ∷ ts)
 given_met [] rest s s' t ts e n m = absurd cc
 given_met (o ∷ os) rest s s' t ts e n m = go (feed t.place s o) refl e (λ k f i. given_met os rest k s' t ts f i m)
   where
@@ -99,7 +106,9 @@ given_met (o ∷ os) rest s s' t ts e n m = go (feed t.place s o) refl e (λ k f
             cut (y ∷ []) ys c r u = u
             cut (y ∷ z ∷ xs) ys c r u = absurd cc
 
-    go : (x : Outcome) → feed t.place s o ≡ x → follow x (λ k. run t.place os k) ≡ Given t.lexeme s' → ((k : Known) → run t.place os k ≡ Given t.lexeme s' → s'.used ≡ k.used + length os → Meets k (os ++ rest) (t ∷ ts)) → Meets s (o ∷ os ++ rest) (t ∷ ts)
+    go : (x : Outcome) → feed t.place s o ≡ x → follow x (λ k. run t.place os k) ≡ Given t.lexeme s'
+        → ((k : Known) → run t.place os k ≡ Given t.lexeme s' → s'.used ≡ k.used + length os → Meets k (os ++ rest) (t ∷ ts))
+        → Meets s (o ∷ os ++ rest) (t ∷ ts)
     go (Next k) f h more = goes_on s o (os ++ rest) t ts k f (more k h (let u = feed_used t.place s k o f in omega (arith, u, n)))
     go (Given x k) f h more =
         let u = one t.lexeme (f ∙ h) in
@@ -108,7 +117,8 @@ given_met (o ∷ os) rest s s' t ts e n m = go (feed t.place s o) refl e (λ k f
     go (Left x k) f h more = absurd cc
     go (Refused i x) f h more = absurd cc
 
-left_met : (os : List ℕ) (x : ℕ) (rest : List ℕ) (s s' : Known) (t : Placed) (ts : List Placed) → run t.place (os ++ x ∷ []) s ≡ Left t.lexeme s' → s'.used ≡ s.used + length os → Meets s' (x ∷ rest) ts → Meets s (os ++ x ∷ rest) (t ∷ ts)
+left_met : (os : List ℕ) (x : ℕ) (rest : List ℕ) (s s' : Known) (t : Placed) (ts : List Placed) → run t.place (os ++ x ∷ []) s ≡ Left t.lexeme s'
+    → s'.used ≡ s.used + length os → Meets s' (x ∷ rest) ts → Meets s (os ++ x ∷ rest) (t ∷ ts)
 left_met [] x rest s s' t ts e n m = go (feed t.place s x) refl e
   where
     go : (y : Outcome) → feed t.place s x ≡ y → follow y (λ k. Next k) ≡ Left t.lexeme s' → Meets s (x ∷ rest) (t ∷ ts)
@@ -129,7 +139,9 @@ left_met (o ∷ os) x rest s s' t ts e n m = go (feed t.place s o) refl e (λ k 
             cut (z ∷ []) y ys c u = absurd cc
             cut (z ∷ w ∷ xs) y ys c u = absurd cc
 
-    go : (y : Outcome) → feed t.place s o ≡ y → follow y (λ k. run t.place (os ++ x ∷ []) k) ≡ Left t.lexeme s' → ((k : Known) → run t.place (os ++ x ∷ []) k ≡ Left t.lexeme s' → s'.used ≡ k.used + length os → Meets k (os ++ x ∷ rest) (t ∷ ts)) → Meets s (o ∷ os ++ x ∷ rest) (t ∷ ts)
+    go : (y : Outcome) → feed t.place s o ≡ y → follow y (λ k. run t.place (os ++ x ∷ []) k) ≡ Left t.lexeme s'
+        → ((k : Known) → run t.place (os ++ x ∷ []) k ≡ Left t.lexeme s' → s'.used ≡ k.used + length os → Meets k (os ++ x ∷ rest) (t ∷ ts))
+        → Meets s (o ∷ os ++ x ∷ rest) (t ∷ ts)
     go (Next k) f h more = goes_on s o (os ++ x ∷ rest) t ts k f (more k h (let u = feed_used t.place s k o f in omega (arith, u, n)))
     go (Left l k) f h more = let u = one t.lexeme (f ∙ h) in absurd (omega (arith, u, n))
     go (Given l k) f h more = absurd cc
@@ -151,14 +163,17 @@ module _ (g : Catalog) (l : Limits) where
   next_goes t ts (r, all, d) = go (continues r (token_of t.lexeme (going_said g l r t ts all d).1)) refl
     where
       settled : (x : Turn) → Leading g l (λ n. settle g l n ≡ goes n) x → TurnGoes g l x (t ∷ ts) all → Goes ts
-      settled (goes m) k e = let p = going_said g l m t ts all e in turned_goes (turn g l m (token_of t.lexeme p.1)) ts all (going_turn g l m t ts all p.1 e p.2 (inr k))
-      settled (gives v m) k e = let p = going_said g l m t ts e.0 e.2 in turned_goes (turn g l m (token_of t.lexeme p.1)) ts e.0 (going_turn g l m t ts e.0 p.1 e.2 p.2 (inr k))
+      settled (goes m) k e = let p = going_said g l m t ts all e in
+          turned_goes (turn g l m (token_of t.lexeme p.1)) ts all (going_turn g l m t ts all p.1 e p.2 (inr k))
+      settled (gives v m) k e = let p = going_said g l m t ts e.0 e.2 in
+          turned_goes (turn g l m (token_of t.lexeme p.1)) ts e.0 (going_turn g l m t ts e.0 p.1 e.2 p.2 (inr k))
       settled (refuses y) k e = absurd e
       settled (late y m) k e = absurd e
 
       go : (b : Bool) → continues r (token_of t.lexeme (going_said g l r t ts all d).1) ≡ b → Goes ts
       go true w = let p = going_said g l r t ts all d in turned_goes (turn g l r (token_of t.lexeme p.1)) ts all (going_turn g l r t ts all p.1 d p.2 (inl w))
-      go false w = let p = going_said g l r t ts all d in settled (settle g l r) (settle_still g l r.start r.context r.frames r.notes r.now) (going_settle g l r t ts all p.1 d p.2 w)
+      go false w = let p = going_said g l r t ts all d in settled (settle g l r) (settle_still g l r.start r.context r.frames r.notes r.now)
+          (going_settle g l r t ts all p.1 d p.2 w)
 
   -- an s-expression is closed behind its operators
   pub never_unclosed : (t w : Placed) → Operators (t ∷ w ∷ []) → t.lexeme.kind ≡ kinds.Operator → w.lexeme.kind ≡ kinds.Word → Goes (t ∷ w ∷ []) → ⊥
@@ -191,12 +206,14 @@ module _ (g : Catalog) (l : Limits) where
   finds_met _ _ _ (leaves' s os t ts s' e f) ops d =
       let x = left_split t.place os s s' t.lexeme e in
       let rest = finds_met s' (drop (s'.used - s.used) os) ts f ops.1 (next_goes t ts d) in
-      let same : drop (s'.used - s.used) os ≡ x.octet ∷ x.rest = ap (λ y. drop (s'.used - s.used) y) x.cut ∙ behind_front x.octets (x.octet ∷ x.rest) s.used s'.used x.used in
+      let same : drop (s'.used - s.used) os ≡ x.octet ∷ x.rest = ap (λ y. drop (s'.used - s.used) y) x.cut
+      ∙ behind_front x.octets (x.octet ∷ x.rest) s.used s'.used x.used in
       subst (λ y. Meets s y (t ∷ ts)) (sym x.cut) (left_met x.octets x.octet x.rest s s' t ts x.ran x.used (subst (λ y. Meets s' y ts) same rest))
   finds_met _ _ _ (unclosed s os t w k j) ops d = absurd (never_unclosed t w ops k j d)
 
 -- operators stand in s-expressions
-pub lexes_operators : (End : Bool → ℕ → List ℕ → Type 0) (ts : List Placed) (colon : Bool) (before : ℕ) (octets : List ℕ) → LexesBefore End colon before octets ts → Operators ts
+pub lexes_operators : (End : Bool → ℕ → List ℕ → Type 0) (ts : List Placed) (colon : Bool) (before : ℕ) (octets : List ℕ)
+    → LexesBefore End colon before octets ts → Operators ts
 lexes_operators End [] colon before octets h = tt
 lexes_operators End (t ∷ ts) colon before octets (rest, b, more) =
     ((λ e. (subst (λ k. IsLexeme t.place colon b.token rest k t.lexeme.octets) e b.is).1), lexes_operators End ts _ t.lexeme.end rest more)

@@ -101,21 +101,25 @@ module _ (g : Catalog) (l : Limits) where
   scan_used a b r (Left x s) u = absurd u
   scan_used a b r (Refused n e) u = refl
 
-  settled_used : (a b : State → Effect) (s : Known) (x : Outcome) (t : Turn) → ((r : Reading) → on_scan g l a r x ≡ on_scan g l b r x) → on_settled g l a s x t ≡ on_settled g l b s x t
+  settled_used : (a b : State → Effect) (s : Known) (x : Outcome) (t : Turn) → ((r : Reading) → on_scan g l a r x ≡ on_scan g l b r x)
+      → on_settled g l a s x t ≡ on_settled g l b s x t
   settled_used a b s x (goes r) h = h r
   settled_used a b s x (gives v r) h = refl
   settled_used a b s x (refuses e) h = refl
   settled_used a b s x (late e r) h = ap (or_worse e) (h r)
 
-  octet_used : (a b : State → Effect) (m : State) (x : Outcome) → ((r : Reading) → on_scan g l a r x ≡ on_scan g l b r x) → on_octet g l a m x ≡ on_octet g l b m x
+  octet_used : (a b : State → Effect) (m : State) (x : Outcome) → ((r : Reading) → on_scan g l a r x ≡ on_scan g l b r x)
+      → on_octet g l a m x ≡ on_octet g l b m x
   octet_used a b m x h = go (unsettled m.scan m.reading x)
     where
-      go : (w : Bool) → (if w then on_scan g l a m.reading x else on_settled g l a m.scan x (settle g l m.reading)) ≡ (if w then on_scan g l b m.reading x else on_settled g l b m.scan x (settle g l m.reading))
+      go : (w : Bool) → (if w then on_scan g l a m.reading x else on_settled g l a m.scan x (settle g l m.reading))
+          ≡ (if w then on_scan g l b m.reading x else on_settled g l b m.scan x (settle g l m.reading))
       go true = h m.reading
       go false = settled_used a b m.scan x (settle g l m.reading) h
 
   once_fuel : (n k : ℕ) (m : State) (o : ℕ) → UsedHere m.scan o → takes g l (suc n) m o ≡ takes g l (suc k) m o
-  once_fuel n k m o u = octet_used (λ x. takes g l n x o) (λ x. takes g l k x o) m (feed (place m.reading) m.scan o) (λ r. scan_used (λ x. takes g l n x o) (λ x. takes g l k x o) r (feed (place m.reading) m.scan o) (u (place m.reading)))
+  once_fuel n k m o u = octet_used (λ x. takes g l n x o) (λ x. takes g l k x o) m (feed (place m.reading) m.scan o)
+      (λ r. scan_used (λ x. takes g l n x o) (λ x. takes g l k x o) r (feed (place m.reading) m.scan o) (u (place m.reading)))
 
   left_same : (a b : State → Effect) (s : Known) (t : Turn) → ((r : Reading) → a (with_scan s r) ≡ b (with_scan s r)) → behind_left a s t ≡ behind_left b s t
   left_same a b s (goes r) h = h r
@@ -129,14 +133,16 @@ module _ (g : Catalog) (l : Limits) where
 
   -- two tries more are as good as three
   pub twice_fuel : (m : State) (o : ℕ) → Twice m.scan o → takes g l 2 m o ≡ takes g l 3 m o
-  twice_fuel m o u = octet_used (λ x. takes g l 1 x o) (λ x. takes g l 2 x o) m (feed (place m.reading) m.scan o) (λ r. same r (feed (place m.reading) m.scan o) (u (place m.reading)))
+  twice_fuel m o u = octet_used (λ x. takes g l 1 x o) (λ x. takes g l 2 x o) m (feed (place m.reading) m.scan o)
+      (λ r. same r (feed (place m.reading) m.scan o) (u (place m.reading)))
     where
       same : (r : Reading) (x : Outcome) → UsedThen o x → on_scan g l (λ x. takes g l 1 x o) r x ≡ on_scan g l (λ x. takes g l 2 x o) r x
       same r (Next s) h = refl
       same r (Given x s) h = refl
       same r (Refused n e) h = refl
       same r (Left x s) h =
-          said_same (λ c. behind_left (λ x. takes g l 1 x o) s (turn g l r (token_of x c))) (λ c. behind_left (λ x. takes g l 2 x o) s (turn g l r (token_of x c))) (said x.kind x.octets)
+          said_same (λ c. behind_left (λ x. takes g l 1 x o) s (turn g l r (token_of x c)))
+          (λ c. behind_left (λ x. takes g l 2 x o) s (turn g l r (token_of x c))) (said x.kind x.octets)
           (λ c. left_same (λ x. takes g l 1 x o) (λ x. takes g l 2 x o) s (turn g l r (token_of x c)) (λ n. once_fuel 0 1 (with_scan s n) o h))
 
   -- where an octet is used and nothing waits, it ends no value before it

@@ -128,7 +128,8 @@ module _ (g : Catalog) (l : Limits) where
   added v vs n (walked ws m) e = (ws, ap (walked ws) (ap (reading_in n) e), sym (ap values_in e))
   added v vs n stopped e = absurd cc
 
-  turn_goes : (t : Turn) (ts : List Placed) (vs later all : List Value) (n : Reading) (c : List Slot) → on_turn t (λ k. reads g l k ts) ≡ walked vs n → on_turn (settle g l n) done ≡ walked later (fresh c) → all ≡ vs ++ later → TurnGoes t ts all
+  turn_goes : (t : Turn) (ts : List Placed) (vs later all : List Value) (n : Reading) (c : List Slot) → on_turn t (λ k. reads g l k ts) ≡ walked vs n
+      → on_turn (settle g l n) done ≡ walked later (fresh c) → all ≡ vs ++ later → TurnGoes t ts all
   turn_goes (goes r) ts vs later all n c e f h = record { vs = vs; later = later; n = n; c = c; read = e; ends = f; whole = h }
   turn_goes (gives v r) ts vs later all n c e f h =
       let a = added v vs n (reads g l r ts) e in
@@ -137,10 +138,13 @@ module _ (g : Catalog) (l : Limits) where
   turn_goes (late x r) ts vs later all n c e f h = absurd cc
 
   -- a token that is read next stands in its place and says something
-  pub going_said : (r : Reading) (t : Placed) (ts : List Placed) (all : List Value) → Going r (t ∷ ts) all → (t.place ≡ place r) × (c : Content) × (said t.lexeme.kind t.lexeme.octets ≡ Ok c)
+  pub going_said : (r : Reading) (t : Placed) (ts : List Placed) (all : List Value) → Going r (t ∷ ts) all → (t.place ≡ place r) × (c : Content)
+      × (said t.lexeme.kind t.lexeme.octets ≡ Ok c)
   going_said r t ts all d = go (same_place t.place (place r)) refl (said t.lexeme.kind t.lexeme.octets) refl d.read
     where
-      go : (b : Bool) → same_place t.place (place r) ≡ b → (s : Result Content Reason) → said t.lexeme.kind t.lexeme.octets ≡ s → on_placed g l b (on_judged g l r t s (λ k. reads g l k ts)) ≡ walked d.vs d.n → (t.place ≡ place r) × (c : Content) × (said t.lexeme.kind t.lexeme.octets ≡ Ok c)
+      go : (b : Bool) → same_place t.place (place r) ≡ b → (s : Result Content Reason) → said t.lexeme.kind t.lexeme.octets ≡ s
+          → on_placed g l b (on_judged g l r t s (λ k. reads g l k ts)) ≡ walked d.vs d.n → (t.place ≡ place r) × (c : Content)
+          × (said t.lexeme.kind t.lexeme.octets ≡ Ok c)
       go true e (Ok c) f h = (same_is t.place (place r) e, c, f)
       go true e (Err x) f h = absurd cc
       go false e s f h = absurd cc
@@ -152,12 +156,15 @@ module _ (g : Catalog) (l : Limits) where
   pub says_so : (r : Reading) (t : Placed) (c : Content) → t.place ≡ place r → said t.lexeme.kind t.lexeme.octets ≡ Ok c → Says (place r) t c
   says_so r t c e f = record { place = e; body = said_body t.lexeme.kind t.lexeme.octets c f }
 
-  pub going_turn : (r : Reading) (t : Placed) (ts : List Placed) (all : List Value) (c : Content) → Going r (t ∷ ts) all → said t.lexeme.kind t.lexeme.octets ≡ Ok c → Direct r (token_of t.lexeme c) → TurnGoes (turn g l r (token_of t.lexeme c)) ts all
+  pub going_turn : (r : Reading) (t : Placed) (ts : List Placed) (all : List Value) (c : Content) → Going r (t ∷ ts) all → said t.lexeme.kind t.lexeme.octets
+      ≡ Ok c → Direct r (token_of t.lexeme c) → TurnGoes (turn g l r (token_of t.lexeme c)) ts all
   going_turn r t ts all c d e w =
       let p = (going_said r t ts all d).0 in
-      turn_goes (turn g l r (token_of t.lexeme c)) ts d.vs d.later all d.n d.c (sym (first_token g l (place r) r t c ts (says_so r t c p e) refl w) ∙ d.read) d.ends d.whole
+      turn_goes (turn g l r (token_of t.lexeme c)) ts d.vs d.later all d.n d.c (sym (first_token g l (place r) r t c ts (says_so r t c p e) refl w) ∙ d.read)
+      d.ends d.whole
 
-  pub going_settle : (r : Reading) (t : Placed) (ts : List Placed) (all : List Value) (c : Content) → Going r (t ∷ ts) all → said t.lexeme.kind t.lexeme.octets ≡ Ok c → continues r (token_of t.lexeme c) ≡ false → TurnGoes (settle g l r) (t ∷ ts) all
+  pub going_settle : (r : Reading) (t : Placed) (ts : List Placed) (all : List Value) (c : Content) → Going r (t ∷ ts) all → said t.lexeme.kind t.lexeme.octets
+      ≡ Ok c → continues r (token_of t.lexeme c) ≡ false → TurnGoes (settle g l r) (t ∷ ts) all
   going_settle r t ts all c d e w = turn_goes (settle g l r) (t ∷ ts) d.vs d.later all d.n d.c (sym here ∙ d.read) d.ends d.whole
     where
       F : Reading → Walk
@@ -166,7 +173,8 @@ module _ (g : Catalog) (l : Limits) where
       p : t.place ≡ place r
       p = (going_said r t ts all d).0
 
-      same : (x : Turn) → Leading g l (λ n. (place n ≡ place r) × (is_top n.frames ≡ is_top r.frames)) x → Leading g l (λ n. settle g l n ≡ goes n) x → on_turn x F ≡ on_turn x (λ k. reads g l k (t ∷ ts))
+      same : (x : Turn) → Leading g l (λ n. (place n ≡ place r) × (is_top n.frames ≡ is_top r.frames)) x → Leading g l (λ n. settle g l n ≡ goes n) x
+          → on_turn x F ≡ on_turn x (λ k. reads g l k (t ∷ ts))
       same (goes n) h k = sym (first_token g l (place r) n t c ts (says_so r t c p e) (sym h.0) (inr k))
       same (gives v n) h k = ap (adds_values (v ∷ [])) (sym (first_token g l (place r) n t c ts (says_so r t c p e) (sym h.0) (inr k)))
       same (refuses y) h k = refl
@@ -198,7 +206,8 @@ module _ (g : Catalog) (l : Limits) where
   going_ends r all d =
       let none : [] ≡ d.vs = ap values_in d.read in
       let same : r ≡ d.n = ap (reading_in r) d.read in
-      turn_ends (settle g l r) all d.c (ap (λ x. on_turn (settle g l x) done) same ∙ (d.ends ∙ ap (λ x. walked x (fresh d.c)) (sym (d.whole ∙ ap (λ x. x ++ d.later) (sym none)))))
+      turn_ends (settle g l r) all d.c (ap (λ x. on_turn (settle g l x) done) same
+      ∙ (d.ends ∙ ap (λ x. walked x (fresh d.c)) (sym (d.whole ∙ ap (λ x. x ++ d.later) (sym none)))))
 
   -- in a container the tokens aren't at an end
   pub inside_end : (r : Reading) (all : List Value) → is_top r.frames ≡ false → Going r [] all → ⊥
@@ -220,7 +229,8 @@ module _ (g : Catalog) (l : Limits) where
   InsideTurn start (refuses e) = Unit {0}
   InsideTurn start (late e r) = Unit {0}
 
-  pub settle_inside : (start : ℕ) (c : List Slot) (fs : List Frame) (ss : Symbols) (now : Now) → is_top fs ≡ false → InsideTurn start (settle g l (at start c fs ss now))
+  pub settle_inside : (start : ℕ) (c : List Slot) (fs : List Frame) (ss : Symbols) (now : Now) → is_top fs ≡ false
+      → InsideTurn start (settle g l (at start c fs ss now))
   settle_inside start c fs ss now h = go now refl
     where
       waited : (t : Turn) (end : ℕ) → SettlesWithin g l start end fs t → InsideTurn start t
@@ -231,8 +241,10 @@ module _ (g : Catalog) (l : Limits) where
       waited (late e r) end k = tt
 
       go : (n : Now) → now ≡ n → InsideTurn start (settle g l (at start c fs ss now))
-      go (nows.Pending x end) e = waited (settle g l (at start c fs ss now)) (end_of_now now 0) (settle_spans g l start c fs ss now 0 (subst (IsWaiting g l) (sym e) tt))
-      go (nows.Long w end) e = waited (settle g l (at start c fs ss now)) (end_of_now now 0) (settle_spans g l start c fs ss now 0 (subst (IsWaiting g l) (sym e) tt))
+      go (nows.Pending x end) e = waited (settle g l (at start c fs ss now)) (end_of_now now 0)
+          (settle_spans g l start c fs ss now 0 (subst (IsWaiting g l) (sym e) tt))
+      go (nows.Long w end) e = waited (settle g l (at start c fs ss now)) (end_of_now now 0)
+          (settle_spans g l start c fs ss now 0 (subst (IsWaiting g l) (sym e) tt))
       go nows.Ready e = subst (λ n. InsideTurn start (settle g l (at start c fs ss n))) (sym e) (h, refl)
       go nows.After e = subst (λ n. InsideTurn start (settle g l (at start c fs ss n))) (sym e) (h, refl)
       go nows.Name e = subst (λ n. InsideTurn start (settle g l (at start c fs ss n))) (sym e) (h, refl)
@@ -244,10 +256,13 @@ module _ (g : Catalog) (l : Limits) where
     stays : (m : Reading) (all : List Value) → is_top m.frames ≡ false → m.start ≡ start → Going m ts all → InsideNext start t c ts
     closed : t.lexeme.end ≤ start + l.item → IsClose false c → InsideNext start t c ts
 
-  inside_turn : (r : Reading) (t : Placed) (c : Content) (ts : List Placed) (all : List Value) → is_top r.frames ≡ false → (x : Turn) → Spans (is_top r.frames) c l.item (start_now r.now r.start t.lexeme.start r.frames r.notes) t.lexeme.end x → TurnGoes x ts all → InsideNext r.start t c ts
+  inside_turn : (r : Reading) (t : Placed) (c : Content) (ts : List Placed) (all : List Value) → is_top r.frames ≡ false → (x : Turn)
+      → Spans (is_top r.frames) c l.item (start_now r.now r.start t.lexeme.start r.frames r.notes) t.lexeme.end x → TurnGoes x ts all
+      → InsideNext r.start t c ts
   inside_turn r t c ts all h x s d =
       let e = start_inside r.now r.start t.lexeme.start r.frames r.notes h in
-      go x (subst (λ (n : ℕ). Spans false c l.item n t.lexeme.end x) e (subst (λ b. Spans b c l.item (start_now r.now r.start t.lexeme.start r.frames r.notes) t.lexeme.end x) h s)) d
+      go x (subst (λ (n : ℕ). Spans false c l.item n t.lexeme.end x) e
+      (subst (λ b. Spans b c l.item (start_now r.now r.start t.lexeme.start r.frames r.notes) t.lexeme.end x) h s)) d
     where
       go : (x : Turn) → Spans false c l.item r.start t.lexeme.end x → TurnGoes x ts all → InsideNext r.start t c ts
       go (goes m) (inl (inl k, e, f)) d = stays m all k e d
@@ -260,10 +275,13 @@ module _ (g : Catalog) (l : Limits) where
   pub never_top : (r : Reading) → is_top r.frames ≡ false → is_top r.frames ≡ true → IsTopNow r.now
   never_top r h k = let n : true ≡ false = sym k ∙ h in absurd cc
 
-  inside_direct : (r : Reading) (t : Placed) (c : Content) (ts : List Placed) (all : List Value) → is_top r.frames ≡ false → Going r (t ∷ ts) all → said t.lexeme.kind t.lexeme.octets ≡ Ok c → Direct r (token_of t.lexeme c) → InsideNext r.start t c ts
-  inside_direct r t c ts all h d e w = inside_turn r t c ts all h (turn g l r (token_of t.lexeme c)) (turn_spans g l r (token_of t.lexeme c) (never_top r h)) (going_turn r t ts all c d e w)
+  inside_direct : (r : Reading) (t : Placed) (c : Content) (ts : List Placed) (all : List Value) → is_top r.frames ≡ false → Going r (t ∷ ts) all
+      → said t.lexeme.kind t.lexeme.octets ≡ Ok c → Direct r (token_of t.lexeme c) → InsideNext r.start t c ts
+  inside_direct r t c ts all h d e w = inside_turn r t c ts all h (turn g l r (token_of t.lexeme c)) (turn_spans g l r (token_of t.lexeme c) (never_top r h))
+      (going_turn r t ts all c d e w)
 
-  pub inside_token : (r : Reading) (t : Placed) (c : Content) (ts : List Placed) (all : List Value) → is_top r.frames ≡ false → Going r (t ∷ ts) all → said t.lexeme.kind t.lexeme.octets ≡ Ok c → InsideNext r.start t c ts
+  pub inside_token : (r : Reading) (t : Placed) (c : Content) (ts : List Placed) (all : List Value) → is_top r.frames ≡ false → Going r (t ∷ ts) all
+      → said t.lexeme.kind t.lexeme.octets ≡ Ok c → InsideNext r.start t c ts
   inside_token r t c ts all h d e = go (continues r (token_of t.lexeme c)) refl
     where
       settled : (x : Turn) → InsideTurn r.start x → Leading g l (λ n. settle g l n ≡ goes n) x → TurnGoes x (t ∷ ts) all → InsideNext r.start t c ts
@@ -274,13 +292,15 @@ module _ (g : Catalog) (l : Limits) where
 
       go : (b : Bool) → continues r (token_of t.lexeme c) ≡ b → InsideNext r.start t c ts
       go true w = inside_direct r t c ts all h d e (inl w)
-      go false w = settled (settle g l r) (settle_inside r.start r.context r.frames r.notes r.now h) (settle_still g l r.start r.context r.frames r.notes r.now) (going_settle r t ts all c d e w)
+      go false w = settled (settle g l r) (settle_inside r.start r.context r.frames r.notes r.now h) (settle_still g l r.start r.context r.frames r.notes r.now)
+          (going_settle r t ts all c d e w)
 
   one_left : (p : Place) (s s' : Known) (o : ℕ) (x : Lexeme) → feed p s o ≡ Left x s' → s.used ≤ s'.used
   one_left p s s' o x e = let k = left_used p (o ∷ []) s s' x (sym (ap (λ y. follow y (λ t. Next t)) e)) in k.0
 
   -- Where a container is open, the octets used are within the limit of the item.
-  pub used_inside : (s : Known) (os : List ℕ) (ts : List Placed) → Meets s os ts → Fine s → (r : Reading) (all : List Value) → is_top r.frames ≡ false → Going r ts all → s.used ≤ r.start + l.item
+  pub used_inside : (s : Known) (os : List ℕ) (ts : List Placed) → Meets s os ts → Fine s → (r : Reading) (all : List Value) → is_top r.frames ≡ false
+      → Going r ts all → s.used ≤ r.start + l.item
   used_inside _ _ _ (at_blank s e) f r all h d = absurd (inside_end r all h d)
   used_inside _ _ _ (in_blank s o os s' e m) f r all h d = absurd (inside_end r all h d)
   used_inside _ _ _ (at_token s t e) f r all h d = go (inside_token r t (going_said r t [] all d).1 [] all h d (going_said r t [] all d).2)
@@ -288,18 +308,26 @@ module _ (g : Catalog) (l : Limits) where
       go : InsideNext r.start t (going_said r t [] all d).1 [] → s.used ≤ r.start + l.item
       go (stays m rest k i j) = absurd (inside_end m rest k j)
       go (closed k i) = let x = end_spans s (end_of t.place s.mode) t.lexeme e in omega (arith, x.1, k)
-  used_inside _ _ _ (goes_on s o os t ts s' e m) f r all h d = let k = used_inside s' os (t ∷ ts) m (finely_as t.place s o (Next s') f e) r all h d in omega (arith, k, feed_used t.place s s' o e)
-  used_inside _ _ _ (is_given s o os t ts s' e m) f r all h d = go (inside_token r t (going_said r t ts all d).1 ts all h d (going_said r t ts all d).2) (λ n rest k j. used_inside s' os ts m (finely_as t.place s o (Given t.lexeme s') f e).0 n rest k j)
+  used_inside _ _ _ (goes_on s o os t ts s' e m) f r all h d = let k = used_inside s' os (t ∷ ts) m (finely_as t.place s o (Next s') f e) r all h d in
+      omega (arith, k, feed_used t.place s s' o e)
+  used_inside _ _ _ (is_given s o os t ts s' e m) f r all h d =
+      go (inside_token r t (going_said r t ts all d).1 ts all h d (going_said r t ts all d).2)
+      (λ n rest k j. used_inside s' os ts m (finely_as t.place s o (Given t.lexeme s') f e).0 n rest k j)
     where
-      go : InsideNext r.start t (going_said r t ts all d).1 ts → ((n : Reading) (rest : List Value) → is_top n.frames ≡ false → Going n ts rest → s'.used ≤ n.start + l.item) → s.used ≤ r.start + l.item
+      go : InsideNext r.start t (going_said r t ts all d).1 ts
+          → ((n : Reading) (rest : List Value) → is_top n.frames ≡ false → Going n ts rest → s'.used ≤ n.start + l.item) → s.used ≤ r.start + l.item
       go (stays n rest k i j) more = omega (arith, more n rest k j, i, one_given t.place s s' o t.lexeme e)
       go (closed k i) more = omega (arith, (finely_as t.place s o (Given t.lexeme s') f e).4, k, one_given t.place s s' o t.lexeme e)
-  used_inside _ _ _ (is_left s o os t ts s' e m) f r all h d = go (inside_token r t (going_said r t ts all d).1 ts all h d (going_said r t ts all d).2) (λ n rest k j. used_inside s' (o ∷ os) ts m (finely_as t.place s o (Left t.lexeme s') f e).0 n rest k j)
+  used_inside _ _ _ (is_left s o os t ts s' e m) f r all h d =
+      go (inside_token r t (going_said r t ts all d).1 ts all h d (going_said r t ts all d).2)
+      (λ n rest k j. used_inside s' (o ∷ os) ts m (finely_as t.place s o (Left t.lexeme s') f e).0 n rest k j)
     where
-      go : InsideNext r.start t (going_said r t ts all d).1 ts → ((n : Reading) (rest : List Value) → is_top n.frames ≡ false → Going n ts rest → s'.used ≤ n.start + l.item) → s.used ≤ r.start + l.item
+      go : InsideNext r.start t (going_said r t ts all d).1 ts
+          → ((n : Reading) (rest : List Value) → is_top n.frames ≡ false → Going n ts rest → s'.used ≤ n.start + l.item) → s.used ≤ r.start + l.item
       go (stays n rest k i j) more = omega (arith, more n rest k j, i, one_left t.place s s' o t.lexeme e)
       go (closed k i) more =
-          let c = closes_kind t.lexeme.kind t.lexeme.octets (going_said r t ts all d).1 i (said_body t.lexeme.kind t.lexeme.octets (going_said r t ts all d).1 (going_said r t ts all d).2) in
+          let c = closes_kind t.lexeme.kind t.lexeme.octets (going_said r t ts all d).1 i
+          (said_body t.lexeme.kind t.lexeme.octets (going_said r t ts all d).1 (going_said r t ts all d).2) in
           absurd (let n : true ≡ false = sym c ∙ (finely_as t.place s o (Left t.lexeme s') f e).5 in cc)
 
   -- at the top level a value or an annotation may come, or something waits
@@ -309,7 +337,8 @@ module _ (g : Catalog) (l : Limits) where
   -- the first token is within the limit of its item
   abbrev pub LimitFor : List Placed → Type 0
   LimitFor [] = Unit {0}
-  LimitFor (t ∷ ts) = (r : Reading) (all : List Value) (c : Content) → TopOk r → Going r (t ∷ ts) all → said t.lexeme.kind t.lexeme.octets ≡ Ok c → Direct r (token_of t.lexeme c) → t.lexeme.end ≤ start_now r.now r.start t.lexeme.start r.frames r.notes + l.item
+  LimitFor (t ∷ ts) = (r : Reading) (all : List Value) (c : Content) → TopOk r → Going r (t ∷ ts) all → said t.lexeme.kind t.lexeme.octets ≡ Ok c
+      → Direct r (token_of t.lexeme c) → t.lexeme.end ≤ start_now r.now r.start t.lexeme.start r.frames r.notes + l.item
 
   noted_start : (start begin : ℕ) (c : List Slot) (ss : Symbols) → is_fresh (at start c [] ss nows.Ready) ≡ false → begun_at start begin [] ss ≡ start
   noted_start start begin c [] h = absurd cc
@@ -333,7 +362,8 @@ module _ (g : Catalog) (l : Limits) where
   waiting_end (nows.LongName v) end d w k = absurd w
   waiting_end (nows.Keyed s) end d w k = absurd w
 
-  pub settled_bound : (start end : ℕ) (fs : List Frame) (t : Turn) (ts : List Placed) (all : List Value) → is_top fs ≡ true → SettlesWithin g l start end fs t → TurnGoes t ts all ⊎ TurnEnds t all → end ≤ start + l.item
+  pub settled_bound : (start end : ℕ) (fs : List Frame) (t : Turn) (ts : List Placed) (all : List Value) → is_top fs ≡ true → SettlesWithin g l start end fs t
+      → TurnGoes t ts all ⊎ TurnEnds t all → end ≤ start + l.item
   settled_bound start end fs (goes r) ts all h (inl k) d = absurd (let n : true ≡ false = sym h ∙ k.0 in cc)
   settled_bound start end fs (goes r) ts all h (inr k) d = k.1
   settled_bound start end fs (gives v r) ts all h k d = k.1
@@ -343,7 +373,8 @@ module _ (g : Catalog) (l : Limits) where
   settled_bound start end fs (late e r) ts all h k (inr d) = absurd d
 
   -- no operator at the top level
-  pub no_operator : (r : Reading) (t : Placed) → is_top r.frames ≡ true → t.place ≡ place r → (t.lexeme.kind ≡ kinds.Operator → is_sexp t.place ≡ true) → t.lexeme.kind ≡ kinds.Operator → ⊥
+  pub no_operator : (r : Reading) (t : Placed) → is_top r.frames ≡ true → t.place ≡ place r → (t.lexeme.kind ≡ kinds.Operator → is_sexp t.place ≡ true)
+      → t.lexeme.kind ≡ kinds.Operator → ⊥
   no_operator r t h e f k = let n : true ≡ false = sym (f k) ∙ ap is_sexp (e ∙ top_place r.frames r.now h) in cc
 
   -- the first token ends behind these octets, unless it is an operator
@@ -357,7 +388,8 @@ module _ (g : Catalog) (l : Limits) where
 
   module _ (s : Known) (os : List ℕ) (end : ℕ) (f : Fine s) (later : end ≤ s.used) where
     -- an item that is open up to a token at the top level is within the limit there
-    pub top_limit : (ts : List Placed) → Meets s os ts → Operators ts → LimitFor ts → EndsPast s.used ts → (m : Reading) (all : List Value) → is_top m.frames ≡ true → is_fresh m ≡ false → IsTopNow m.now → EndsAt m.now end → Going m ts all → end ≤ m.start + l.item
+    pub top_limit : (ts : List Placed) → Meets s os ts → Operators ts → LimitFor ts → EndsPast s.used ts → (m : Reading) (all : List Value)
+        → is_top m.frames ≡ true → is_fresh m ≡ false → IsTopNow m.now → EndsAt m.now end → Going m ts all → end ≤ m.start + l.item
     top_limit ts meets ops rest past m all h new ok at' d = go m.now refl ok
       where
         waited : IsWaiting g l m.now → end ≤ m.start + l.item
@@ -367,7 +399,8 @@ module _ (g : Catalog) (l : Limits) where
             same = waiting_end m.now end 0 w at'
 
             bound : (us : List Placed) → TurnGoes (settle g l m) us all ⊎ TurnEnds (settle g l m) all → end ≤ m.start + l.item
-            bound us x = let k = settled_bound m.start (end_of_now m.now 0) m.frames (settle g l m) us all h (settle_spans g l m.start m.context m.frames m.notes m.now 0 w) x in omega (arith, k, same)
+            bound us x = let k = settled_bound m.start (end_of_now m.now 0) m.frames (settle g l m) us all h
+                (settle_spans g l m.start m.context m.frames m.notes m.now 0 w) x in omega (arith, k, same)
 
             by : (ts : List Placed) → Meets s os ts → Operators ts → LimitFor ts → EndsPast s.used ts → Going m ts all → end ≤ m.start + l.item
             by [] meets ops rest past d = bound [] (inr (going_ends m all d))
@@ -375,7 +408,8 @@ module _ (g : Catalog) (l : Limits) where
                 let p = going_said m t ts all d in
                 one p.0 p.1 p.2 (continues m (token_of t.lexeme p.1)) refl
               where
-                one : t.place ≡ place m → (c : Content) → said t.lexeme.kind t.lexeme.octets ≡ Ok c → (b : Bool) → continues m (token_of t.lexeme c) ≡ b → end ≤ m.start + l.item
+                one : t.place ≡ place m → (c : Content) → said t.lexeme.kind t.lexeme.octets ≡ Ok c → (b : Bool) → continues m (token_of t.lexeme c) ≡ b
+                    → end ≤ m.start + l.item
                 one p c e true w' =
                     let k = rest m all c (λ x. ok) d e (inl w') in
                     let i = waiting_start m.now m.start t.lexeme.start m.frames m.notes w in
@@ -403,7 +437,8 @@ module _ (g : Catalog) (l : Limits) where
                 let p = going_said m t ts all d in
                 let c = rest m all p.1 (λ x. ok) d p.2 (inr none) in
                 let i : start_now m.now m.start t.lexeme.start m.frames m.notes ≡ m.start =
-                ap (λ (x : Reading). start_now x.now x.start t.lexeme.start x.frames x.notes) whole ∙ noted_start m.start t.lexeme.start m.context m.notes (sym (ap is_fresh whole) ∙ new) in
+                ap (λ (x : Reading). start_now x.now x.start t.lexeme.start x.frames x.notes) whole
+                ∙ noted_start m.start t.lexeme.start m.context m.notes (sym (ap is_fresh whole) ∙ new) in
                 elim past [
                   | inl j ↦ omega (arith, j, c, i, later)
                   | inr j ↦ absurd (no_operator m t h p.0 ops.0 j)
@@ -419,7 +454,9 @@ module _ (g : Catalog) (l : Limits) where
         go (nows.Keyed k) x y = absurd y
 
     -- behind a token
-    turn_limit : (r : Reading) (t : Placed) (c : Content) (ts : List Placed) (all : List Value) → t.lexeme.end ≡ end → Meets s os ts → Operators ts → LimitFor ts → (is_top r.frames ≡ true → is_idle s.mode ≡ true) → (x : Turn) (start : ℕ) → Spans (is_top r.frames) c l.item start t.lexeme.end x → TurnGoes x ts all
+    turn_limit : (r : Reading) (t : Placed) (c : Content) (ts : List Placed) (all : List Value) → t.lexeme.end ≡ end → Meets s os ts → Operators ts
+        → LimitFor ts → (is_top r.frames ≡ true → is_idle s.mode ≡ true) → (x : Turn) (start : ℕ) → Spans (is_top r.frames) c l.item start t.lexeme.end x
+        → TurnGoes x ts all
         → t.lexeme.end ≤ start + l.item
     turn_limit r t c ts all same meets ops rest idle (goes m) start (inl (o, from, to)) d = go o
       where
@@ -432,7 +469,8 @@ module _ (g : Catalog) (l : Limits) where
           where
             by : (b : Bool) → is_top m.frames ≡ b → t.lexeme.end ≤ start + l.item
             by false h = inside h
-            by true h = let k = top_limit ts meets ops rest (idle_past s os ts meets f (idle top)) m all h new ok (subst (EndsAt m.now) same to) d in omega (arith, k, from, same)
+            by true h = let k = top_limit ts meets ops rest (idle_past s os ts meets f (idle top)) m all h new ok (subst (EndsAt m.now) same to) d in
+                omega (arith, k, from, same)
     turn_limit r t c ts all same meets ops rest idle (goes m) start (inr k) d = k.0
     turn_limit r t c ts all same meets ops rest idle (gives v m) start k d = k.0
     turn_limit r t c ts all same meets ops rest idle (refuses e) start k d = absurd d
@@ -442,25 +480,35 @@ module _ (g : Catalog) (l : Limits) where
   pub limit : (s : Known) (os : List ℕ) (ts : List Placed) → Meets s os ts → Fine s → Operators ts → LimitFor ts
   limit _ _ _ (at_blank s e) f ops = tt
   limit _ _ _ (in_blank s o os s' e m) f ops = tt
-  limit _ _ _ (at_token s t e) f ops = λ r all c ok d i w. go r all c ok (turn g l r (token_of t.lexeme c)) (turn_spans g l r (token_of t.lexeme c) ok) (going_turn r t [] all c d i w)
+  limit _ _ _ (at_token s t e) f ops = λ r all c ok d i w. go r all c ok (turn g l r (token_of t.lexeme c)) (turn_spans g l r (token_of t.lexeme c) ok)
+      (going_turn r t [] all c d i w)
     where
-      ended : (n : Now) (start : ℕ) (c : List Slot) (ss : Symbols) → IsTopNow n → is_fresh (at start c [] ss n) ≡ false → EndsAt n t.lexeme.end → (all : List Value) → Going (at start c [] ss n) [] all → t.lexeme.end ≤ start + l.item
-      ended (nows.Pending h y) start c ss ok new at' all d = let k = settled_bound start y [] (settle g l (at start c [] ss (nows.Pending h y))) [] all refl (settle_spans g l start c [] ss (nows.Pending h y) 0 tt) (inr (going_ends (at start c [] ss (nows.Pending h y)) all d)) in omega (arith, k, at')
-      ended (nows.Long w y) start c ss ok new at' all d = let k = settled_bound start y [] (settle g l (at start c [] ss (nows.Long w y))) [] all refl (settle_spans g l start c [] ss (nows.Long w y) 0 tt) (inr (going_ends (at start c [] ss (nows.Long w y)) all d)) in omega (arith, k, at')
-      ended nows.Ready start c ss ok new at' all d = let y = going_ends (at start c [] ss nows.Ready) all d in absurd (let n : false ≡ true = sym new ∙ ap is_fresh y.0.1 in cc)
+      ended : (n : Now) (start : ℕ) (c : List Slot) (ss : Symbols) → IsTopNow n → is_fresh (at start c [] ss n) ≡ false → EndsAt n t.lexeme.end
+          → (all : List Value) → Going (at start c [] ss n) [] all → t.lexeme.end ≤ start + l.item
+      ended (nows.Pending h y) start c ss ok new at' all d = let k =
+          settled_bound start y [] (settle g l (at start c [] ss (nows.Pending h y))) [] all refl (settle_spans g l start c [] ss (nows.Pending h y) 0 tt)
+          (inr (going_ends (at start c [] ss (nows.Pending h y)) all d)) in omega (arith, k, at')
+      ended (nows.Long w y) start c ss ok new at' all d = let k =
+          settled_bound start y [] (settle g l (at start c [] ss (nows.Long w y))) [] all refl (settle_spans g l start c [] ss (nows.Long w y) 0 tt)
+          (inr (going_ends (at start c [] ss (nows.Long w y)) all d)) in omega (arith, k, at')
+      ended nows.Ready start c ss ok new at' all d = let y = going_ends (at start c [] ss nows.Ready) all d in
+          absurd (let n : false ≡ true = sym new ∙ ap is_fresh y.0.1 in cc)
       ended nows.After start c ss ok new at' all d = absurd ok
       ended nows.Name start c ss ok new at' all d = absurd ok
       ended (nows.LongName w) start c ss ok new at' all d = absurd ok
       ended (nows.Keyed k) start c ss ok new at' all d = absurd ok
 
-      open' : (m : Reading) (all : List Value) (fs : List Frame) → m.frames ≡ fs → OpenAs true m → EndsAt m.now t.lexeme.end → Going m [] all → t.lexeme.end ≤ m.start + l.item
+      open' : (m : Reading) (all : List Value) (fs : List Frame) → m.frames ≡ fs → OpenAs true m → EndsAt m.now t.lexeme.end → Going m [] all
+          → t.lexeme.end ≤ m.start + l.item
       open' m all (y ∷ fs) k o at' d = absurd (inside_end m all (ap is_top k) d)
       open' m all [] k (inl h) at' d = absurd (inside_end m all h d)
       open' m all [] k (inr (top, new, ok)) at' d =
           let same : m ≡ at m.start m.context [] m.notes m.now = ap (λ y. at m.start m.context y m.notes m.now) k in
           ended m.now m.start m.context m.notes ok (sym (ap is_fresh same) ∙ new) at' all (subst (λ y. Going y [] all) same d)
 
-      go : (r : Reading) (all : List Value) (c : Content) → TopOk r → (y : Turn) → Spans (is_top r.frames) c l.item (start_now r.now r.start t.lexeme.start r.frames r.notes) t.lexeme.end y → TurnGoes y [] all → t.lexeme.end ≤ start_now r.now r.start t.lexeme.start r.frames r.notes + l.item
+      go : (r : Reading) (all : List Value) (c : Content) → TopOk r → (y : Turn)
+          → Spans (is_top r.frames) c l.item (start_now r.now r.start t.lexeme.start r.frames r.notes) t.lexeme.end y → TurnGoes y [] all
+          → t.lexeme.end ≤ start_now r.now r.start t.lexeme.start r.frames r.notes + l.item
       go r all c ok (goes m) (inl (inl h, from, to)) d = absurd (inside_end m all h d)
       go r all c ok (goes m) (inl (inr (top, new, fine), from, to)) d = let k = open' m all m.frames refl (inr (refl, new, fine)) to d in omega (arith, k, from)
       go r all c ok (goes m) (inr k) d = k.0
@@ -471,11 +519,14 @@ module _ (g : Catalog) (l : Limits) where
   limit _ _ _ (is_given s o os t ts s' e m) f ops =
       let x = finely_as t.place s o (Given t.lexeme s') f e in
       let rest = limit s' os ts m x.0 ops.1 in
-      λ r all c ok d i w. turn_limit s' os t.lexeme.end x.0 (omega (arith, x.4)) r t c ts all refl m ops.1 rest (λ h. x.3) (turn g l r (token_of t.lexeme c)) (start_now r.now r.start t.lexeme.start r.frames r.notes) (turn_spans g l r (token_of t.lexeme c) ok) (going_turn r t ts all c d i w)
+      λ r all c ok d i w. turn_limit s' os t.lexeme.end x.0 (omega (arith, x.4)) r t c ts all refl m ops.1 rest (λ h. x.3) (turn g l r (token_of t.lexeme c))
+      (start_now r.now r.start t.lexeme.start r.frames r.notes) (turn_spans g l r (token_of t.lexeme c) ok) (going_turn r t ts all c d i w)
   limit _ _ _ (is_left s o os t ts s' e m) f ops =
       let x = finely_as t.place s o (Left t.lexeme s') f e in
       let rest = limit s' (o ∷ os) ts m x.0 ops.1 in
-      λ r all c ok d i w. turn_limit s' (o ∷ os) t.lexeme.end x.0 x.6 r t c ts all refl m ops.1 rest (idle x.4 r (going_said r t ts all d).0) (turn g l r (token_of t.lexeme c)) (start_now r.now r.start t.lexeme.start r.frames r.notes) (turn_spans g l r (token_of t.lexeme c) ok) (going_turn r t ts all c d i w)
+      λ r all c ok d i w. turn_limit s' (o ∷ os) t.lexeme.end x.0 x.6 r t c ts all refl m ops.1 rest (idle x.4 r (going_said r t ts all d).0)
+      (turn g l r (token_of t.lexeme c)) (start_now r.now r.start t.lexeme.start r.frames r.notes) (turn_spans g l r (token_of t.lexeme c) ok)
+      (going_turn r t ts all c d i w)
     where
       idle : (is_idle s'.mode ≡ true) ⊎ (t.lexeme.kind ≡ kinds.Operator) → (r : Reading) → t.place ≡ place r → is_top r.frames ≡ true → is_idle s'.mode ≡ true
       idle (inl h) r p k = h

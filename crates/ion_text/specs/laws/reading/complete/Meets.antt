@@ -40,9 +40,12 @@ pub data Meets : Known → List ℕ → List Placed → Type 0 where
   at_blank : (s : Known) → at_end places.Top s ≡ Ok None → Meets s [] []
   at_token : (s : Known) (t : Placed) → at_end t.place s ≡ Ok (Some t.lexeme) → Meets s [] (t ∷ [])
   in_blank : (s : Known) (o : ℕ) (os : List ℕ) (s' : Known) → feed places.Top s o ≡ Next s' → Meets s' os [] → Meets s (o ∷ os) []
-  goes_on : (s : Known) (o : ℕ) (os : List ℕ) (t : Placed) (ts : List Placed) (s' : Known) → feed t.place s o ≡ Next s' → Meets s' os (t ∷ ts) → Meets s (o ∷ os) (t ∷ ts)
-  is_given : (s : Known) (o : ℕ) (os : List ℕ) (t : Placed) (ts : List Placed) (s' : Known) → feed t.place s o ≡ Given t.lexeme s' → Meets s' os ts → Meets s (o ∷ os) (t ∷ ts)
-  is_left : (s : Known) (o : ℕ) (os : List ℕ) (t : Placed) (ts : List Placed) (s' : Known) → feed t.place s o ≡ Left t.lexeme s' → Meets s' (o ∷ os) ts → Meets s (o ∷ os) (t ∷ ts)
+  goes_on : (s : Known) (o : ℕ) (os : List ℕ) (t : Placed) (ts : List Placed) (s' : Known) → feed t.place s o ≡ Next s' → Meets s' os (t ∷ ts)
+      → Meets s (o ∷ os) (t ∷ ts)
+  is_given : (s : Known) (o : ℕ) (os : List ℕ) (t : Placed) (ts : List Placed) (s' : Known) → feed t.place s o ≡ Given t.lexeme s' → Meets s' os ts
+      → Meets s (o ∷ os) (t ∷ ts)
+  is_left : (s : Known) (o : ℕ) (os : List ℕ) (t : Placed) (ts : List Placed) (s' : Known) → feed t.place s o ≡ Left t.lexeme s' → Meets s' (o ∷ os) ts
+      → Meets s (o ∷ os) (t ∷ ts)
 
 -- what the table says of a text, and of a token that is left
 
@@ -142,18 +145,23 @@ pub finely_as : (p : Place) (s : Known) (o : ℕ) (x : Outcome) → Fine s → f
 finely_as p s o x h e = subst (Finely s.mode) e (feed_fine p s o h)
 
 -- one that has begun is no mark, but for an open brace
-pub begun_closing : (s : Known) (os : List ℕ) (t : Placed) (ts : List Placed) → Meets s os (t ∷ ts) → is_sane s.mode ≡ true → is_idle s.mode ≡ false → is_closing t.lexeme.kind ≡ false
+pub begun_closing : (s : Known) (os : List ℕ) (t : Placed) (ts : List Placed) → Meets s os (t ∷ ts) → is_sane s.mode ≡ true → is_idle s.mode ≡ false
+    → is_closing t.lexeme.kind ≡ false
 begun_closing _ _ _ _ (at_token s t e) h i = (at_end_fine t.place s t.lexeme e).2 i
 begun_closing _ _ _ _ (goes_on s o os t ts s' e m) h i = let f = follows_as t.place s o (Next s') h e in begun_closing s' os t ts m f.0 (f.1 i)
 begun_closing _ _ _ _ (is_given s o os t ts s' e m) h i = let f = follows_as t.place s o (Given t.lexeme s') h e in mark_closing t.lexeme.kind (f.0 i)
 begun_closing _ _ _ _ (is_left s o os t ts s' e m) h i = let f = follows_as t.place s o (Left t.lexeme s') h e in f.1 i
 
 -- one that has begun without quotes is no segment and no `''`
-pub begun_apart : (s : Known) (os : List ℕ) (t : Placed) (ts : List Placed) → Meets s os (t ∷ ts) → is_sane s.mode ≡ true → Fine s → NoLongText s.mode → (is_segment t.lexeme.kind ≡ false) × (is_two_quotes t.lexeme.kind t.lexeme.start t.lexeme.end ≡ false)
+pub begun_apart : (s : Known) (os : List ℕ) (t : Placed) (ts : List Placed) → Meets s os (t ∷ ts) → is_sane s.mode ≡ true → Fine s → NoLongText s.mode
+    → (is_segment t.lexeme.kind ≡ false) × (is_two_quotes t.lexeme.kind t.lexeme.start t.lexeme.end ≡ false)
 begun_apart _ _ _ _ (at_token s t e) h f k = let a = at_end_fine t.place s t.lexeme e in (a.0, left_none t.lexeme.kind t.lexeme.start t.lexeme.end (a.1 k.1))
-begun_apart _ _ _ _ (goes_on s o os t ts s' e m) h f k = let a = follows_as t.place s o (Next s') h e in begun_apart s' os t ts m a.0 (finely_as t.place s o (Next s') f e) (a.1 k.0, a.2 k.0 k.1)
-begun_apart _ _ _ _ (is_given s o os t ts s' e m) h f k = let a = follows_as t.place s o (Given t.lexeme s') h e in let b = finely_as t.place s o (Given t.lexeme s') f e in (a.1 k.0 k.1, given_far t.lexeme b.1)
-begun_apart _ _ _ _ (is_left s o os t ts s' e m) h f k = let b = finely_as t.place s o (Left t.lexeme s') f e in (b.1, left_none t.lexeme.kind t.lexeme.start t.lexeme.end (b.2 k.1))
+begun_apart _ _ _ _ (goes_on s o os t ts s' e m) h f k = let a = follows_as t.place s o (Next s') h e in
+    begun_apart s' os t ts m a.0 (finely_as t.place s o (Next s') f e) (a.1 k.0, a.2 k.0 k.1)
+begun_apart _ _ _ _ (is_given s o os t ts s' e m) h f k = let a = follows_as t.place s o (Given t.lexeme s') h e in let b =
+    finely_as t.place s o (Given t.lexeme s') f e in (a.1 k.0 k.1, given_far t.lexeme b.1)
+begun_apart _ _ _ _ (is_left s o os t ts s' e m) h f k = let b = finely_as t.place s o (Left t.lexeme s') f e in
+    (b.1, left_none t.lexeme.kind t.lexeme.start t.lexeme.end (b.2 k.1))
 
 -- where the end ends a token
 pub end_spans : (s : Known) (e : End) (x : Lexeme) → ends_at s e ≡ Ok (Some x) → (x.start ≡ start_of s.mode s.start s.used) × (x.end ≡ s.used)
@@ -169,7 +177,8 @@ one_reaches : (p : Place) (s : Known) (o start end : ℕ) (x : Outcome) → Reac
 one_reaches p s o start end x h e = subst (λ y. Reaches start end (follow y (λ t. Next t))) e (run_reaches p (o ∷ []) s start end h)
 
 -- one that has begun reaches over the octets that are surely its own, but for an operator
-begun_covers : (start end : ℕ) (s : Known) (os : List ℕ) (t : Placed) (ts : List Placed) → Meets s os (t ∷ ts) → (s.start ≡ start) × (is_idle s.mode ≡ false) × (end + behind s.mode ≤ s.used)
+begun_covers : (start end : ℕ) (s : Known) (os : List ℕ) (t : Placed) (ts : List Placed) → Meets s os (t ∷ ts) → (s.start ≡ start) × (is_idle s.mode ≡ false)
+    × (end + behind s.mode ≤ s.used)
     → (t.lexeme.start ≡ start) × ((end ≤ t.lexeme.end) ⊎ (t.lexeme.kind ≡ kinds.Operator))
 unfolding Reaches
 begun_covers start end _ _ _ _ (at_token s t e) h =
@@ -180,7 +189,8 @@ begun_covers start end _ _ _ _ (goes_on s o os t ts s' e m) h = begun_covers sta
 begun_covers start end _ _ _ _ (is_given s o os t ts s' e m) h = let x = one_reaches t.place s o start end (Given t.lexeme s') h e in (x.0, inl x.1)
 begun_covers start end _ _ _ _ (is_left s o os t ts s' e m) h = let x = one_reaches t.place s o start end (Left t.lexeme s') h e in (x.0, less x.1)
   where
-    less : (end ≤ t.lexeme.end) ⊎ ((t.lexeme.kind ≡ kinds.Operator) × (s'.start ≡ t.lexeme.end) × (is_idle s'.mode ≡ false) × (end + behind s'.mode ≤ s'.used)) → (end ≤ t.lexeme.end) ⊎ (t.lexeme.kind ≡ kinds.Operator)
+    less : (end ≤ t.lexeme.end) ⊎ ((t.lexeme.kind ≡ kinds.Operator) × (s'.start ≡ t.lexeme.end) × (is_idle s'.mode ≡ false) × (end + behind s'.mode ≤ s'.used))
+        → (end ≤ t.lexeme.end) ⊎ (t.lexeme.kind ≡ kinds.Operator)
     less (inl k) = inl k
     less (inr k) = inr k.0
 
@@ -193,7 +203,8 @@ behind_used : (m : Mode) (used : ℕ) → 1 ≤ used → used - behind m + behin
 behind_used m used h = let k = behind_one m in omega arith
 
 -- the token that has begun
-pub begun_span : (s : Known) (os : List ℕ) (t : Placed) (ts : List Placed) → Meets s os (t ∷ ts) → is_idle s.mode ≡ false → 1 ≤ s.used → (t.lexeme.start ≡ s.start) × ((s.used - behind s.mode ≤ t.lexeme.end) ⊎ (t.lexeme.kind ≡ kinds.Operator))
+pub begun_span : (s : Known) (os : List ℕ) (t : Placed) (ts : List Placed) → Meets s os (t ∷ ts) → is_idle s.mode ≡ false → 1 ≤ s.used
+    → (t.lexeme.start ≡ s.start) × ((s.used - behind s.mode ≤ t.lexeme.end) ⊎ (t.lexeme.kind ≡ kinds.Operator))
 begun_span s os t ts m i u = begun_covers s.start (s.used - behind s.mode) s os t ts m (refl, i, behind_used s.mode s.used u)
 
 -- an octet that ends a token is used
@@ -201,14 +212,16 @@ pub one_given : (p : Place) (s s' : Known) (o : ℕ) (x : Lexeme) → feed p s o
 one_given p s s' o x e = let k = given_used p (o ∷ []) s s' x (sym (ap (λ y. follow y (λ t. Next t)) e)) in omega (arith, k.0)
 
 -- where none has begun, the next one ends behind the octets used
-pub idle_span : (s : Known) (os : List ℕ) (t : Placed) (ts : List Placed) → Meets s os (t ∷ ts) → Fine s → is_idle s.mode ≡ true → (s.used ≤ t.lexeme.end) ⊎ (t.lexeme.kind ≡ kinds.Operator)
+pub idle_span : (s : Known) (os : List ℕ) (t : Placed) (ts : List Placed) → Meets s os (t ∷ ts) → Fine s → is_idle s.mode ≡ true → (s.used ≤ t.lexeme.end)
+    ⊎ (t.lexeme.kind ≡ kinds.Operator)
 idle_span _ _ _ _ (at_token s t e) f i = let x = end_spans s (end_of t.place s.mode) t.lexeme e in inl (omega (arith, x.1))
 idle_span _ _ _ _ (goes_on s o os t ts s' e m) f i = go (λ j. idle_span s' os t ts m (finely_as t.place s o (Next s') f e) j) (is_idle s'.mode) refl
   where
     one : s'.used ≡ s.used + 1
     one = feed_used t.place s s' o e
 
-    go : (is_idle s'.mode ≡ true → (s'.used ≤ t.lexeme.end) ⊎ (t.lexeme.kind ≡ kinds.Operator)) → (b : Bool) → is_idle s'.mode ≡ b → (s.used ≤ t.lexeme.end) ⊎ (t.lexeme.kind ≡ kinds.Operator)
+    go : (is_idle s'.mode ≡ true → (s'.used ≤ t.lexeme.end) ⊎ (t.lexeme.kind ≡ kinds.Operator)) → (b : Bool) → is_idle s'.mode ≡ b → (s.used ≤ t.lexeme.end)
+        ⊎ (t.lexeme.kind ≡ kinds.Operator)
     go rest true j = elim (rest j) [
       | inl k ↦ inl (omega (arith, one, k))
       | inr k ↦ inr k
@@ -217,15 +230,18 @@ idle_span _ _ _ _ (goes_on s o os t ts s' e m) f i = go (λ j. idle_span s' os t
       | inl k ↦ inl (omega (arith, one, k, behind_one s'.mode))
       | inr k ↦ inr k
     ]
-idle_span _ _ _ _ (is_given s o os t ts s' e m) f i = let x = finely_as t.place s o (Given t.lexeme s') f e in inl (omega (arith, x.4, one_given t.place s s' o t.lexeme e))
+idle_span _ _ _ _ (is_given s o os t ts s' e m) f i = let x = finely_as t.place s o (Given t.lexeme s') f e in
+    inl (omega (arith, x.4, one_given t.place s s' o t.lexeme e))
 idle_span _ _ _ _ (is_left s o os t ts s' e m) f i = go (subst (IdleLeft t.place s.used) e (idle_left t.place s o i))
   where
-    go : ((t.lexeme.kind ≡ kinds.Mark marks.Colon) × (s.used ≤ t.lexeme.end)) ⊎ ((t.lexeme.kind ≡ kinds.Operator) × (is_sexp t.place ≡ true)) → (s.used ≤ t.lexeme.end) ⊎ (t.lexeme.kind ≡ kinds.Operator)
+    go : ((t.lexeme.kind ≡ kinds.Mark marks.Colon) × (s.used ≤ t.lexeme.end)) ⊎ ((t.lexeme.kind ≡ kinds.Operator) × (is_sexp t.place ≡ true))
+        → (s.used ≤ t.lexeme.end) ⊎ (t.lexeme.kind ≡ kinds.Operator)
     go (inl h) = inl h.1
     go (inr h) = inr h.0
 
 -- a long text becomes a segment
-pub long_segment : (s : Known) (os : List ℕ) (t : Placed) (ts : List Placed) → Meets s os (t ∷ ts) → is_long_text s.mode ≡ true → is_segment t.lexeme.kind ≡ true
+pub long_segment : (s : Known) (os : List ℕ) (t : Placed) (ts : List Placed) → Meets s os (t ∷ ts) → is_long_text s.mode ≡ true → is_segment t.lexeme.kind
+    ≡ true
 long_segment _ _ _ _ (at_token s t e) h = absurd (go s.mode h (ap (λ m. ends_at s (end_of t.place m)) refl ∙ e))
   where
     go : (m : Mode) → is_long_text m ≡ true → ends_at s (end_of t.place m) ≡ Ok (Some t.lexeme) → ⊥

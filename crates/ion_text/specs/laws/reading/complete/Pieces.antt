@@ -50,8 +50,10 @@ quoted_kind kinds.Blob octets w h = absurd cc
 quoted_kind (kinds.Mark m) octets w h = absurd cc
 
 begins_so : (t : Placed) (ts : List Placed) (c : Content) → Says places.Top t c → GoesOn (token_of t.lexeme c) → begins_as_long (t ∷ ts) ≡ true
-begins_so t ts c h (inl (w, e)) = ap (λ (b : Bool). b || is_two_quotes t.lexeme.kind t.lexeme.start t.lexeme.end) (segment_kind t.lexeme.kind t.lexeme.octets w (subst (λ x. IsBody t.lexeme.kind t.lexeme.octets (Ok x)) e h.body))
-begins_so t ts c h (inr (w, e, n)) = ap (λ k. is_segment k || is_two_quotes k t.lexeme.start t.lexeme.end) (quoted_kind t.lexeme.kind t.lexeme.octets w (subst (λ x. IsBody t.lexeme.kind t.lexeme.octets (Ok x)) e h.body)) ∙ n
+begins_so t ts c h (inl (w, e)) = ap (λ (b : Bool). b || is_two_quotes t.lexeme.kind t.lexeme.start t.lexeme.end)
+    (segment_kind t.lexeme.kind t.lexeme.octets w (subst (λ x. IsBody t.lexeme.kind t.lexeme.octets (Ok x)) e h.body))
+begins_so t ts c h (inr (w, e, n)) = ap (λ k. is_segment k || is_two_quotes k t.lexeme.start t.lexeme.end)
+    (quoted_kind t.lexeme.kind t.lexeme.octets w (subst (λ x. IsBody t.lexeme.kind t.lexeme.octets (Ok x)) e h.body)) ∙ n
 
 module _ (g : Catalog) (l : Limits) where
   -- the pieces so far, of which the last may wait still
@@ -76,9 +78,11 @@ module _ (g : Catalog) (l : Limits) where
       reading_of d stopped = d
 
   -- what waited comes first, and then the reader goes on
-  pub settled_first : (x : Turn) (later : List Value) (n : Reading) (f : Reading → Walk) → on_turn x done ≡ walked later n → on_turn x f ≡ adds_values later (f n)
+  pub settled_first : (x : Turn) (later : List Value) (n : Reading) (f : Reading → Walk) → on_turn x done ≡ walked later n
+      → on_turn x f ≡ adds_values later (f n)
   settled_first (goes r) later n f e = let w = walked_now [] later r n e in ap f w.1 ∙ (sym (adds_none g l (f n)) ∙ ap (λ vs. adds_values vs (f n)) w.0)
-  settled_first (gives v r) later n f e = let w = walked_now (v ∷ []) later r n e in ap (λ k. adds_values (v ∷ []) (f k)) w.1 ∙ ap (λ vs. adds_values vs (f n)) w.0
+  settled_first (gives v r) later n f e = let w = walked_now (v ∷ []) later r n e in ap (λ k. adds_values (v ∷ []) (f k)) w.1
+      ∙ ap (λ vs. adds_values vs (f n)) w.0
   settled_first (refuses x) later n f e = absurd cc
   settled_first (late x r) later n f e = absurd cc
 
@@ -86,13 +90,15 @@ module _ (g : Catalog) (l : Limits) where
   pub top_now : (r : Reading) (later : List Value) (c : List Slot) → on_turn (settle g l r) done ≡ walked later (fresh c) → places.Top ≡ place r
   top_now r later c e = go (settle g l r) (settle_same g l r.start r.context r.frames r.notes r.now) e
     where
-      go : (t : Turn) → Leading g l (λ m. (place m ≡ place r) × (is_top m.frames ≡ is_top r.frames)) t → on_turn t done ≡ walked later (fresh c) → places.Top ≡ place r
+      go : (t : Turn) → Leading g l (λ m. (place m ≡ place r) × (is_top m.frames ≡ is_top r.frames)) t → on_turn t done ≡ walked later (fresh c)
+          → places.Top ≡ place r
       go (goes n) h e = let w = walked_now [] later n (fresh c) e in ap place (sym w.1) ∙ h.0
       go (gives v n) h e = let w = walked_now (v ∷ []) later n (fresh c) e in ap place (sym w.1) ∙ h.0
       go (refuses x) h e = absurd cc
       go (late x n) h e = absurd cc
 
-  shut_here : (ts us : List Placed) (s : List Value) (c : List Slot) (d : ReadSoFar ts s c) (b : Begins g l places.Top us) → (ends_long ts && begins_as_long us) ≡ false → continues d.now (token_of b.first.lexeme b.said) ≡ false
+  shut_here : (ts us : List Placed) (s : List Value) (c : List Slot) (d : ReadSoFar ts s c) (b : Begins g l places.Top us) → (ends_long ts && begins_as_long us)
+      ≡ false → continues d.now (token_of b.first.lexeme b.said) ≡ false
   shut_here ts us s c d b e = go (continues d.now (token_of b.first.lexeme b.said)) refl
     where
       none : (t : Token) → t ≡ token_of b.first.lexeme b.said → (t.said ≡ Mark' marks.Colons) ⊎ ((ends_long ts ≡ true) × GoesOn t) → ⊥
@@ -108,14 +114,17 @@ module _ (g : Catalog) (l : Limits) where
       go true k = absurd (none (token_of b.first.lexeme b.said) refl (d.shuts (token_of b.first.lexeme b.said) k))
 
   -- Behind pieces, more tokens that don't go on with what waits are read where nothing is open.
-  pub more_read : (ts us : List Placed) (s : List Value) (c : List Slot) (d : ReadSoFar ts s c) → (b : Begins g l places.Top us) → (ends_long ts && begins_as_long us) ≡ false → reads g l (fresh system_slots) (ts ++ us) ≡ adds_values s (reads g l (fresh c) us)
+  pub more_read : (ts us : List Placed) (s : List Value) (c : List Slot) (d : ReadSoFar ts s c) → (b : Begins g l places.Top us)
+      → (ends_long ts && begins_as_long us) ≡ false → reads g l (fresh system_slots) (ts ++ us) ≡ adds_values s (reads g l (fresh c) us)
   more_read ts us s c d b e =
       let shut = shut_here ts us s c d b e in
       let f : Reading → Walk = λ k. on_turn (turn g l k (token_of b.first.lexeme b.said)) (λ n. reads g l n b.later) in
       let here : reads g l d.now (b.first ∷ b.later) ≡ on_turn (settle g l d.now) f =
-      in_place g l places.Top d.now b.first b.said (on_judged g l d.now b.first (said b.first.lexeme.kind b.first.lexeme.octets) (λ n. reads g l n b.later)) b.says (top_now d.now d.later c d.settles)
+      in_place g l places.Top d.now b.first b.said (on_judged g l d.now b.first (said b.first.lexeme.kind b.first.lexeme.octets) (λ n. reads g l n b.later))
+      b.says (top_now d.now d.later c d.settles)
       ∙ ap (λ x. on_judged g l d.now b.first x (λ n. reads g l n b.later)) (said_ok g l places.Top b.first b.said b.says)
-      ∙ ap (λ (x : Bool). if x then on_turn (turn g l d.now (token_of b.first.lexeme b.said)) (λ n. reads g l n b.later) else on_turn (settle g l d.now) f) shut in
+      ∙ ap (λ (x : Bool). if x then on_turn (turn g l d.now (token_of b.first.lexeme b.said)) (λ n. reads g l n b.later) else on_turn (settle g l d.now) f)
+      shut in
       let there : reads g l (fresh c) (b.first ∷ b.later) ≡ f (fresh c) = first_token g l places.Top (fresh c) b.first b.said b.later b.says refl (inr refl) in
       reads-append g l ts us (fresh system_slots)
       ∙ (ap (λ x. then_walk x (λ k. reads g l k us)) d.read
@@ -133,7 +142,8 @@ module _ (g : Catalog) (l : Limits) where
       front (x ∷ []) t us = refl
       front (x ∷ y ∷ ts) t us = front (y ∷ ts) t us
 
-  long_goes_top : (start : ℕ) (c : List Slot) (ss : Symbols) (w : List ℕ) (end : ℕ) (t : Token) → continues (at start c [] ss (nows.Long w end)) t ≡ true → GoesOn t
+  long_goes_top : (start : ℕ) (c : List Slot) (ss : Symbols) (w : List ℕ) (end : ℕ) (t : Token) → continues (at start c [] ss (nows.Long w end)) t ≡ true
+      → GoesOn t
   long_goes_top start c ss w end t e = go t.said refl e
     where
       go : (s : Content) → t.said ≡ s → continues (at start c [] ss (nows.Long w end)) (record { start = t.start; end = t.end; said = s }) ≡ true → GoesOn t
@@ -150,7 +160,9 @@ module _ (g : Catalog) (l : Limits) where
       go (Blob w) k e = absurd cc
 
   -- one more piece, by the turn that completes it
-  piece_more : (ts us : List Placed) (s more : List Value) (c d : List Slot) (t : Turn) → ReadSoFar ts s c → (b : Begins g l places.Top us) → (ends_long ts && begins_as_long us) ≡ false → LeadsToTurn g l c [] (fresh c) us t → on_turn t done ≡ walked more (fresh d) → ReadSoFar (ts ++ us) (s ++ more) d
+  piece_more : (ts us : List Placed) (s more : List Value) (c d : List Slot) (t : Turn) → ReadSoFar ts s c → (b : Begins g l places.Top us)
+      → (ends_long ts && begins_as_long us) ≡ false → LeadsToTurn g l c [] (fresh c) us t → on_turn t done ≡ walked more (fresh d)
+      → ReadSoFar (ts ++ us) (s ++ more) d
   piece_more ts us s more c d t r b e (at_once h) k = record {
     given = s ++ more;
     later = [];
@@ -204,7 +216,8 @@ module _ (g : Catalog) (l : Limits) where
   pieces_read _ _ _ (marked ts s c t d h i) =
       let b : Begins g l places.Top (t ∷ []) = record { first = t; later = []; said = Word the_marker; cut = refl; says = h; no_colons = λ e. cc } in
       subst (λ x. ReadSoFar (ts ++ t ∷ []) x system_slots) (append-nil s)
-      (piece_more ts (t ∷ []) s [] c system_slots (released (under g l) (spot_at t.lexeme.end t.lexeme.start c) [] [] (held_word the_marker)) (pieces_read ts s c d) b (no_long (ends_long ts) t h)
+      (piece_more ts (t ∷ []) s [] c system_slots (released (under g l) (spot_at t.lexeme.end t.lexeme.start c) [] [] (held_word the_marker))
+      (pieces_read ts s c d) b (no_long (ends_long ts) t h)
       (by_held t.lexeme.start [] (held_word the_marker) t.lexeme.end (first_token g l places.Top (fresh c) t (Word the_marker) [] h refl (inr refl)) refl)
       (ap (λ x. on_turn x done) (cond-true _ _ _ (fits_span (t ∷ []) b i))))
     where

@@ -90,7 +90,8 @@ blank_idle _ _ (in_blank s o os s' e m) h = go (is_idle s.mode) refl (blank_idle
     go true i j = refl
     go false i j = absurd (let n : true ≡ false = sym j ∙ (follows_as places.Top s o (Next s') h e).1 i in cc)
 
-long_is : (m : Mode) → is_idle m ≡ false → is_long_form (form_of m) ≡ true → (is_long_begun (Some (record { start = 0; end = 0; form = form_of m })) == 0) ≡ false → is_long_text m ≡ true
+long_is : (m : Mode) → is_idle m ≡ false → is_long_form (form_of m) ≡ true → (is_long_begun (Some (record { start = 0; end = 0; form = form_of m })) == 0)
+    ≡ false → is_long_text m ≡ true
 long_is (modes.Text styles.LongString w) i h k = refl
 long_is modes.Quote i h k = absurd cc
 long_is modes.Quotes i h k = absurd cc
@@ -119,7 +120,8 @@ module _ (g : Catalog) (l : Limits) where
   abbrev ClosingSaid : Content → Type 0
   ClosingSaid c = (m : Mark) × (c ≡ Mark' m) × (is_closing (kinds.Mark m) ≡ true)
 
-  shut_said : (begin end start : ℕ) (slots : List Slot) (fs : List Frame) (ss : Symbols) (c : Content) (now : Now) (ts : List Placed) (all : List Value) → shut now ≡ true → TurnGoes g l (turn_now (under g l) (at start slots fs ss now) (token_at begin end c) now) ts all → ClosingSaid c
+  shut_said : (begin end start : ℕ) (slots : List Slot) (fs : List Frame) (ss : Symbols) (c : Content) (now : Now) (ts : List Placed) (all : List Value)
+      → shut now ≡ true → TurnGoes g l (turn_now (under g l) (at start slots fs ss now) (token_at begin end c) now) ts all → ClosingSaid c
   shut_said begin end start slots fs ss (Mark' marks.Comma) nows.After ts all h d = (marks.Comma, refl, refl)
   shut_said begin end start slots fs ss (Mark' marks.ListClose) nows.After ts all h d = (marks.ListClose, refl, refl)
   shut_said begin end start slots fs ss (Mark' marks.FieldsClose) nows.After ts all h d = (marks.FieldsClose, refl, refl)
@@ -183,7 +185,8 @@ module _ (g : Catalog) (l : Limits) where
         let n : true ≡ false = sym h ∙ ap (λ (x : Reading). shut x.now) e.0.1 in cc
     not_shut (t ∷ ts) m d i h =
         let p = going_said g l r t ts all d in
-        let c = shut_said t.lexeme.start t.lexeme.end r.start r.context r.frames r.notes p.1 r.now ts all h (going_turn g l r t ts all p.1 d p.2 (inr (shut_still r h))) in
+        let c = shut_said t.lexeme.start t.lexeme.end r.start r.context r.frames r.notes p.1 r.now ts all h
+        (going_turn g l r t ts all p.1 d p.2 (inr (shut_still r h))) in
         closes p.1 p.2 c
       where
         closes : (c : Content) → said t.lexeme.kind t.lexeme.octets ≡ Ok c → ClosingSaid c → ⊥
@@ -201,11 +204,13 @@ module _ (g : Catalog) (l : Limits) where
         go true e false f = absurd (not_shut ts m d f e)
 
     -- the token that has begun, or comes next
-    module _ (t : Placed) (ts : List Placed) (m : Meets s os (t ∷ ts)) (ops : Operators (t ∷ ts)) (d : Going g l r (t ∷ ts) all) (top : is_top r.frames ≡ true) where
+    module _ (t : Placed) (ts : List Placed) (m : Meets s os (t ∷ ts)) (ops : Operators (t ∷ ts)) (d : Going g l r (t ∷ ts) all)
+        (top : is_top r.frames ≡ true) where
       own : t.lexeme.kind ≡ kinds.Operator → ⊥
       own k = no_operator g l r t top (going_said g l r t ts all d).0 ops.0 k
 
-      within' : (c : Content) → said t.lexeme.kind t.lexeme.octets ≡ Ok c → Direct g l r (token_of t.lexeme c) → t.lexeme.end ≤ start_now r.now r.start t.lexeme.start r.frames r.notes + l.item
+      within' : (c : Content) → said t.lexeme.kind t.lexeme.octets ≡ Ok c → Direct g l r (token_of t.lexeme c)
+          → t.lexeme.end ≤ start_now r.now r.start t.lexeme.start r.frames r.notes + l.item
       within' c e w = limit g l s os (t ∷ ts) m fine ops r all c (calm_ok g l s r calm) d e w
 
       begun_end : is_idle s.mode ≡ false → (t.lexeme.start ≡ s.start) × (s.used - behind s.mode ≤ t.lexeme.end)
@@ -223,14 +228,17 @@ module _ (g : Catalog) (l : Limits) where
           by (inr h) = absurd (own h)
 
     ready_same : (fs : List Frame) (ss : Symbols) → r.frames ≡ fs → r.notes ≡ ss → r.now ≡ nows.Ready → r ≡ at r.start r.context fs ss nows.Ready
-    ready_same fs ss a b c = ap (λ x. at r.start r.context x r.notes r.now) a ∙ (ap (λ x. at r.start r.context fs x r.now) b ∙ ap (λ x. at r.start r.context fs ss x) c)
+    ready_same fs ss a b c = ap (λ x. at r.start r.context x r.notes r.now) a
+        ∙ (ap (λ x. at r.start r.context fs x r.now) b ∙ ap (λ x. at r.start r.context fs ss x) c)
 
     module _ (ts : List Placed) (m : Meets s os ts) (ops : Operators ts) (d : Going g l r ts all) (none : r.frames ≡ []) where
       top : is_top r.frames ≡ true
       top = ap is_top none
 
       -- an item that begins
-      fresh_reaches : r.notes ≡ [] → r.now ≡ nows.Ready → (i : Bool) → is_idle s.mode ≡ i → longest_top r.start s.used nows.Ready [] (if i then None else Some (record { start = s.start; end = s.used - behind s.mode; form = form_of s.mode })) (is_long_begun (begun_in s)) ≤ l.item
+      fresh_reaches : r.notes ≡ [] → r.now ≡ nows.Ready → (i : Bool) → is_idle s.mode ≡ i
+          → longest_top r.start s.used nows.Ready [] (if i then None else Some
+          (record { start = s.start; end = s.used - behind s.mode; form = form_of s.mode })) (is_long_begun (begun_in s)) ≤ l.item
       fresh_reaches a b true i = omega arith
       fresh_reaches a b false i = by ts m ops d
         where
@@ -246,12 +254,14 @@ module _ (g : Catalog) (l : Limits) where
               let p = going_said g l r t ts all d in
               let k = within' t ts m ops d top p.1 p.2 (inr still) in
               let x = begun_end t ts m ops d top i in
-              let e : start_now r.now r.start t.lexeme.start r.frames r.notes ≡ t.lexeme.start = ap (λ (y : Reading). start_now y.now r.start t.lexeme.start y.frames y.notes) same in
+              let e : start_now r.now r.start t.lexeme.start r.frames r.notes ≡ t.lexeme.start =
+              ap (λ (y : Reading). start_now y.now r.start t.lexeme.start y.frames y.notes) same in
               omega (arith, k, x.0, x.1, e)
 
       -- behind annotations
       noted_reaches : (n : Option (List ℕ)) (ns : Symbols) → r.notes ≡ n ∷ ns → r.now ≡ nows.Ready → (i : Bool) → is_idle s.mode ≡ i
-          → longest_top r.start s.used nows.Ready (n ∷ ns) (if i then None else Some (record { start = s.start; end = s.used - behind s.mode; form = form_of s.mode })) (is_long_begun (begun_in s)) ≤ l.item
+          → longest_top r.start s.used nows.Ready (n ∷ ns) (if i then None else Some
+          (record { start = s.start; end = s.used - behind s.mode; form = form_of s.mode })) (is_long_begun (begun_in s)) ≤ l.item
       noted_reaches n ns a b i e = by ts m ops d i e
         where
           same : r ≡ at r.start r.context [] (n ∷ ns) nows.Ready
@@ -260,24 +270,29 @@ module _ (g : Catalog) (l : Limits) where
           still : settle g l r ≡ goes r
           still = ap (settle g l) same ∙ ap goes (sym same)
 
-          by : (ts : List Placed) → Meets s os ts → Operators ts → Going g l r ts all → (i : Bool) → is_idle s.mode ≡ i → longest_top r.start s.used nows.Ready (n ∷ ns) (if i then None else Some (record { start = s.start; end = s.used - behind s.mode; form = form_of s.mode })) (is_long_begun (begun_in s)) ≤ l.item
+          by : (ts : List Placed) → Meets s os ts → Operators ts → Going g l r ts all → (i : Bool) → is_idle s.mode ≡ i
+              → longest_top r.start s.used nows.Ready (n ∷ ns) (if i then None else Some
+              (record { start = s.start; end = s.used - behind s.mode; form = form_of s.mode })) (is_long_begun (begun_in s)) ≤ l.item
           by [] m ops d i e =
               let x = subst (λ y. TurnEnds g l y all) still (going_ends g l r all d) in
               absurd (let z : false ≡ true = sym (ap is_fresh same) ∙ ap is_fresh x.0.1 in cc)
           by (t ∷ ts) m ops d true e =
               let p = going_said g l r t ts all d in
               let k = within' t ts m ops d top p.1 p.2 (inr still) in
-              let f : start_now r.now r.start t.lexeme.start r.frames r.notes ≡ r.start = ap (λ (y : Reading). start_now y.now r.start t.lexeme.start y.frames y.notes) same in
+              let f : start_now r.now r.start t.lexeme.start r.frames r.notes ≡ r.start =
+              ap (λ (y : Reading). start_now y.now r.start t.lexeme.start y.frames y.notes) same in
               omega (arith, k, next_end t ts m ops d top e, f)
           by (t ∷ ts) m ops d false e =
               let p = going_said g l r t ts all d in
               let k = within' t ts m ops d top p.1 p.2 (inr still) in
               let x = begun_end t ts m ops d top e in
-              let f : start_now r.now r.start t.lexeme.start r.frames r.notes ≡ r.start = ap (λ (y : Reading). start_now y.now r.start t.lexeme.start y.frames y.notes) same in
+              let f : start_now r.now r.start t.lexeme.start r.frames r.notes ≡ r.start =
+              ap (λ (y : Reading). start_now y.now r.start t.lexeme.start y.frames y.notes) same in
               omega (arith, k, x.1, f)
 
       -- behind a long string, one more segment
-      long_reaches : (w : List ℕ) (end : ℕ) → r.now ≡ nows.Long w end → is_idle s.mode ≡ false → is_long_text s.mode ≡ true → s.used - behind s.mode - r.start ≤ l.item
+      long_reaches : (w : List ℕ) (end : ℕ) → r.now ≡ nows.Long w end → is_idle s.mode ≡ false → is_long_text s.mode ≡ true
+          → s.used - behind s.mode - r.start ≤ l.item
       long_reaches w end a i h = by ts m ops d
         where
           by : (ts : List Placed) → Meets s os ts → Operators ts → Going g l r ts all → s.used - behind s.mode - r.start ≤ l.item
@@ -285,7 +300,8 @@ module _ (g : Catalog) (l : Limits) where
           by (t ∷ ts) m ops d =
               let p = going_said g l r t ts all d in
               let c = segment_says t.lexeme.kind t.lexeme.octets p.1 (long_segment s os t ts m h) (said_body t.lexeme.kind t.lexeme.octets p.1 p.2) in
-              let w' : continues r (token_of t.lexeme p.1) ≡ true = ap (λ y. continues r (token_of t.lexeme y)) c ∙ ap (λ y. continues (at r.start r.context r.frames r.notes y) (token_of t.lexeme (Long t.lexeme.octets))) a in
+              let w' : continues r (token_of t.lexeme p.1) ≡ true = ap (λ y. continues r (token_of t.lexeme y)) c
+              ∙ ap (λ y. continues (at r.start r.context r.frames r.notes y) (token_of t.lexeme (Long t.lexeme.octets))) a in
               let k = within' t ts m ops d top p.1 p.2 (inl w') in
               let x = begun_end t ts m ops d top i in
               let f : start_now r.now r.start t.lexeme.start r.frames r.notes ≡ r.start = ap (λ y. start_now y r.start t.lexeme.start r.frames r.notes) a in
@@ -308,16 +324,19 @@ module _ (g : Catalog) (l : Limits) where
 
       waiting_reaches : (end : ℕ) → end ≤ s.used → IsWaiting g l r.now → IsTopNow r.now → EndsAt r.now end → EndsPast g l s.used ts → end - r.start ≤ l.item
       waiting_reaches end le w ok at' past =
-          let k = top_limit g l s os end fine le ts m ops (limit g l s os ts m fine ops) past r all top (waiting_unfresh r.frames r.notes r.now w) ok at' d in omega (arith, k)
+          let k = top_limit g l s os end fine le ts m ops (limit g l s os ts m fine ops) past r all top (waiting_unfresh r.frames r.notes r.now w) ok at' d in
+          omega (arith, k)
 
       pending_reaches : (h : Held) (end : ℕ) → r.now ≡ nows.Pending h end → end - r.start ≤ l.item
       pending_reaches h end e =
-          waiting_reaches end (subst (EndedIn s.used) e ended) (subst (IsWaiting g l) (sym e) tt) (subst IsTopNow (sym e) tt) (subst (λ n. EndsAt n end) (sym e) refl)
+          waiting_reaches end (subst (EndedIn s.used) e ended) (subst (IsWaiting g l) (sym e) tt) (subst IsTopNow (sym e) tt)
+          (subst (λ n. EndsAt n end) (sym e) refl)
           (idle_past g l s os ts m fine (subst (λ n. CalmNow n s.mode) e (calm top).0))
 
       held_reaches : (w : List ℕ) (end : ℕ) → r.now ≡ nows.Long w end → end - r.start ≤ l.item
       held_reaches w end e =
-          waiting_reaches end (subst (EndedIn s.used) e ended) (subst (IsWaiting g l) (sym e) tt) (subst IsTopNow (sym e) tt) (subst (λ n. EndsAt n end) (sym e) refl)
+          waiting_reaches end (subst (EndedIn s.used) e ended) (subst (IsWaiting g l) (sym e) tt) (subst IsTopNow (sym e) tt)
+          (subst (λ n. EndsAt n end) (sym e) refl)
           (past (is_idle s.mode) refl ts m ops d)
         where
           quoting_behind : (k : Mode) → (is_idle k || is_quoting k) ≡ true → behind k ≡ 0
@@ -334,20 +353,26 @@ module _ (g : Catalog) (l : Limits) where
               inl (omega (arith, x.1, k))
 
       long_longest : (w : List ℕ) (end : ℕ) → r.now ≡ nows.Long w end → (i : Bool) → is_idle s.mode ≡ i
-          → longest_top r.start s.used (nows.Long w end) r.notes (if i then None else Some (record { start = s.start; end = s.used - behind s.mode; form = form_of s.mode })) (is_long_begun (if i then None else Some (record { start = s.start; end = s.used - behind s.mode; form = form_of s.mode }))) ≤ l.item
+          → longest_top r.start s.used (nows.Long w end) r.notes
+          (if i then None else Some (record { start = s.start; end = s.used - behind s.mode; form = form_of s.mode }))
+          (is_long_begun (if i then None else Some (record { start = s.start; end = s.used - behind s.mode; form = form_of s.mode }))) ≤ l.item
       long_longest w end a true i = held_reaches w end a
-      long_longest w end a false i = go (is_long_form (form_of s.mode)) refl (is_long_begun (Some (record { start = 0; end = 0; form = form_of s.mode })) == 0) refl
+      long_longest w end a false i = go (is_long_form (form_of s.mode)) refl (is_long_begun (Some (record { start = 0; end = 0; form = form_of s.mode })) == 0)
+          refl
         where
-          go : (x : Bool) → is_long_form (form_of s.mode) ≡ x → (y : Bool) → (is_long_begun (Some (record { start = 0; end = 0; form = form_of s.mode })) == 0) ≡ y → (if x && not y then s.used - behind s.mode - r.start else end - r.start) ≤ l.item
+          go : (x : Bool) → is_long_form (form_of s.mode) ≡ x → (y : Bool) → (is_long_begun (Some (record { start = 0; end = 0; form = form_of s.mode })) == 0)
+              ≡ y → (if x && not y then s.used - behind s.mode - r.start else end - r.start) ≤ l.item
           go false e y f = held_reaches w end a
           go true e true f = held_reaches w end a
           go true e false f = long_reaches w end a i (long_is s.mode i e f)
 
-      top_reaches : (n : Now) → r.now ≡ n → (ss : Symbols) → r.notes ≡ ss → IsTopNow n → longest_top r.start s.used n ss (begun_in s) (is_long_begun (begun_in s)) ≤ l.item
+      top_reaches : (n : Now) → r.now ≡ n → (ss : Symbols) → r.notes ≡ ss → IsTopNow n
+          → longest_top r.start s.used n ss (begun_in s) (is_long_begun (begun_in s)) ≤ l.item
       top_reaches nows.Ready e [] f k = fresh_reaches f e (is_idle s.mode) refl
       top_reaches nows.Ready e (x ∷ ss) f k = noted_reaches x ss f e (is_idle s.mode) refl
       top_reaches (nows.Pending h end) e ss f k = pending_reaches h end e
-      top_reaches (nows.Long w end) e ss f k = subst (λ y. longest_top r.start s.used (nows.Long w end) y (begun_in s) (is_long_begun (begun_in s)) ≤ l.item) f (long_longest w end e (is_idle s.mode) refl)
+      top_reaches (nows.Long w end) e ss f k = subst (λ y. longest_top r.start s.used (nows.Long w end) y (begun_in s) (is_long_begun (begun_in s)) ≤ l.item) f
+          (long_longest w end e (is_idle s.mode) refl)
       top_reaches nows.After e ss f k = absurd k
       top_reaches nows.Name e ss f k = absurd k
       top_reaches (nows.LongName w) e ss f k = absurd k

@@ -49,7 +49,8 @@ quoting_goes m h = go (is_idle m) (is_quoting m) h
     go true b h = refl
     go false b h = h
 
-segment_text : (m : Mode) (start used : ℕ) (b : Bool) → has_segment (if b then None else Some (record { start = start; end = used; form = form_of m })) ≡ true → is_long_text m ≡ true
+segment_text : (m : Mode) (start used : ℕ) (b : Bool) → has_segment (if b then None else Some (record { start = start; end = used; form = form_of m })) ≡ true
+    → is_long_text m ≡ true
 segment_text m start used true h = absurd cc
 segment_text (modes.Text styles.LongString w) start used false h = refl
 segment_text (modes.Text styles.ShortString w) start used false h = absurd cc
@@ -82,7 +83,8 @@ in_text s w end h = segment_text s.mode s.start (s.used - behind s.mode) (is_idl
 pub no_text : (s : Known) (w : _) (end : ℕ) → in_segment (nows.Long w end) s ≡ false → is_long_text s.mode ≡ false
 no_text s w end h = go s.mode h
   where
-    go : (m : Mode) → has_segment (if is_idle m then None else Some (record { start = s.start; end = s.used - behind m; form = form_of m })) ≡ false → is_long_text m ≡ false
+    go : (m : Mode) → has_segment (if is_idle m then None else Some (record { start = s.start; end = s.used - behind m; form = form_of m })) ≡ false
+        → is_long_text m ≡ false
     go (modes.Text styles.LongString w) h = absurd cc
     go _ h = refl
 
@@ -97,8 +99,10 @@ long_text_goes top (Given x t) h n w end = h
 long_text_goes top (Left x t) h n w end = absurd h
 long_text_goes top (Refused i e) h n w end = absurd n
 
-segment_goes : (p : Place) (s : Known) (top : Bool) (now : Now) (o : ℕ) → in_segment now s ≡ true → NotRefused (feed p s o) → waits_now top now (feed p s o) ≡ true
-segment_goes p s top (nows.Long w end) o h n = long_text_goes top (feed p s o) (long_feed p s o (segment_text s.mode s.start (s.used - behind s.mode) (is_idle s.mode) h)) n w end
+segment_goes : (p : Place) (s : Known) (top : Bool) (now : Now) (o : ℕ) → in_segment now s ≡ true → NotRefused (feed p s o) → waits_now top now (feed p s o)
+    ≡ true
+segment_goes p s top (nows.Long w end) o h n = long_text_goes top (feed p s o)
+    (long_feed p s o (segment_text s.mode s.start (s.used - behind s.mode) (is_idle s.mode) h)) n w end
 segment_goes p s top (nows.Pending k end) o h n = absurd cc
 segment_goes p s top nows.Ready o h n = absurd cc
 segment_goes p s top nows.After o h n = absurd cc

@@ -58,7 +58,8 @@ no_colons kinds.LongString octets c h b = refl
 no_colons kinds.Clob octets c h b = refl
 no_colons kinds.Blob octets c h b = refl
 
-mark_colons : (m : Mark) (top : Bool) (h : Held) (e start end : ℕ) → is_colons (kinds.Mark m) ≡ continues_now top (nows.Pending h e) (record { start = start; end = end; said = Mark' m })
+mark_colons : (m : Mark) (top : Bool) (h : Held) (e start end : ℕ) → is_colons (kinds.Mark m)
+    ≡ continues_now top (nows.Pending h e) (record { start = start; end = end; said = Mark' m })
 mark_colons marks.Colons top h e start end = refl
 mark_colons marks.Colon top h e start end = refl
 mark_colons marks.Comma top h e start end = refl
@@ -69,7 +70,8 @@ mark_colons marks.ListClose top h e start end = refl
 mark_colons marks.SexpOpen top h e start end = refl
 mark_colons marks.SexpClose top h e start end = refl
 
-pub colons_agree : (top : Bool) (h : Held) (e start end : ℕ) (k : TokenKind) (octets : List ℕ) (c : Content) → IsBody k octets (Ok c) → is_colons k ≡ continues_now top (nows.Pending h e) (record { start = start; end = end; said = c })
+pub colons_agree : (top : Bool) (h : Held) (e start end : ℕ) (k : TokenKind) (octets : List ℕ) (c : Content) → IsBody k octets (Ok c)
+    → is_colons k ≡ continues_now top (nows.Pending h e) (record { start = start; end = end; said = c })
 colons_agree top h e start end k octets (Mark' m) b = ap is_colons (mark_kind k octets m b) ∙ mark_colons m top h e start end
 colons_agree top h e start end k octets (Word w) b = no_colons k octets (Word w) refl b
 colons_agree top h e start end k octets (Id n) b = no_colons k octets (Id n) refl b
@@ -104,7 +106,8 @@ both_no true = refl
 both_no false = refl
 
 -- a token that says neither is neither a segment nor quoted
-pub neither : (top : Bool) (start end : ℕ) (k : TokenKind) (octets : List ℕ) (c : Content) → ((w : List ℕ) → c ≡ Long w → ⊥) → ((w : List ℕ) → c ≡ Quoted w → ⊥) → IsBody k octets (Ok c) → (is_segment k || (top && is_two_quotes k start end)) ≡ false
+pub neither : (top : Bool) (start end : ℕ) (k : TokenKind) (octets : List ℕ) (c : Content) → ((w : List ℕ) → c ≡ Long w → ⊥) → ((w : List ℕ) → c ≡ Quoted w → ⊥)
+    → IsBody k octets (Ok c) → (is_segment k || (top && is_two_quotes k start end)) ≡ false
 neither top start end kinds.LongString octets c n m b = absurd (n octets b.0)
 neither top start end kinds.QuotedSymbol octets c n m b = absurd (m octets b.0)
 neither top start end kinds.Word octets c n m b = both_no top
@@ -117,7 +120,8 @@ neither top start end kinds.Blob octets c n m b = both_no top
 neither top start end (kinds.Mark x) octets c n m b = both_no top
 
 -- a long string goes on with a segment, and at the top level with `''`
-pub long_goes : (top : Bool) (w : List ℕ) (e start end : ℕ) (k : TokenKind) (octets : List ℕ) (c : Content) → IsBody k octets (Ok c) → continues_now top (nows.Long w e) (record { start = start; end = end; said = c }) ≡ (is_segment k || (top && is_two_quotes k start end))
+pub long_goes : (top : Bool) (w : List ℕ) (e start end : ℕ) (k : TokenKind) (octets : List ℕ) (c : Content) → IsBody k octets (Ok c)
+    → continues_now top (nows.Long w e) (record { start = start; end = end; said = c }) ≡ (is_segment k || (top && is_two_quotes k start end))
 long_goes top w e start end k octets (Long v) b = sym (ap (λ x. x || (top && is_two_quotes k start end)) (segment_kind k octets v b))
 long_goes top w e start end k octets (Quoted v) b = sym (ap (λ x. is_segment x || (top && is_two_quotes x start end)) (quoted_kind k octets v b))
 long_goes top w e start end k octets (Mark' m) b = sym (neither top start end k octets (Mark' m) (λ x y. cc) (λ x y. cc) b)
@@ -130,7 +134,8 @@ long_goes top w e start end k octets (Operator v) b = sym (neither top start end
 long_goes top w e start end k octets (Clob v) b = sym (neither top start end k octets (Clob v) (λ x y. cc) (λ x y. cc) b)
 long_goes top w e start end k octets (Blob v) b = sym (neither top start end k octets (Blob v) (λ x y. cc) (λ x y. cc) b)
 
-name_goes : (top : Bool) (w : List ℕ) (start end : ℕ) (k : TokenKind) (octets : List ℕ) (c : Content) → IsBody k octets (Ok c) → continues_now top (nows.LongName w) (record { start = start; end = end; said = c }) ≡ is_segment k
+name_goes : (top : Bool) (w : List ℕ) (start end : ℕ) (k : TokenKind) (octets : List ℕ) (c : Content) → IsBody k octets (Ok c)
+    → continues_now top (nows.LongName w) (record { start = start; end = end; said = c }) ≡ is_segment k
 name_goes top w start end k octets (Long v) b = sym (segment_agree k octets (Long v) b)
 name_goes top w start end k octets (Mark' v) b = sym (segment_agree k octets (Mark' v) b)
 name_goes top w start end k octets (Word v) b = sym (segment_agree k octets (Word v) b)
@@ -173,11 +178,15 @@ or_none false b true h = sym h
 or_none false b false h = refl
 
 -- where the octet shows that nothing goes on, the token that has begun doesn't go on
-pub next_agrees : (fs : List Frame) (now : Now) (s : Known) (os : List ℕ) (t : Placed) (ts : List Placed) (c : Content) → Meets s os (t ∷ ts) → is_sane s.mode ≡ true → Fine s → IsBody t.lexeme.kind t.lexeme.octets (Ok c) → waits_now (is_top fs) now (Next s) ≡ false → continues_now (is_top fs) now (token_of t.lexeme c) ≡ false
-next_agrees fs (nows.Pending h e) s os t ts c m sane f b w = sym (colons_agree (is_top fs) h e t.lexeme.start t.lexeme.end t.lexeme.kind t.lexeme.octets c b) ∙ closing_colons t.lexeme.kind (begun_closing s os t ts m sane w)
+pub next_agrees : (fs : List Frame) (now : Now) (s : Known) (os : List ℕ) (t : Placed) (ts : List Placed) (c : Content) → Meets s os (t ∷ ts)
+    → is_sane s.mode ≡ true → Fine s → IsBody t.lexeme.kind t.lexeme.octets (Ok c) → waits_now (is_top fs) now (Next s) ≡ false
+    → continues_now (is_top fs) now (token_of t.lexeme c) ≡ false
+next_agrees fs (nows.Pending h e) s os t ts c m sane f b w = sym (colons_agree (is_top fs) h e t.lexeme.start t.lexeme.end t.lexeme.kind t.lexeme.octets c b)
+    ∙ closing_colons t.lexeme.kind (begun_closing s os t ts m sane w)
 next_agrees fs (nows.Long v e) s os t ts c m sane f b w =
     let x = begun_apart s os t ts m sane f (or_parts (is_idle s.mode) (is_quoting s.mode) w) in
-    long_goes (is_top fs) v e t.lexeme.start t.lexeme.end t.lexeme.kind t.lexeme.octets c b ∙ or_false (is_segment t.lexeme.kind) (is_two_quotes t.lexeme.kind t.lexeme.start t.lexeme.end) (is_top fs) x.0 x.1
+    long_goes (is_top fs) v e t.lexeme.start t.lexeme.end t.lexeme.kind t.lexeme.octets c b
+    ∙ or_false (is_segment t.lexeme.kind) (is_two_quotes t.lexeme.kind t.lexeme.start t.lexeme.end) (is_top fs) x.0 x.1
 next_agrees fs (nows.LongName v) s os t ts c m sane f b w =
     let x = begun_apart s os t ts m sane f (or_parts (is_idle s.mode) (is_quoting s.mode) w) in
     name_goes (is_top fs) v t.lexeme.start t.lexeme.end t.lexeme.kind t.lexeme.octets c b ∙ x.0
@@ -187,9 +196,11 @@ next_agrees fs nows.Name s os t ts c m sane f b w = refl
 next_agrees fs (nows.Keyed x) s os t ts c m sane f b w = refl
 
 -- a token that is given
-pub given_agrees : (fs : List Frame) (now : Now) (s : Known) (x : Lexeme) (c : Content) → IsBody x.kind x.octets (Ok c) → is_two_quotes x.kind x.start x.end ≡ false → waits_now (is_top fs) now (Given x s) ≡ continues_now (is_top fs) now (token_of x c)
+pub given_agrees : (fs : List Frame) (now : Now) (s : Known) (x : Lexeme) (c : Content) → IsBody x.kind x.octets (Ok c) → is_two_quotes x.kind x.start x.end
+    ≡ false → waits_now (is_top fs) now (Given x s) ≡ continues_now (is_top fs) now (token_of x c)
 given_agrees fs (nows.Pending h e) s x c b two = colons_agree (is_top fs) h e x.start x.end x.kind x.octets c b
-given_agrees fs (nows.Long v e) s x c b two = or_none (is_segment x.kind) (is_two_quotes x.kind x.start x.end) (is_top fs) two ∙ sym (long_goes (is_top fs) v e x.start x.end x.kind x.octets c b)
+given_agrees fs (nows.Long v e) s x c b two = or_none (is_segment x.kind) (is_two_quotes x.kind x.start x.end) (is_top fs) two
+    ∙ sym (long_goes (is_top fs) v e x.start x.end x.kind x.octets c b)
 given_agrees fs (nows.LongName v) s x c b two = sym (name_goes (is_top fs) v x.start x.end x.kind x.octets c b)
 given_agrees fs nows.Ready s x c b two = refl
 given_agrees fs nows.After s x c b two = refl
@@ -197,9 +208,12 @@ given_agrees fs nows.Name s x c b two = refl
 given_agrees fs (nows.Keyed y) s x c b two = refl
 
 -- a token that is left
-pub left_agrees : (fs : List Frame) (now : Now) (s : Known) (x : Lexeme) (c : Content) → IsBody x.kind x.octets (Ok c) → is_colons x.kind ≡ false → is_segment x.kind ≡ false → is_two_quotes x.kind x.start x.end ≡ is_quoted x.kind → waits_now (is_top fs) now (Left x s) ≡ continues_now (is_top fs) now (token_of x c)
+pub left_agrees : (fs : List Frame) (now : Now) (s : Known) (x : Lexeme) (c : Content) → IsBody x.kind x.octets (Ok c) → is_colons x.kind ≡ false
+    → is_segment x.kind ≡ false → is_two_quotes x.kind x.start x.end ≡ is_quoted x.kind → waits_now (is_top fs) now (Left x s)
+    ≡ continues_now (is_top fs) now (token_of x c)
 left_agrees fs (nows.Pending h e) s x c b col seg two = sym col ∙ colons_agree (is_top fs) h e x.start x.end x.kind x.octets c b
-left_agrees fs (nows.Long v e) s x c b col seg two = ap (λ y. is_top fs && y) (sym two) ∙ (sym (ap (λ y. y || (is_top fs && is_two_quotes x.kind x.start x.end)) seg) ∙ sym (long_goes (is_top fs) v e x.start x.end x.kind x.octets c b))
+left_agrees fs (nows.Long v e) s x c b col seg two = ap (λ y. is_top fs && y) (sym two)
+    ∙ (sym (ap (λ y. y || (is_top fs && is_two_quotes x.kind x.start x.end)) seg) ∙ sym (long_goes (is_top fs) v e x.start x.end x.kind x.octets c b))
 left_agrees fs (nows.LongName v) s x c b col seg two = sym (name_goes (is_top fs) v x.start x.end x.kind x.octets c b ∙ seg)
 left_agrees fs nows.Ready s x c b col seg two = refl
 left_agrees fs nows.After s x c b col seg two = refl
@@ -233,7 +247,8 @@ quotes_left p s s' o x f e h = go (o == 39) (sym (ap (λ m. acts p s o (next p s
     starts : start_of s.mode s.start s.used ≡ s.start
     starts = ap (λ m. start_of m s.start s.used) e
 
-    go : (b : Bool) → acts p s o (cond b (actions.Go (modes.Text styles.LongString within.Plain) keeps.Nothing) (before kinds.QuotedSymbol)) ≡ Left x s' → IsEmptyQuotes s x
+    go : (b : Bool) → acts p s o (cond b (actions.Go (modes.Text styles.LongString within.Plain) keeps.Nothing) (before kinds.QuotedSymbol)) ≡ Left x s'
+        → IsEmptyQuotes s x
     go true k = absurd cc
     go false k =
         let same = ap (lexeme_in x) k in
@@ -252,7 +267,8 @@ quoting_left p s s' o x f q h = go s.mode refl q
         quote : (b : Bool) → acts p s o (cond b (actions.Go modes.Quotes keeps.Nothing) (raw styles.QuotedSymbol o)) ≡ Left x s' → ⊥
         quote true k = cc
         quote false k = text_no_left false p s s' o x (raw styles.QuotedSymbol o) (raw_text styles.QuotedSymbol o).is k
-    go (modes.Text styles.LongString w) e k = absurd (text_no_left true p s s' o x (in_text styles.LongString w o) (text_text styles.LongString w o).is (sym (ap (λ m. acts p s o (next p s.colon m o)) e) ∙ h))
+    go (modes.Text styles.LongString w) e k = absurd (text_no_left true p s s' o x (in_text styles.LongString w o) (text_text styles.LongString w o).is
+        (sym (ap (λ m. acts p s o (next p s.colon m o)) e) ∙ h))
     go (modes.Text styles.ShortString w) e k = absurd cc
     go (modes.Text styles.QuotedSymbol w) e k = absurd cc
     go (modes.Text styles.ShortClob w) e k = absurd cc
@@ -280,7 +296,8 @@ pub empty_two : (s : Known) (x : Lexeme) → IsEmptyQuotes s x → is_two_quotes
 empty_two s x h = ap (λ k. is_two_quotes k x.start x.end) h.0 ∙ (two_test x.start x.end h.1 ∙ sym (ap is_quoted h.0))
 
 -- a quoted symbol that is left is `''`
-pub left_two : (p : Place) (s s' : Known) (o : ℕ) (x : Lexeme) → Fine s → Exact s → feed p s o ≡ Left x s' → is_two_quotes x.kind x.start x.end ≡ is_quoted x.kind
+pub left_two : (p : Place) (s s' : Known) (o : ℕ) (x : Lexeme) → Fine s → Exact s → feed p s o ≡ Left x s' → is_two_quotes x.kind x.start x.end
+    ≡ is_quoted x.kind
 left_two p s s' o x f e h = go (is_quoting s.mode) refl
   where
     go : (b : Bool) → is_quoting s.mode ≡ b → is_two_quotes x.kind x.start x.end ≡ is_quoted x.kind
@@ -299,7 +316,8 @@ left_colons p s s' o x h e = go (is_idle s.mode) refl
     go false i = closing_colons x.kind ((follows_as p s o (Left x s') h e).1 i)
 
 -- quotes that the end ends are two
-pub quotes_end : (p : Place) (s : Known) (x : Lexeme) → is_quoting s.mode ≡ true → Exact s → at_end p s ≡ Ok (Some x) → s.used ≡ start_of s.mode s.start s.used + 2
+pub quotes_end : (p : Place) (s : Known) (x : Lexeme) → is_quoting s.mode ≡ true → Exact s → at_end p s ≡ Ok (Some x)
+    → s.used ≡ start_of s.mode s.start s.used + 2
 quotes_end p s x q f e = go s.mode refl q (ap (λ m. ends_at s (end_of p m)) refl ∙ e)
   where
     go : (m : Mode) → s.mode ≡ m → is_quoting m ≡ true → ends_at s (end_of p m) ≡ Ok (Some x) → s.used ≡ start_of s.mode s.start s.used + 2

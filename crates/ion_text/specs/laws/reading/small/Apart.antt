@@ -36,7 +36,8 @@ use Rattle.ion_text.specs.laws.showing.tokens.Walks.{walking_said, adds_is, behi
 
 module _ (g : Catalog) (l : Limits) where
   -- what waited at the end
-  last_value : (k item start end : ℕ) (top : Bool) (x : Turn) (later : List Value) (m : Reading) (v : Value) → Weighs k item start end top x → on_turn x done ≡ walked later m → later ≡ v ∷ [] → nodes v ≤ k
+  last_value : (k item start end : ℕ) (top : Bool) (x : Turn) (later : List Value) (m : Reading) (v : Value) → Weighs k item start end top x
+      → on_turn x done ≡ walked later m → later ≡ v ∷ [] → nodes v ≤ k
   last_value k item start end top (goes r) later m v h e f = let w = walked_now g l [] later r m e in absurd (let never : [] ≡ v ∷ [] = w.0 ∙ f in cc)
   last_value k item start end top (gives x r) later m v h e f =
       let w = walked_now g l (x ∷ []) later r m e in
@@ -53,7 +54,9 @@ module _ (g : Catalog) (l : Limits) where
       last_value (open_nodes r) _ _ _ _ (settle g l r) d.later (fresh d.c) v (settle_weighs g l r) (ap (λ x. on_turn (settle g l x) done) w.1 ∙ d.ends) later
 
   -- what a turn leads to
-  turned_value : (k more item start end : ℕ) (top : Bool) (x : Turn) (ts : List Placed) (v : Value) → ((r : Reading) → Going g l r ts (v ∷ []) → nodes v ≤ open_nodes r + more) → Weighs k item start end top x → TurnGoes g l x ts (v ∷ []) → nodes v ≤ k + more
+  turned_value : (k more item start end : ℕ) (top : Bool) (x : Turn) (ts : List Placed) (v : Value)
+      → ((r : Reading) → Going g l r ts (v ∷ []) → nodes v ≤ open_nodes r + more) → Weighs k item start end top x → TurnGoes g l x ts (v ∷ [])
+      → nodes v ≤ k + more
   turned_value k more item start end top (goes r) ts v rest h d = omega (arith, rest r d, h.0)
   turned_value k more item start end top (gives x r) ts v rest h d =
       let both : v ∷ [] ≡ x ∷ d.0 = d.1 in
@@ -64,7 +67,8 @@ module _ (g : Catalog) (l : Limits) where
   turned_value k more item start end top (late y r) ts v rest h d = absurd d
 
   -- behind one more token
-  token_value : (t : Placed) (ts : List Placed) (v : Value) → ((r : Reading) → Going g l r ts (v ∷ []) → nodes v ≤ open_nodes r + length ts) → (r : Reading) → Going g l r (t ∷ ts) (v ∷ []) → nodes v ≤ open_nodes r + length (t ∷ ts)
+  token_value : (t : Placed) (ts : List Placed) (v : Value) → ((r : Reading) → Going g l r ts (v ∷ []) → nodes v ≤ open_nodes r + length ts) → (r : Reading)
+      → Going g l r (t ∷ ts) (v ∷ []) → nodes v ≤ open_nodes r + length (t ∷ ts)
   token_value t ts v rest r d = go (continues r (token_of t.lexeme c)) refl
     where
       c : Content
@@ -74,9 +78,14 @@ module _ (g : Catalog) (l : Limits) where
       is = (going_said g l r t ts (v ∷ []) d).2
 
       direct : (n : Reading) → TurnGoes g l (turn g l n (token_of t.lexeme c)) ts (v ∷ []) → nodes v ≤ open_nodes n + (length ts + 1)
-      direct n e = omega (arith, turned_value (open_nodes n + 1) (length ts) _ _ _ _ (turn g l n (token_of t.lexeme c)) ts v rest (turn_weighs g l n (token_of t.lexeme c)) e)
+      direct n e = omega (
+        arith,
+        turned_value (open_nodes n + 1) (length ts) _ _ _ _ (turn g l n (token_of t.lexeme c)) ts v rest
+            (turn_weighs g l n (token_of t.lexeme c)) e,
+      )
 
-      settled : (x : Turn) → Weighs (open_nodes r) l.item r.start (wait_end r.now) false x → Leading g l (λ n. settle g l n ≡ goes n) x → TurnGoes g l x (t ∷ ts) (v ∷ []) → nodes v ≤ open_nodes r + (length ts + 1)
+      settled : (x : Turn) → Weighs (open_nodes r) l.item r.start (wait_end r.now) false x → Leading g l (λ n. settle g l n ≡ goes n) x
+          → TurnGoes g l x (t ∷ ts) (v ∷ []) → nodes v ≤ open_nodes r + (length ts + 1)
       settled (goes n) h s e = omega (arith, h.0, direct n (going_turn g l n t ts (v ∷ []) c e is (inr s)))
       settled (gives x n) h s e =
           let both : v ∷ [] ≡ x ∷ e.0 = e.1 in
@@ -88,7 +97,11 @@ module _ (g : Catalog) (l : Limits) where
 
       go : (b : Bool) → continues r (token_of t.lexeme c) ≡ b → nodes v ≤ open_nodes r + length (t ∷ ts)
       go true w = omega (arith, direct r (going_turn g l r t ts (v ∷ []) c d is (inl w)))
-      go false w = omega (arith, settled (settle g l r) (settle_weighs g l r) (settle_still g l r.start r.context r.frames r.notes r.now) (going_settle g l r t ts (v ∷ []) c d is w))
+      go false w = omega (
+        arith,
+        settled (settle g l r) (settle_weighs g l r) (settle_still g l r.start r.context r.frames r.notes r.now)
+            (going_settle g l r t ts (v ∷ []) c d is w),
+      )
 
   one_value : (ts : List Placed) (v : Value) (r : Reading) → Going g l r ts (v ∷ []) → nodes v ≤ open_nodes r + length ts
   one_value [] v r d = omega (arith, ended_value r v d)
@@ -97,12 +110,20 @@ module _ (g : Catalog) (l : Limits) where
 -- 2. More tokens behind whole pieces.
 
 -- tokens end behind an octet of each of them
-tokens_far : (ts : List Placed) (colon : Bool) (before : ℕ) (octets : List ℕ) (after : Bool) (end : ℕ) (rest : List ℕ) → LexesTo colon before octets ts after end rest → before + length ts ≤ end
+tokens_far : (ts : List Placed) (colon : Bool) (before : ℕ) (octets : List ℕ) (after : Bool) (end : ℕ) (rest : List ℕ)
+    → LexesTo colon before octets ts after end rest → before + length ts ≤ end
 tokens_far [] colon before octets after end rest (c, b, o) = omega arith
 tokens_far (t ∷ ts) colon before octets after end rest (q, b, h) =
-    omega (arith, tokens_far ts (colon_behind t) t.lexeme.end q after end rest h, b.start, b.end, some_token t.place colon b.token q t.lexeme.kind t.lexeme.octets b.is)
+    omega (
+      arith,
+      tokens_far ts (colon_behind t) t.lexeme.end q after end rest h,
+      b.start,
+      b.end,
+      some_token t.place colon b.token q t.lexeme.kind t.lexeme.octets b.is,
+    )
 
-module _ (g : Catalog) (l : Limits) (front following : List ℕ) (s : List Value) (w : Whole g l front following s) (y : Placed) (ys : List Placed) (after : Bool) (end : ℕ) (rest : List ℕ) (lexed : LexesTo false 0 (front ++ following) (w.tokens ++ y ∷ ys) after end rest) (top : y.place ≡ places.Top) where
+module _ (g : Catalog) (l : Limits) (front following : List ℕ) (s : List Value) (w : Whole g l front following s) (y : Placed) (ys : List Placed) (after : Bool)
+    (end : ℕ) (rest : List ℕ) (lexed : LexesTo false 0 (front ++ following) (w.tokens ++ y ∷ ys) after end rest) (top : y.place ≡ places.Top) where
   parts : Parted false 0 (front ++ following) w.tokens (y ∷ ys) after end rest
   parts = parted w.tokens (y ∷ ys) false 0 (front ++ following) after end rest lexed
 
@@ -143,13 +164,15 @@ module _ (g : Catalog) (l : Limits) (front following : List ℕ) (s : List Value
     no_colons h =
         let kind = mark_kind y.lexeme.kind y.lexeme.octets marks.Colons (subst (λ z. IsBody y.lexeme.kind y.lexeme.octets (Ok z)) h body) in
         let i = colons_token y.place parts.flag token.token (parts.second).0 y.lexeme.kind y.lexeme.octets token.is kind in
-        w.no_annotation (sym one.0 ∙ i.1) (blank_token (codes "::") [] parts.left (w.blank ++ following) (parts.second).0 parts.flag parts.mid y token (i.0 ∙ sym (append-nil (codes "::"))) one.2)
+        w.no_annotation (sym one.0 ∙ i.1) (blank_token (codes "::") [] parts.left (w.blank ++ following) (parts.second).0 parts.flag parts.mid y token
+        (i.0 ∙ sym (append-nil (codes "::"))) one.2)
 
     quotes : ends_long w.tokens ≡ true → (z : List ℕ) → token.token ≡ codes "''" ++ z → ⊥
     quotes h z i = w.no_segment h (blank_token (codes "''") z parts.left (w.blank ++ following) (parts.second).0 parts.flag parts.mid y token i one.2)
 
     two_quotes : (k : TokenKind) → y.lexeme.kind ≡ k → is_two_quotes k y.lexeme.start y.lexeme.end ≡ true → token.token ≡ codes "''" ++ []
-    two_quotes kinds.QuotedSymbol e h = quoted_token y.place parts.flag token.token (parts.second).0 y.lexeme.kind y.lexeme.octets token.is e (wide y.lexeme.start y.lexeme.end h (omega (arith, token.start, token.end)))
+    two_quotes kinds.QuotedSymbol e h = quoted_token y.place parts.flag token.token (parts.second).0 y.lexeme.kind y.lexeme.octets token.is e
+        (wide y.lexeme.start y.lexeme.end h (omega (arith, token.start, token.end)))
       where
         wide : (start end : ℕ) → (end == start + 2) ≡ true → end ≡ start + length token.token → length token.token ≡ 2
         wide start end h i = grind (arith, nat_tests)
@@ -171,7 +194,8 @@ module _ (g : Catalog) (l : Limits) (front following : List ℕ) (s : List Value
             let j = long_token y.place parts.flag token.token (parts.second).0 y.lexeme.kind y.lexeme.octets token.is (segment_is y.lexeme.kind e) in
             quotes h j.0 j.1
         by false e =
-            let two : is_two_quotes y.lexeme.kind y.lexeme.start y.lexeme.end ≡ true = ap (λ b. b || is_two_quotes y.lexeme.kind y.lexeme.start y.lexeme.end) (sym e) ∙ i in
+            let two : is_two_quotes y.lexeme.kind y.lexeme.start y.lexeme.end ≡ true =
+            ap (λ b. b || is_two_quotes y.lexeme.kind y.lexeme.start y.lexeme.end) (sym e) ∙ i in
             quotes h [] (two_quotes y.lexeme.kind refl two)
 
     shut : (ends_long w.tokens && begins_as_long (y ∷ ys)) ≡ false
@@ -185,8 +209,17 @@ module _ (g : Catalog) (l : Limits) (front following : List ℕ) (s : List Value
     -- they are read where nothing is open, and give the values behind
     pub goes_behind : (more : List Value) × (all ≡ s ++ more) × Going g l (fresh w.context) (y ∷ ys) more
     goes_behind =
-        let first : Begins g l places.Top (y ∷ ys) = record { first = y; later = ys; said = content; cut = refl; says = record { place = top; body = body }; no_colons = no_colons } in
-        let read : adds_values s (reads g l (fresh w.context) (y ∷ ys)) ≡ walked d.vs d.n = sym (more_read g l w.tokens (y ∷ ys) s w.context so_far first shut) ∙ d.read in
+        let first : Begins g l places.Top (y ∷ ys) = record {
+          first = y;
+          later = ys;
+          said = content;
+          cut = refl;
+          says =
+              record { place = top; body = body };
+          no_colons = no_colons;
+        } in
+        let read : adds_values s (reads g l (fresh w.context) (y ∷ ys)) ≡ walked d.vs d.n = sym (more_read g l w.tokens (y ∷ ys) s w.context so_far first shut)
+        ∙ d.read in
         let there = adds_is g l s d.vs d.n (reads g l (fresh w.context) (y ∷ ys)) read in
         let same = walked_now g l (s ++ there.0) d.vs d.n d.n (sym (ap (adds_values s) there.1) ∙ read) in (
           there.0 ++ d.later,
@@ -196,7 +229,8 @@ module _ (g : Catalog) (l : Limits) (front following : List ℕ) (s : List Value
 
 -- 3. The item.
 
-module _ (g : Catalog) (l : Limits) (front span behind : List ℕ) (before : List Value) (v : Value) (a : Whole g l front (span ++ behind) before) (b : Whole g l (front ++ span) behind (before ++ v ∷ [])) where
+module _ (g : Catalog) (l : Limits) (front span behind : List ℕ) (before : List Value) (v : Value) (a : Whole g l front (span ++ behind) before)
+    (b : Whole g l (front ++ span) behind (before ++ v ∷ [])) where
   seam : (front ++ span) ++ behind ≡ front ++ (span ++ behind)
   seam = append_assoc front span behind
 
@@ -205,7 +239,8 @@ module _ (g : Catalog) (l : Limits) (front span behind : List ℕ) (before : Lis
       compare (λ s octets. Unit {0}) g l initial (front ++ (span ++ behind)) a.tokens (whole_found g l front (span ++ behind) before a)
       b.tokens (subst (λ x. Found' (λ s octets. Unit {0}) initial x b.tokens) seam (whole_found g l (front ++ span) behind (before ++ v ∷ []) b))
       (whole_operators g l front (span ++ behind) before a) (whole_operators g l (front ++ span) behind (before ++ v ∷ []) b)
-      (fresh system_slots) before (before ++ v ∷ []) (whole_going g l front (span ++ behind) before a) (whole_going g l (front ++ span) behind (before ++ v ∷ []) b)
+      (fresh system_slots) before (before ++ v ∷ []) (whole_going g l front (span ++ behind) before a)
+      (whole_going g l (front ++ span) behind (before ++ v ∷ []) b)
 
   never_same : a.tokens ≡ b.tokens → ⊥
   never_same e =
@@ -220,7 +255,8 @@ module _ (g : Catalog) (l : Limits) (front span behind : List ℕ) (before : Lis
       by : Compared a.tokens b.tokens → nodes v ≤ length span
       by (inl ([], e, h)) = absurd (never_same (sym (e ∙ append-nil a.tokens)))
       by (inl (y ∷ ys, e, h)) =
-          let lexed = subst (λ z. LexesTo false 0 (front ++ (span ++ behind)) z b.colon b.end (b.blank ++ behind)) e (subst (λ x. LexesTo false 0 x b.tokens b.colon b.end (b.blank ++ behind)) seam b.lexed) in
+          let lexed = subst (λ z. LexesTo false 0 (front ++ (span ++ behind)) z b.colon b.end (b.blank ++ behind)) e
+          (subst (λ x. LexesTo false 0 x b.tokens b.colon b.end (b.blank ++ behind)) seam b.lexed) in
           let far = ends_past g l front (span ++ behind) before a y ys b.colon b.end (b.blank ++ behind) lexed h in
           let going = subst (λ z. Going g l (fresh system_slots) z (before ++ v ∷ [])) e (whole_going g l (front ++ span) behind (before ++ v ∷ []) b) in
           let more = goes_behind g l front (span ++ behind) before a y ys b.colon b.end (b.blank ++ behind) lexed h (before ++ v ∷ []) going in
@@ -229,6 +265,7 @@ module _ (g : Catalog) (l : Limits) (front span behind : List ℕ) (before : Lis
           omega (arith, far, few, whole_ends g l (front ++ span) behind (before ++ v ∷ []) b, length-append front span)
       by (inr ([], e, h)) = absurd (never_same (e ∙ append-nil b.tokens))
       by (inr (y ∷ ys, e, h)) =
-          let lexed = subst (λ z. LexesTo false 0 ((front ++ span) ++ behind) z a.colon a.end (a.blank ++ (span ++ behind))) e (subst (λ x. LexesTo false 0 x a.tokens a.colon a.end (a.blank ++ (span ++ behind))) (sym seam) a.lexed) in
+          let lexed = subst (λ z. LexesTo false 0 ((front ++ span) ++ behind) z a.colon a.end (a.blank ++ (span ++ behind))) e
+          (subst (λ x. LexesTo false 0 x a.tokens a.colon a.end (a.blank ++ (span ++ behind))) (sym seam) a.lexed) in
           let far = ends_past g l (front ++ span) behind (before ++ v ∷ []) b y ys a.colon a.end (a.blank ++ (span ++ behind)) lexed h in
           absurd (omega (arith, far, whole_ends g l front (span ++ behind) before a, length-append front span))

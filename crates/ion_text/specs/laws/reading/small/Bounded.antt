@@ -58,13 +58,15 @@ slash_unkept modes.OperatorSlash = omega arith
 slash_unkept _ = omega arith
 
 -- nothing is kept of quotes of which it isn't known yet what they open
-quote_kept : (p : Place) (colon : Bool) (k : ℕ) (m : Mode) (kept : List ℕ) (start : ℕ) (since : List ℕ) → form_of m ≡ forms.Quote → InMode p colon k m kept start since → kept ≡ []
+quote_kept : (p : Place) (colon : Bool) (k : ℕ) (m : Mode) (kept : List ℕ) (start : ℕ) (since : List ℕ) → form_of m ≡ forms.Quote
+    → InMode p colon k m kept start since → kept ≡ []
 quote_kept p colon k modes.Quote kept start since e h = h.is.1
 quote_kept p colon k modes.Quotes kept start since e h = h.is.1
 quote_kept p colon k (modes.Text styles.LongString w) kept start since e h = absurd cc
 quote_kept p colon k _ kept start since e h = absurd cc
 
-module _ (g : Catalog) (l : Limits) (u : List ℕ) (vs : List Value) (m : State) (b : Stood g l u vs m) (within : Within g l m) (looked : ℕ) (steady : IsSteady m.scan looked) where
+module _ (g : Catalog) (l : Limits) (u : List ℕ) (vs : List Value) (m : State) (b : Stood g l u vs m) (within : Within g l m) (looked : ℕ)
+    (steady : IsSteady m.scan looked) where
   abbrev s : Known
   s = m.scan
 
@@ -99,7 +101,8 @@ module _ (g : Catalog) (l : Limits) (u : List ℕ) (vs : List Value) (m : State)
     -- where no item is open
     none_kept : b.item ≡ [] → length s.kept ≤ l.item
     none_kept none =
-        let o : (r.frames ≡ []) × (r.notes ≡ []) × (r.now ≡ nows.Ready) = none_open r.context r.frames r.notes r.now (subst (λ x. NowStands r.context r.frames r.notes x r.now) none b.stands) in
+        let o : (r.frames ≡ []) × (r.notes ≡ []) × (r.now ≡ nows.Ready) =
+        none_open r.context r.frames r.notes r.now (subst (λ x. NowStands r.context r.frames r.notes x r.now) none b.stands) in
         let reach : longest_top r.start s.used nows.Ready [] (begun_in s) (is_long_begun (begun_in s)) ≤ l.item =
         subst (λ n. longest_top r.start s.used n [] (begun_in s) (is_long_begun (begun_in s)) ≤ l.item) o.2
         (subst (λ n. longest_top r.start s.used r.now n (begun_in s) (is_long_begun (begun_in s)) ≤ l.item) o.1
@@ -114,16 +117,19 @@ module _ (g : Catalog) (l : Limits) (u : List ℕ) (vs : List Value) (m : State)
         omega (arith, start_before b.front t us false 0 (u ++ []) k.colon k.end (k.since ++ []) lexes, first, sizes.1)
 
     module _ (before : r.start ≤ s.start) where
-      ready_kept : (ss : Symbols) → longest_top r.start s.used nows.Ready ss (Some (token (form_of s.mode))) (is_long_begun (Some (token (form_of s.mode)))) ≤ l.item → length s.kept ≤ l.item
+      ready_kept : (ss : Symbols) → longest_top r.start s.used nows.Ready ss (Some (token (form_of s.mode))) (is_long_begun (Some (token (form_of s.mode)))) ≤
+          l.item → length s.kept ≤ l.item
       ready_kept [] h = counted s.start (omega arith) h
       ready_kept (x ∷ ss) h = counted r.start before h
 
-      long_kept : (w : List ℕ) (last : ℕ) (ss : Symbols) (f : Form) → form_of s.mode ≡ f → is_long_form f ≡ true → longest_top r.start s.used (nows.Long w last) ss (Some (token f)) (is_long_begun (Some (token f))) ≤ l.item → length s.kept ≤ l.item
+      long_kept : (w : List ℕ) (last : ℕ) (ss : Symbols) (f : Form) → form_of s.mode ≡ f → is_long_form f ≡ true
+          → longest_top r.start s.used (nows.Long w last) ss (Some (token f)) (is_long_begun (Some (token f))) ≤ l.item → length s.kept ≤ l.item
       long_kept w last ss forms.Quote e q h = omega (arith, ap length (quote_kept p k.colon k.end s.mode s.kept s.start k.since e k.holds.mode))
       long_kept w last ss forms.Long e q h = counted r.start before h
       long_kept w last ss forms.Other e q h = absurd cc
 
-      top_kept : (n : Now) (ss : Symbols) → CalmNow n s.mode → longest_top r.start s.used n ss (Some (token (form_of s.mode))) (is_long_begun (Some (token (form_of s.mode)))) ≤ l.item → length s.kept ≤ l.item
+      top_kept : (n : Now) (ss : Symbols) → CalmNow n s.mode
+          → longest_top r.start s.used n ss (Some (token (form_of s.mode))) (is_long_begun (Some (token (form_of s.mode)))) ≤ l.item → length s.kept ≤ l.item
       top_kept nows.Ready ss c h = ready_kept ss h
       top_kept (nows.Pending x last) ss c h = absurd (let n : false ≡ true = sym open' ∙ c in cc)
       top_kept (nows.Long w last) ss c h = long_kept w last ss (form_of s.mode) refl (sym (ap (λ i. i || is_long_form (form_of s.mode)) open') ∙ c) h
@@ -213,7 +219,8 @@ module _ (g : Catalog) (l : Limits) where
   ended_inside spot (frames.Named ss ms x ∷ fs) v h = refl
   ended_inside spot (frames.Fields ss ms ∷ fs) v h = tt
 
-  operator_inside : (begin end start : ℕ) (c : List Slot) (fs : List Frame) (ss : Symbols) (w : List ℕ) (now : Now) → is_top fs ≡ false → StaysInside (turn_now (under g l) (at start c fs ss now) (token_at begin end (Operator w)) now)
+  operator_inside : (begin end start : ℕ) (c : List Slot) (fs : List Frame) (ss : Symbols) (w : List ℕ) (now : Now) → is_top fs ≡ false
+      → StaysInside (turn_now (under g l) (at start c fs ss now) (token_at begin end (Operator w)) now)
   operator_inside begin end start c fs ss w nows.Ready h = ended_inside _ fs _ h
   operator_inside begin end start c fs ss w (nows.Pending x n) h = tt
   operator_inside begin end start c fs ss w (nows.Long v n) h = tt
@@ -236,7 +243,8 @@ module _ (g : Catalog) (l : Limits) where
     noticed_kept : (r : Reading) (s : Known) → KeptBehind (noticed l r s)
     noticed_kept r s = go (shut r.now && not (is_idle s.mode)) (nat_le (reaches r.frames r s) l.item)
       where
-        go : (a b : Bool) → KeptBehind (if a then fails reasons.Unexpected else (if b then uses (record { scan = s; reading = r }) else fails reasons.ItemTooLong))
+        go : (a b : Bool) → KeptBehind (if a then fails reasons.Unexpected else
+            (if b then uses (record { scan = s; reading = r }) else fails reasons.ItemTooLong))
         go true b = tt
         go false true = tt
         go false false = tt
@@ -261,21 +269,24 @@ module _ (g : Catalog) (l : Limits) where
     AgainKept again = (k : State) → is_sane k.scan.mode ≡ true → Fine k.scan → KeptTop k.scan k.reading → KeptBehind (again k)
 
     -- behind a token that was left none is open
-    left_idle : (again : State → Effect) (s : Known) (t : Turn) → AgainKept again → is_sane s.mode ≡ true → Fine s → held_in s ≡ 0 → KeptBehind (behind_left again s t)
+    left_idle : (again : State → Effect) (s : Known) (t : Turn) → AgainKept again → is_sane s.mode ≡ true → Fine s → held_in s ≡ 0
+        → KeptBehind (behind_left again s t)
     left_idle again s (goes r) f sane fine h = f (with_scan s r) sane fine (λ _. inl h)
     left_idle again s (gives v r) f sane fine h = inl h
     left_idle again s (refuses e) f sane fine h = tt
     left_idle again s (late e r) f sane fine h = worse_kept e (again (with_scan s r))
 
     -- or it is an operator in an s-expression
-    left_inside : (again : State → Effect) (s : Known) (t : Turn) → AgainKept again → is_sane s.mode ≡ true → Fine s → StaysInside t → KeptBehind (behind_left again s t)
+    left_inside : (again : State → Effect) (s : Known) (t : Turn) → AgainKept again → is_sane s.mode ≡ true → Fine s → StaysInside t
+        → KeptBehind (behind_left again s t)
     left_inside again s (goes r) f sane fine h = f (with_scan s r) sane fine (λ e. absurd (let n : true ≡ false = sym e ∙ h in cc))
     left_inside again s (gives v r) f sane fine h = absurd h
     left_inside again s (refuses e) f sane fine h = tt
     left_inside again s (late e r) f sane fine h = worse_kept e (again (with_scan s r))
 
     module _ (r : Reading) (p : Place) (inside : is_sexp p ≡ true → is_top r.frames ≡ false) (again : State → Effect) (f : AgainKept again) where
-      left_kept : (m : Mode) (x : Lexeme) (s : Known) → Follows p m (Left x s) → Finely m (Left x s) → (c : Content) → said x.kind x.octets ≡ Ok c → KeptBehind (behind_left again s (turn g l r (token_of x c)))
+      left_kept : (m : Mode) (x : Lexeme) (s : Known) → Follows p m (Left x s) → Finely m (Left x s) → (c : Content) → said x.kind x.octets ≡ Ok c
+          → KeptBehind (behind_left again s (turn g l r (token_of x c)))
       left_kept m x s fo fi c e = by fi.4 (is_sexp p) refl
         where
           idle : is_idle s.mode ≡ true → KeptBehind (behind_left again s (turn g l r (token_of x c)))
@@ -286,22 +297,26 @@ module _ (g : Catalog) (l : Limits) where
           by (inr k) false q = idle (fo.0 q)
           by (inr k) true q =
               left_inside again s (turn g l r (token_of x c)) f fi.3 fi.0
-              (subst (λ y. StaysInside (turn g l r (token_of x y))) (sym (operator_says x c k e)) (operator_inside x.start x.end r.start r.context r.frames r.notes x.octets r.now (inside q)))
+              (subst (λ y. StaysInside (turn g l r (token_of x y))) (sym (operator_says x c k e))
+              (operator_inside x.start x.end r.start r.context r.frames r.notes x.octets r.now (inside q)))
 
       scan_kept : (m : Mode) (x : Outcome) → Follows p m x → Finely m x → KeptBehind (on_scan g l again r x)
       scan_kept m (Next s) fo fi = noticed_kept r s
-      scan_kept m (Given x s) fo fi = said_kept (said x.kind x.octets) (λ c. behind_given l s (turn g l r (token_of x c))) (λ c e. given_kept s (turn g l r (token_of x c)))
+      scan_kept m (Given x s) fo fi = said_kept (said x.kind x.octets) (λ c. behind_given l s (turn g l r (token_of x c)))
+          (λ c e. given_kept s (turn g l r (token_of x c)))
       scan_kept m (Left x s) fo fi = said_kept (said x.kind x.octets) (λ c. behind_left again s (turn g l r (token_of x c))) (left_kept m x s fo fi)
       scan_kept m (Refused n e) fo fi = tt
 
     module _ (s : Known) (r : Reading) (kept : KeptTop s r) (again : State → Effect) (f : AgainKept again) where
-      turned_kept : (x : Outcome) → Follows (place r) s.mode x → Finely s.mode x → (t : Turn) → Leading g l (λ n. is_top n.frames ≡ is_top r.frames) t → TopGives r.frames t → KeptBehind (on_settled g l again s x t)
+      turned_kept : (x : Outcome) → Follows (place r) s.mode x → Finely s.mode x → (t : Turn) → Leading g l (λ n. is_top n.frames ≡ is_top r.frames) t
+          → TopGives r.frames t → KeptBehind (on_settled g l again s x t)
       turned_kept x fo fi (goes n) same top = scan_kept n (place r) (λ h. same ∙ sexp_open r.frames r.now h) again f s.mode x fo fi
       turned_kept x fo fi (gives v n) same top = kept top
       turned_kept x fo fi (refuses e) same top = tt
       turned_kept x fo fi (late e n) same top = worse_kept e (on_scan g l again n x)
 
-      same_top : (t : Turn) → Leading g l (λ n. (place n ≡ place r) × (is_top n.frames ≡ is_top r.frames)) t → Leading g l (λ n. is_top n.frames ≡ is_top r.frames) t
+      same_top : (t : Turn) → Leading g l (λ n. (place n ≡ place r) × (is_top n.frames ≡ is_top r.frames)) t
+          → Leading g l (λ n. is_top n.frames ≡ is_top r.frames) t
       same_top (goes n) h = h.1
       same_top (gives v n) h = h.1
       same_top (refuses e) h = tt
@@ -319,7 +334,8 @@ module _ (g : Catalog) (l : Limits) where
     takes_kept : (n : ℕ) (m : State) (o : ℕ) → is_sane m.scan.mode ≡ true → Fine m.scan → KeptTop m.scan m.reading → KeptBehind (takes g l n m o)
     takes_kept zero m o sane fine kept = tt
     takes_kept (suc n) m o sane fine kept =
-        octet_kept m.scan m.reading kept (λ k. takes g l n k o) (λ k i j h. takes_kept n k o i j h) (feed (place m.reading) m.scan o) (feed_follows (place m.reading) m.scan o sane) (feed_fine (place m.reading) m.scan o fine)
+        octet_kept m.scan m.reading kept (λ k. takes g l n k o) (λ k i j h. takes_kept n k o i j h) (feed (place m.reading) m.scan o)
+        (feed_follows (place m.reading) m.scan o sane) (feed_fine (place m.reading) m.scan o fine)
 
   -- 3. What is held stands for octets.
 
@@ -330,10 +346,12 @@ module _ (g : Catalog) (l : Limits) where
   led_within : (u : List ℕ) (s : List (Value × ℕ)) (m : State) → run g l 0 begun u ≡ record { given = s; now = Ok m } → Within g l m
   led_within u s m h = subst (λ (x : Run). EndsWithin g l x.now) h (begun_within g l u)
 
-  led_kept : (u : List ℕ) (s : List (Value × ℕ)) (m : State) (looked : ℕ) → run g l 0 begun u ≡ record { given = s; now = Ok m } → IsSteady m.scan looked → held_in m.scan ≤ l.item
+  led_kept : (u : List ℕ) (s : List (Value × ℕ)) (m : State) (looked : ℕ) → run g l 0 begun u ≡ record { given = s; now = Ok m } → IsSteady m.scan looked
+      → held_in m.scan ≤ l.item
   led_kept u s m looked h steady = let b = led_stood u s m h in stood_kept g l u (plain s) m b (led_within u s m h) looked steady
 
-  ran_kept : (u : List ℕ) (s : List (Value × ℕ)) (m : State) (awaited : Option ℕ) (looked : ℕ) → Ran g l u s m awaited → IsSteady m.scan looked → held_in m.scan ≤ l.item
+  ran_kept : (u : List ℕ) (s : List (Value × ℕ)) (m : State) (awaited : Option ℕ) (looked : ℕ) → Ran g l u s m awaited → IsSteady m.scan looked
+      → held_in m.scan ≤ l.item
   ran_kept u s m None looked h steady = led_kept u s m looked h steady
   ran_kept u s m (Some o) looked h steady = by left
     where

@@ -135,8 +135,24 @@ went _ start used n h k = omega arith
 
 left_ends : (p : Place) (s : Known) (kind : TokenKind) (k : List ℕ) (m : Mode) → is_left_in m ≡ true → wants m + 1 ≤ wants s.mode → Sized s
     → EndedToken p s (cut s kind k (s.used - left_of m)) (past p kind m [] (s.used - left_of m) s.used)
-left_ends p s kind k modes.Blank h w z = let e = z.enough in record { sized = record { enough = omega arith; letters = refl }; some = omega (arith, e, w); behind = omega (arith, w); rest = omega arith; idle = inl refl }
-left_ends p s kind k modes.Slash h w z = let e = z.enough in record { sized = record { enough = omega (arith, e, w); letters = refl }; some = omega (arith, e, w); behind = omega (arith, e, w); rest = omega (arith, e, w); idle = inl refl }
+left_ends p s kind k modes.Blank h w z = let e = z.enough in
+    record {
+      sized = record { enough = omega arith; letters = refl };
+      some = omega (arith, e, w);
+      behind =
+          omega (arith, w);
+      rest = omega arith;
+      idle = inl refl;
+    }
+left_ends p s kind k modes.Slash h w z = let e = z.enough in
+    record {
+      sized = record { enough = omega (arith, e, w); letters = refl };
+      some = omega (arith, e, w);
+      behind =
+          omega (arith, e, w);
+      rest = omega (arith, e, w);
+      idle = inl refl;
+    }
 left_ends p s kind k _ h w z = absurd cc
 
 -- where no quotes are open, nothing is asked of what was left
@@ -151,8 +167,11 @@ acts_measured p s o (actions.Go m k) f z =
     let n = le_of (wants m) (wants_next s.mode) x.0 in
     (record { enough = went m (start_of s.mode s.start s.used) s.used (wants s.mode) z.enough (omega (arith, n, next_wants s.mode)); letters = x.1 }, refl, n)
 acts_measured p s o (actions.Give kind k) f z =
-    let e = z.enough in
-    (record { sized = record { enough = omega arith; letters = refl }; some = omega (arith, e); behind = omega arith; rest = omega arith; idle = inl refl }, refl, refl)
+    let e = z.enough in (
+      record { sized = record { enough = omega arith; letters = refl }; some = omega (arith, e); behind = omega arith; rest = omega arith; idle = inl refl },
+      refl,
+      refl,
+    )
 acts_measured p s o (actions.Before kind k m) f z =
     let x = and_parts (is_left_in m && nat_le (wants m + 1) (wants s.mode)) (not (is_quoting s.mode) || is_quoted kind) f in
     let y = and_parts (is_left_in m) (nat_le (wants m + 1) (wants s.mode)) x.0 in
@@ -171,9 +190,21 @@ acts_measured p s o actions.EndWord f z = word ((o == 46) && bytes_eq s.kept (co
     less (modes.Infinity letters) = omega arith
     less _ = omega arith
 
-    word : (b : Bool) → Measured p s (cond b (Next (go_to s modes.KindName [])) (Left (cut s kinds.Word s.kept s.used) (past p kinds.Word modes.Blank [] s.used s.used)))
+    word : (b : Bool) → Measured p s (cond b (Next (go_to s modes.KindName []))
+        (Left (cut s kinds.Word s.kept s.used) (past p kinds.Word modes.Blank [] s.used s.used)))
     word true = let e = z.enough in (record { enough = omega (arith, e, n); letters = refl }, refl, less s.mode)
-    word false = let e = z.enough in (record { sized = record { enough = omega arith; letters = refl }; some = omega (arith, e, n); behind = omega (arith, n); rest = omega arith; idle = inl refl }, refl, not_open (is_quoting s.mode) (is_quoted kinds.Word) x.1)
+    word false = let e = z.enough in (
+      record {
+        sized = record { enough = omega arith; letters = refl };
+        some = omega (arith, e, n);
+        behind =
+            omega (arith, n);
+        rest = omega arith;
+        idle = inl refl;
+      },
+      refl,
+      not_open (is_quoting s.mode) (is_quoted kinds.Word) x.1,
+    )
 acts_measured p s o (actions.Split letters) f z =
     let x = and_parts (is_sexp p && not (is_quoting s.mode)) (nat_le 1 letters && nat_le (1 + letters) (wants s.mode)) f in
     let y = and_parts (is_sexp p) (not (is_quoting s.mode)) x.0 in
@@ -181,7 +212,14 @@ acts_measured p s o (actions.Split letters) f z =
     let a = le_of 1 letters w.0 in
     let b = le_of (1 + letters) (wants s.mode) w.1 in
     let e = z.enough in (
-      record { sized = record { enough = omega (arith, a, b, e); letters = refl }; some = omega (arith, a, b, e); behind = omega (arith, a, b, e); rest = omega (arith, a, b, e); idle = inr (refl, y.0) },
+      record {
+        sized = record { enough = omega (arith, a, b, e); letters = refl };
+        some = omega (arith, a, b, e);
+        behind = omega (arith, a, b, e);
+        rest =
+            omega (arith, a, b, e);
+        idle = inr (refl, y.0);
+      },
       refl,
       not_open (is_quoting s.mode) (is_quoted kinds.Operator) y.1,
     )
@@ -189,7 +227,8 @@ acts_measured p s o actions.EndBlob f z = blob (blob_of s.kept)
   where
     blob : (b : Option (List ℕ)) → Measured p s (blob_ends s b)
     blob None = tt
-    blob (Some octets) = let e = z.enough in let n = le_of 1 (wants_next s.mode) f in (record { enough = omega (arith, e, n, next_wants s.mode); letters = refl }, refl, n)
+    blob (Some octets) = let e = z.enough in let n = le_of 1 (wants_next s.mode) f in
+        (record { enough = omega (arith, e, n, next_wants s.mode); letters = refl }, refl, n)
 acts_measured p s o (actions.Refuse e) f z = tt
 
 -- What comes of an octet.

@@ -37,7 +37,8 @@ segments_long p _ _ (joined ts v w t d i) = omega (arith, length-append ts (t �
 
 notes_long : (c : List Slot) (p : Place) (ts : List Placed) (ss : Symbols) → Annotations c p ts ss → length ss ≤ length ts
 notes_long c p _ _ no_annotation = omega arith
-notes_long c p _ _ (one_annotation ts ss t colons said s d i j k) = omega (arith, notes_long c p ts ss d, length-append ts (t ∷ colons ∷ []), length-append ss (s ∷ []))
+notes_long c p _ _ (one_annotation ts ss t colons said s d i j k) =
+    omega (arith, notes_long c p ts ss d, length-append ts (t ∷ colons ∷ []), length-append ss (s ∷ []))
 
 name_long : (c : List Slot) (ts : List Placed) (s : Option (List ℕ)) → IsName c ts s → 0 < length ts
 name_long c _ _ (by_symbol t said s i j) = omega arith
@@ -70,22 +71,45 @@ mutual
   members_nodes : (c : List Slot) (ts : List Placed) (ms : List Field) (more : Bool) → Members c ts ms more → many_fields ms ≤ length ts
   members_nodes c _ _ _ no_field = omega arith
   members_nodes c _ _ _ (field ts ns us colon ms s v d n i m) =
-      omega (arith, members_nodes c ts ms _ d, name_long c ns s n, means_nodes c _ us v m, fields_more ms (field_of s v), length-append ts (ns ++ colon ∷ us), length-append ns (colon ∷ us))
+      omega (
+        arith,
+        members_nodes c ts ms _ d,
+        name_long c ns s n,
+        means_nodes c _ us v m,
+        fields_more ms (field_of s v),
+        length-append ts (ns ++ colon ∷ us),
+        length-append ns (colon ∷ us),
+      )
   members_nodes c _ _ _ (field_comma ts ms t d i) = omega (arith, members_nodes c ts ms _ d, length-append ts (t ∷ []))
 
 -- tokens end behind an octet of each of them
-ends_far : (ts : List Placed) (colon : Bool) (before : ℕ) (octets : List ℕ) (after : Bool) (end : ℕ) (rest : List ℕ) → LexesTo colon before octets ts after end rest → before + length ts ≤ end_of before ts
+ends_far : (ts : List Placed) (colon : Bool) (before : ℕ) (octets : List ℕ) (after : Bool) (end : ℕ) (rest : List ℕ)
+    → LexesTo colon before octets ts after end rest → before + length ts ≤ end_of before ts
 ends_far [] colon before octets after end rest h = omega arith
 ends_far (t ∷ ts) colon before octets after end rest (q, b, h) =
-    omega (arith, ends_far ts (colon_behind t) t.lexeme.end q after end rest h, b.start, b.end, some_token t.place colon b.token q t.lexeme.kind t.lexeme.octets b.is)
+    omega (
+      arith,
+      ends_far ts (colon_behind t) t.lexeme.end q after end rest h,
+      b.start,
+      b.end,
+      some_token t.place colon b.token q t.lexeme.kind t.lexeme.octets b.is,
+    )
 
 -- tokens span an octet of each of them
-span_long : (ts : List Placed) (colon : Bool) (before : ℕ) (octets : List ℕ) (after : Bool) (end : ℕ) (rest : List ℕ) → LexesTo colon before octets ts after end rest → length ts ≤ span ts
+span_long : (ts : List Placed) (colon : Bool) (before : ℕ) (octets : List ℕ) (after : Bool) (end : ℕ) (rest : List ℕ)
+    → LexesTo colon before octets ts after end rest → length ts ≤ span ts
 span_long [] colon before octets after end rest h = omega arith
 span_long (t ∷ ts) colon before octets after end rest (q, b, h) =
-    omega (arith, ends_far ts (colon_behind t) t.lexeme.end q after end rest h, b.start, b.end, some_token t.place colon b.token q t.lexeme.kind t.lexeme.octets b.is)
+    omega (
+      arith,
+      ends_far ts (colon_behind t) t.lexeme.end q after end rest h,
+      b.start,
+      b.end,
+      some_token t.place colon b.token q t.lexeme.kind t.lexeme.octets b.is,
+    )
 
 -- a value has at most as many nodes as its tokens span octets
-pub value_nodes : (c : List Slot) (p : Place) (ts : List Placed) (v : Value) (colon : Bool) (before : ℕ) (octets : List ℕ) (after : Bool) (end : ℕ) (rest : List ℕ)
+pub value_nodes : (c : List Slot) (p : Place) (ts : List Placed) (v : Value) (colon : Bool) (before : ℕ) (octets : List ℕ) (after : Bool) (end : ℕ)
+    (rest : List ℕ)
     → Means c p ts v → LexesTo colon before octets ts after end rest → nodes v ≤ span ts
 value_nodes c p ts v colon before octets after end rest m h = omega (arith, means_nodes c p ts v m, span_long ts colon before octets after end rest h)

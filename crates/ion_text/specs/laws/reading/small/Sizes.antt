@@ -118,7 +118,8 @@ held_flat (helds.Null k) = ap layer_nodes (views.outs-Null k)
 held_flat (helds.Truth b) = ap layer_nodes (views.outs-Truth b)
 held_flat helds.Nan = tt
 
-within_weighs : (n item start end : ℕ) (top : Bool) (t : Turn) → (end ≤ start + item → Weighs n item start end top t) → Weighs n item start end top (within item start end t)
+within_weighs : (n item start end : ℕ) (top : Bool) (t : Turn) → (end ≤ start + item → Weighs n item start end top t)
+    → Weighs n item start end top (within item start end t)
 within_weighs n item start end top t h = go (nat_le end (start + item)) refl
   where
     fits : nat_le end (start + item) ≡ true → end ≤ start + item
@@ -128,67 +129,82 @@ within_weighs n item start end top t h = go (nat_le end (start + item)) refl
     go true e = h (fits e)
     go false e = tt
 
-top_weighs : (n item start end : ℕ) (top : Bool) (c : List Slot) (v : Value) (d : Result (List Slot) Reason) (b : Bool) → nodes v ≤ n → Weighs n item start end top (if b then turned item start end d else within item start end (gives v (fresh c)))
+top_weighs : (n item start end : ℕ) (top : Bool) (c : List Slot) (v : Value) (d : Result (List Slot) Reason) (b : Bool) → nodes v ≤ n
+    → Weighs n item start end top (if b then turned item start end d else within item start end (gives v (fresh c)))
 top_weighs n item start end top c v (Ok d) true h = within_weighs n item start end top (goes (fresh d)) (λ i. (omega arith, omega arith, tt))
 top_weighs n item start end top c v (Err e) true h = tt
 top_weighs n item start end top c v d false h = within_weighs n item start end top (gives v (fresh c)) (λ i. (h, i, refl))
 
 -- a value is whole
-ended_weighs : (setting : Setting) (spot : Spot) (fs : List Frame) (v : Value) (n : ℕ) (top : Bool) → frames_nodes fs + nodes v ≤ n → Weighs n setting.limits.item spot.start spot.end top (ended setting spot fs v)
-ended_weighs setting spot [] v n top h = let k : 0 + nodes v ≤ n = h in top_weighs n setting.limits.item spot.start spot.end top spot.context v (next spot.context v setting.catalog) (is_table v) (omega (arith, k))
+ended_weighs : (setting : Setting) (spot : Spot) (fs : List Frame) (v : Value) (n : ℕ) (top : Bool) → frames_nodes fs + nodes v ≤ n
+    → Weighs n setting.limits.item spot.start spot.end top (ended setting spot fs v)
+ended_weighs setting spot [] v n top h = let k : 0 + nodes v ≤ n = h in
+    top_weighs n setting.limits.item spot.start spot.end top spot.context v (next spot.context v setting.catalog) (is_table v) (omega (arith, k))
 ended_weighs setting spot (frames.List ss vs ∷ fs) v n top h = (omega (arith, h, nodes-more vs v), omega arith, tt)
 ended_weighs setting spot (frames.Sexp ss vs ∷ fs) v n top h = (omega (arith, h, nodes-more vs v), omega arith, tt)
 ended_weighs setting spot (frames.Named ss ms s ∷ fs) v n top h = (omega (arith, h, fields_more ms (field_of s v)), omega arith, tt)
 ended_weighs setting spot (frames.Fields ss ms ∷ fs) v n top h = tt
 
 -- a value of one node behind its annotations
-flat_weighs : (setting : Setting) (spot : Spot) (fs : List Frame) (ss : Symbols) (q : Payload) (n : ℕ) (top : Bool) → IsNoContainer q → frames_nodes fs + length ss + 1 ≤ n
+flat_weighs : (setting : Setting) (spot : Spot) (fs : List Frame) (ss : Symbols) (q : Payload) (n : ℕ) (top : Bool) → IsNoContainer q
+    → frames_nodes fs + length ss + 1 ≤ n
     → Weighs n setting.limits.item spot.start spot.end top (ended setting spot fs (annotated ss q))
 flat_weighs setting spot fs ss q n top f h = ended_weighs setting spot fs (annotated ss q) n top (omega (arith, h, flat_nodes ss q f))
 
-paid_weighs : (setting : Setting) (spot : Spot) (fs : List Frame) (ss : Symbols) (q : Result Payload Reason) (n : ℕ) (top : Bool) → AllFlat q → frames_nodes fs + length ss + 1 ≤ n
+paid_weighs : (setting : Setting) (spot : Spot) (fs : List Frame) (ss : Symbols) (q : Result Payload Reason) (n : ℕ) (top : Bool) → AllFlat q
+    → frames_nodes fs + length ss + 1 ≤ n
     → Weighs n setting.limits.item spot.start spot.end top (paid setting spot fs ss q)
 paid_weighs setting spot fs ss (Ok q) n top f h = flat_weighs setting spot fs ss q n top f h
 paid_weighs setting spot fs ss (Err e) n top f h = tt
 
 released_weighs : (setting : Setting) (spot : Spot) (fs : List Frame) (ss : Symbols) (h : Held) (n : ℕ) (top : Bool) → frames_nodes fs + length ss + 1 ≤ n
     → Weighs n setting.limits.item spot.start spot.end top (released setting spot fs ss h)
-released_weighs setting spot [] [] (helds.Version true s) n top k = within_weighs n setting.limits.item spot.start spot.end top _ (λ i. (omega arith, omega arith, tt))
+released_weighs setting spot [] [] (helds.Version true s) n top k =
+    within_weighs n setting.limits.item spot.start spot.end top _ (λ i. (omega arith, omega arith, tt))
 released_weighs setting spot [] [] (helds.Version false s) n top k = tt
-released_weighs setting spot [] [] (helds.Symbol s) n top k = paid_weighs setting spot [] [] (held_payload (helds.Symbol s)) n top (held_flat (helds.Symbol s)) k
+released_weighs setting spot [] [] (helds.Symbol s) n top k =
+    paid_weighs setting spot [] [] (held_payload (helds.Symbol s)) n top (held_flat (helds.Symbol s)) k
 released_weighs setting spot [] [] (helds.Null x) n top k = paid_weighs setting spot [] [] (held_payload (helds.Null x)) n top (held_flat (helds.Null x)) k
 released_weighs setting spot [] [] (helds.Truth b) n top k = paid_weighs setting spot [] [] (held_payload (helds.Truth b)) n top (held_flat (helds.Truth b)) k
 released_weighs setting spot [] [] helds.Nan n top k = tt
 released_weighs setting spot [] (s ∷ ss) h n top k = paid_weighs setting spot [] (s ∷ ss) (held_payload h) n top (held_flat h) k
 released_weighs setting spot (f ∷ fs) ss h n top k = paid_weighs setting spot (f ∷ fs) ss (held_payload h) n top (held_flat h) k
 
-resolved_weighs : (n item start end : ℕ) (top : Bool) (r : Result (Option (List ℕ)) Reason) (f : Option (List ℕ) → Turn) → ((s : Option (List ℕ)) → Weighs n item start end top (f s)) → Weighs n item start end top (resolved r f)
+resolved_weighs : (n item start end : ℕ) (top : Bool) (r : Result (Option (List ℕ)) Reason) (f : Option (List ℕ) → Turn)
+    → ((s : Option (List ℕ)) → Weighs n item start end top (f s)) → Weighs n item start end top (resolved r f)
 resolved_weighs n item start end top (Ok s) f k = k s
 resolved_weighs n item start end top (Err e) f k = tt
 
-deeper_weighs : (n item start end : ℕ) (top : Bool) (depth : ℕ) (fs : List Frame) (t deep : Turn) → Weighs n item start end top t → Weighs n item start end top deep → Weighs n item start end top (deeper depth fs t deep)
+deeper_weighs : (n item start end : ℕ) (top : Bool) (depth : ℕ) (fs : List Frame) (t deep : Turn) → Weighs n item start end top t
+    → Weighs n item start end top deep → Weighs n item start end top (deeper depth fs t deep)
 deeper_weighs n item start end top depth fs t deep h k = go (nat_lt (length fs) depth)
   where
     go : (b : Bool) → Weighs n item start end top (if b then t else deep)
     go true = h
     go false = k
 
-list_weighs : (setting : Setting) (spot : Spot) (fs : List Frame) (n : ℕ) (top : Bool) → frames_nodes fs ≤ n → Weighs n setting.limits.item spot.start spot.end top (list_closed setting spot fs)
-list_weighs setting spot (frames.List ss vs ∷ fs) n top h = ended_weighs setting spot fs _ n top (omega (arith, h, nodes-at-List (annotated ss (payloads.List vs)) vs refl))
+list_weighs : (setting : Setting) (spot : Spot) (fs : List Frame) (n : ℕ) (top : Bool) → frames_nodes fs ≤ n
+    → Weighs n setting.limits.item spot.start spot.end top (list_closed setting spot fs)
+list_weighs setting spot (frames.List ss vs ∷ fs) n top h =
+    ended_weighs setting spot fs _ n top (omega (arith, h, nodes-at-List (annotated ss (payloads.List vs)) vs refl))
 list_weighs setting spot (frames.Sexp ss vs ∷ fs) n top h = tt
 list_weighs setting spot (frames.Fields ss vs ∷ fs) n top h = tt
 list_weighs setting spot (frames.Named ss vs s ∷ fs) n top h = tt
 list_weighs setting spot [] n top h = tt
 
-sexp_weighs : (setting : Setting) (spot : Spot) (fs : List Frame) (n : ℕ) (top : Bool) → frames_nodes fs ≤ n → Weighs n setting.limits.item spot.start spot.end top (sexp_closed setting spot fs)
-sexp_weighs setting spot (frames.Sexp ss vs ∷ fs) n top h = ended_weighs setting spot fs _ n top (omega (arith, h, nodes-at-Sexp (annotated ss (payloads.Sexp vs)) vs refl))
+sexp_weighs : (setting : Setting) (spot : Spot) (fs : List Frame) (n : ℕ) (top : Bool) → frames_nodes fs ≤ n
+    → Weighs n setting.limits.item spot.start spot.end top (sexp_closed setting spot fs)
+sexp_weighs setting spot (frames.Sexp ss vs ∷ fs) n top h =
+    ended_weighs setting spot fs _ n top (omega (arith, h, nodes-at-Sexp (annotated ss (payloads.Sexp vs)) vs refl))
 sexp_weighs setting spot (frames.List ss vs ∷ fs) n top h = tt
 sexp_weighs setting spot (frames.Fields ss vs ∷ fs) n top h = tt
 sexp_weighs setting spot (frames.Named ss vs s ∷ fs) n top h = tt
 sexp_weighs setting spot [] n top h = tt
 
-struct_weighs : (setting : Setting) (spot : Spot) (fs : List Frame) (n : ℕ) (top : Bool) → frames_nodes fs ≤ n → Weighs n setting.limits.item spot.start spot.end top (struct_closed setting spot fs)
-struct_weighs setting spot (frames.Fields ss ms ∷ fs) n top h = ended_weighs setting spot fs _ n top (omega (arith, h, nodes-at-Fields (annotated ss (payloads.Fields ms)) ms refl))
+struct_weighs : (setting : Setting) (spot : Spot) (fs : List Frame) (n : ℕ) (top : Bool) → frames_nodes fs ≤ n
+    → Weighs n setting.limits.item spot.start spot.end top (struct_closed setting spot fs)
+struct_weighs setting spot (frames.Fields ss ms ∷ fs) n top h =
+    ended_weighs setting spot fs _ n top (omega (arith, h, nodes-at-Fields (annotated ss (payloads.Fields ms)) ms refl))
 struct_weighs setting spot (frames.List ss vs ∷ fs) n top h = tt
 struct_weighs setting spot (frames.Sexp ss vs ∷ fs) n top h = tt
 struct_weighs setting spot (frames.Named ss vs s ∷ fs) n top h = tt
@@ -219,7 +235,8 @@ module _ (g : Catalog) (l : Limits) where
 
     ready_weighs : (ss : Symbols) (x : Content) → frames_nodes fs + length ss + 1 ≤ n → WeighsHere (on_ready (under g l) spot fs ss x)
     ready_weighs ss (Word w) h = (h, omega arith, waits_top spot.end fs _)
-    ready_weighs ss (Id id) h = resolved_weighs n l.item spot.start spot.end (is_top fs) (resolve spot.context id) _ (λ s. (h, omega arith, waits_top spot.end fs _))
+    ready_weighs ss (Id id) h = resolved_weighs n l.item spot.start spot.end (is_top fs) (resolve spot.context id) _
+        (λ s. (h, omega arith, waits_top spot.end fs _))
     ready_weighs ss (Quoted w) h = (h, omega arith, waits_top spot.end fs _)
     ready_weighs ss (TypedNull k) h = (h, omega arith, waits_top spot.end fs _)
     ready_weighs ss (Long w) h = (h, omega arith, long_top spot.end fs w)
@@ -231,14 +248,17 @@ module _ (g : Catalog) (l : Limits) where
     ready_weighs ss (Mark' marks.ListOpen) h = deeper_weighs n l.item spot.start spot.end (is_top fs) l.depth fs _ _ (omega (arith, h), omega arith, tt) tt
     ready_weighs ss (Mark' marks.SexpOpen) h = deeper_weighs n l.item spot.start spot.end (is_top fs) l.depth fs _ _ (omega (arith, h), omega arith, tt) tt
     ready_weighs ss (Mark' marks.FieldsOpen) h = deeper_weighs n l.item spot.start spot.end (is_top fs) l.depth fs _ _ (omega (arith, h), omega arith, tt) tt
-    ready_weighs ss (Mark' marks.ListClose) h = bare_weighs n l.item spot.start spot.end (is_top fs) ss _ (list_weighs (under g l) spot fs n (is_top fs) (omega (arith, h)))
-    ready_weighs ss (Mark' marks.SexpClose) h = bare_weighs n l.item spot.start spot.end (is_top fs) ss _ (sexp_weighs (under g l) spot fs n (is_top fs) (omega (arith, h)))
+    ready_weighs ss (Mark' marks.ListClose) h = bare_weighs n l.item spot.start spot.end (is_top fs) ss _
+        (list_weighs (under g l) spot fs n (is_top fs) (omega (arith, h)))
+    ready_weighs ss (Mark' marks.SexpClose) h = bare_weighs n l.item spot.start spot.end (is_top fs) ss _
+        (sexp_weighs (under g l) spot fs n (is_top fs) (omega (arith, h)))
     ready_weighs ss (Mark' marks.FieldsClose) h = tt
     ready_weighs ss (Mark' marks.Comma) h = tt
     ready_weighs ss (Mark' marks.Colon) h = tt
     ready_weighs ss (Mark' marks.Colons) h = tt
 
-    noted_weighs : (ss : Symbols) (r : Result (Option (List ℕ)) Reason) → frames_nodes fs + length ss + 1 ≤ n → WeighsHere (noted spot.start spot.context fs ss r)
+    noted_weighs : (ss : Symbols) (r : Result (Option (List ℕ)) Reason) → frames_nodes fs + length ss + 1 ≤ n
+        → WeighsHere (noted spot.start spot.context fs ss r)
     noted_weighs ss (Ok s) h = (omega (arith, h, length-append ss (s ∷ [])), omega arith, still_top spot.end (is_top fs) fs)
     noted_weighs ss (Err e) h = tt
 
@@ -273,37 +293,44 @@ module _ (g : Catalog) (l : Limits) where
     text_top [] top w = tt
     text_top (f ∷ fs) top w = tt
 
-    name_weighs : (fs : List Frame) (top : Bool) (x : Content) → frames_nodes fs + 1 ≤ n → Weighs n l.item spot.start spot.end top (on_name (under g l) spot fs x)
+    name_weighs : (fs : List Frame) (top : Bool) (x : Content) → frames_nodes fs + 1 ≤ n
+        → Weighs n l.item spot.start spot.end top (on_name (under g l) spot fs x)
     name_weighs fs top (Word w) h = go (is_keyword w)
       where
-        go : (b : Bool) → Weighs n l.item spot.start spot.end top (if b then late reasons.KeywordAsName (keyed spot.start spot.context fs (Some w)) else goes (keyed spot.start spot.context fs (Some w)))
+        go : (b : Bool) → Weighs n l.item spot.start spot.end top
+            (if b then late reasons.KeywordAsName (keyed spot.start spot.context fs (Some w)) else goes (keyed spot.start spot.context fs (Some w)))
         go true = tt
         go false = (omega (arith, h), omega arith, name_top fs top (Some w))
     name_weighs fs top (TypedNull k) h = tt
-    name_weighs fs top (Id id) h = resolved_weighs n l.item spot.start spot.end top (resolve spot.context id) _ (λ s. (omega (arith, h), omega arith, name_top fs top s))
+    name_weighs fs top (Id id) h = resolved_weighs n l.item spot.start spot.end top (resolve spot.context id) _
+        (λ s. (omega (arith, h), omega arith, name_top fs top s))
     name_weighs fs top (Quoted w) h = (omega (arith, h), omega arith, name_top fs top (Some w))
     name_weighs fs top (Short w) h = (omega (arith, h), omega arith, name_top fs top (Some w))
     name_weighs fs top (Long w) h = (omega (arith, h), omega arith, text_top fs top w)
     name_weighs fs top (Mark' marks.FieldsClose) h = struct_weighs (under g l) spot fs n top (omega (arith, h))
     name_weighs fs top _ h = tt
 
-    long_name_weighs : (fs : List Frame) (top : Bool) (v : List ℕ) (x : Content) → frames_nodes fs + 1 ≤ n → Weighs n l.item spot.start spot.end top (on_long_name spot.start spot.context fs v x)
+    long_name_weighs : (fs : List Frame) (top : Bool) (v : List ℕ) (x : Content) → frames_nodes fs + 1 ≤ n
+        → Weighs n l.item spot.start spot.end top (on_long_name spot.start spot.context fs v x)
     long_name_weighs fs top v (Long w) h = (omega (arith, h), omega arith, text_top fs top (v ++ w))
     long_name_weighs fs top v _ h = tt
 
-    named_weighs : (fs : List Frame) (top : Bool) (s : Option (List ℕ)) → frames_nodes fs + 1 ≤ n → Weighs n l.item spot.start spot.end top (named spot.start spot.context fs s)
+    named_weighs : (fs : List Frame) (top : Bool) (s : Option (List ℕ)) → frames_nodes fs + 1 ≤ n
+        → Weighs n l.item spot.start spot.end top (named spot.start spot.context fs s)
     named_weighs (frames.Fields ss ms ∷ fs) top s h = (omega (arith, h), omega arith, tt)
     named_weighs (frames.List ss vs ∷ fs) top s h = tt
     named_weighs (frames.Sexp ss vs ∷ fs) top s h = tt
     named_weighs (frames.Named ss ms x ∷ fs) top s h = tt
     named_weighs [] top s h = tt
 
-    keyed_weighs : (fs : List Frame) (top : Bool) (s : Option (List ℕ)) (x : Content) → frames_nodes fs + 1 ≤ n → Weighs n l.item spot.start spot.end top (on_keyed spot.start spot.context fs s x)
+    keyed_weighs : (fs : List Frame) (top : Bool) (s : Option (List ℕ)) (x : Content) → frames_nodes fs + 1 ≤ n
+        → Weighs n l.item spot.start spot.end top (on_keyed spot.start spot.context fs s x)
     keyed_weighs fs top s (Mark' marks.Colon) h = named_weighs fs top s h
     keyed_weighs fs top s _ h = tt
 
   now_weighs : (begin end start : ℕ) (c : List Slot) (fs : List Frame) (ss : Symbols) (x : Content) (now : Now)
-      → Weighs (frames_nodes fs + length ss + now_nodes now + 1) l.item (start_now now start begin fs ss) end (is_top fs) (turn_now (under g l) (at start c fs ss now) (token_at begin end x) now)
+      → Weighs (frames_nodes fs + length ss + now_nodes now + 1) l.item (start_now now start begin fs ss) end (is_top fs)
+      (turn_now (under g l) (at start c fs ss now) (token_at begin end x) now)
   now_weighs begin end start c fs ss x nows.Ready = ready_weighs (spot_at end (begun_at start begin fs ss) c) fs _ ss x (omega arith)
   now_weighs begin end start c fs ss x (nows.Pending h e) = pending_weighs (spot_at end start c) fs _ ss h x (omega arith)
   now_weighs begin end start c fs ss x (nows.Long w e) = long_weighs (spot_at end start c) fs _ ss w x (omega arith)
@@ -313,12 +340,15 @@ module _ (g : Catalog) (l : Limits) where
   now_weighs begin end start c fs ss x (nows.Keyed s) = keyed_weighs (spot_at end start c) _ fs (is_top fs) s x (omega arith)
 
   -- A token adds one node at most.
-  pub turn_weighs : (r : Reading) (t : Token) → Weighs (open_nodes r + 1) l.item (start_now r.now r.start t.start r.frames r.notes) t.end (is_top r.frames) (turn g l r t)
+  pub turn_weighs : (r : Reading) (t : Token) → Weighs (open_nodes r + 1) l.item (start_now r.now r.start t.start r.frames r.notes) t.end (is_top r.frames)
+      (turn g l r t)
   turn_weighs r t = now_weighs t.start t.end r.start r.context r.frames r.notes t.said r.now
 
-  settled_weighs : (start : ℕ) (c : List Slot) (fs : List Frame) (ss : Symbols) (now : Now) → Weighs (frames_nodes fs + length ss + now_nodes now) l.item start (wait_end now) false (settle g l (at start c fs ss now))
+  settled_weighs : (start : ℕ) (c : List Slot) (fs : List Frame) (ss : Symbols) (now : Now)
+      → Weighs (frames_nodes fs + length ss + now_nodes now) l.item start (wait_end now) false (settle g l (at start c fs ss now))
   settled_weighs start c fs ss (nows.Pending h end) = released_weighs (under g l) (spot_at end start c) fs ss h _ false (omega arith)
-  settled_weighs start c fs ss (nows.Long w end) = flat_weighs (under g l) (spot_at end start c) fs ss (payloads.Str w) _ false (ap layer_nodes (views.outs-Str w)) (omega arith)
+  settled_weighs start c fs ss (nows.Long w end) = flat_weighs (under g l) (spot_at end start c) fs ss (payloads.Str w) _ false
+      (ap layer_nodes (views.outs-Str w)) (omega arith)
   settled_weighs start c fs ss (nows.LongName w) = (omega arith, omega arith, still fs)
     where
       still : (fs : List Frame) → TopWaits 0 false fs (nows.Keyed (Some w))

@@ -72,7 +72,8 @@ pub record EndedNear (from : ℕ) (r : Reading) (x : Lexeme) (t : Known) : Type 
   pub sized : Sized t
 
 -- Where no item is open, one begins with the token. Its octets count from where it begins, but for those used before.
-opened : (now : Now) (fs : List Frame) (ss : Symbols) (start begin base end : ℕ) → start ≤ base → base + (frames_nodes fs + length ss + now_nodes now) + 1 ≤ end → begin + 1 ≤ end
+opened : (now : Now) (fs : List Frame) (ss : Symbols) (start begin base end : ℕ) → start ≤ base → base + (frames_nodes fs + length ss + now_nodes now) + 1 ≤ end
+    → begin + 1 ≤ end
     → (b : ℕ) × (base ≤ b) × (start_now now start begin fs ss ≤ b) × (b + (frames_nodes fs + length ss + now_nodes now) + 1 ≤ end)
 opened nows.Ready [] [] start begin base end h k n = (max base begin, omega arith, omega arith, omega (arith, k, n))
 opened nows.Ready [] (s ∷ ss) start begin base end h k n = (base, omega arith, h, k)
@@ -134,7 +135,16 @@ longer b used later (nows.Keyed s) w k = tt
 
 -- no item is open, and no octet behind the values before belongs to one
 near_fresh : (from : ℕ) (s : Known) (r : Reading) → r ≡ fresh r.context → from + wants s.mode ≤ s.used → Sized s → Near from s r
-near_fresh from s r e h z = subst (Near from s) (sym e) (record { base = from; behind = omega arith; starts = omega arith; far = omega (arith, h); waiting = λ _. tt; quiet = λ _. tt; sized = z })
+near_fresh from s r e h z = subst (Near from s) (sym e) (record {
+  base = from;
+  behind = omega arith;
+  starts = omega arith;
+  far =
+      omega (arith, h);
+  waiting = λ _. tt;
+  quiet = λ _. tt;
+  sized = z;
+})
 
 one_true : (a b : Bool) → (a || b) ≡ true → (a ≡ true) ⊎ (b ≡ true)
 one_true true b h = inl refl
@@ -179,7 +189,8 @@ module _ (g : Catalog) (l : Limits) where
   TurnNear from t (refuses e) = Unit {0}
   TurnNear from t (late e r) = Unit {0}
 
-  led_near : (from : ℕ) (r : Reading) (x : Lexeme) (t : Known) (turned : Turn) (e : EndedNear from r x t) → Weighs (open_nodes r + 1) l.item (start_now r.now r.start x.start r.frames r.notes) x.end (is_top r.frames) turned → TurnNear from t turned
+  led_near : (from : ℕ) (r : Reading) (x : Lexeme) (t : Known) (turned : Turn) (e : EndedNear from r x t)
+      → Weighs (open_nodes r + 1) l.item (start_now r.now r.start x.start r.frames r.notes) x.end (is_top r.frames) turned → TurnNear from t turned
   led_near from r x t (goes n) e w =
       let b = opened r.now r.frames r.notes r.start x.start e.base x.end e.starts e.far e.some in
       let less : b.0 + open_nodes n ≤ x.end = omega (arith, b.3, w.0) in
@@ -188,13 +199,24 @@ module _ (g : Catalog) (l : Limits) where
         behind = omega (arith, e.behind, b.1);
         starts = omega (arith, w.1, b.2);
         far = omega (arith, less, e.rest);
-        waiting = λ i. since_behind (b.0 + open_nodes n) t.used x.end (is_top r.frames) n.now (at_top x.end (is_top r.frames) n.frames n.now w.2 i) less (omega (arith, e.rest));
+        waiting = λ i. since_behind (b.0 + open_nodes n) t.used x.end (is_top r.frames) n.now (at_top x.end (is_top r.frames) n.frames n.now w.2 i) less
+            (omega (arith, e.rest));
         quiet = λ i. since_in x.end (is_top r.frames) n.now t.mode (at_top x.end (is_top r.frames) n.frames n.now w.2 i) e.idle;
         sized = e.sized;
       }
   led_near from r x t (gives v n) e w =
-      let b = opened r.now r.frames r.notes r.start x.start e.base x.end e.starts e.far e.some in
-      (record { start = b.0; end = x.end; behind = omega (arith, e.behind, b.1); within = omega (arith, e.rest); fits = omega (arith, w.1, b.2); holds = omega (arith, w.0, b.3) }, w.2)
+      let b = opened r.now r.frames r.notes r.start x.start e.base x.end e.starts e.far e.some in (
+        record {
+          start = b.0;
+          end = x.end;
+          behind = omega (arith, e.behind, b.1);
+          within = omega (arith, e.rest);
+          fits =
+              omega (arith, w.1, b.2);
+          holds = omega (arith, w.0, b.3);
+        },
+        w.2,
+      )
   led_near from r x t (refuses y) e w = tt
   led_near from r x t (late y n) e w = tt
 
@@ -202,7 +224,8 @@ module _ (g : Catalog) (l : Limits) where
   token_near from r x t c e = led_near from r x t (turn g l r (token_of x c)) e (turn_weighs g l r (token_of x c))
 
   -- what settling leads to
-  settled_near : (from : ℕ) (s : Known) (r : Reading) (turned : Turn) (h : Near from s r) → Weighs (open_nodes r) l.item r.start (wait_end r.now) false turned → (GivesNone turned ⊎ ((h.base + open_nodes r ≤ wait_end r.now) × (wait_end r.now ≤ s.used))) → TurnNear from s turned
+  settled_near : (from : ℕ) (s : Known) (r : Reading) (turned : Turn) (h : Near from s r) → Weighs (open_nodes r) l.item r.start (wait_end r.now) false turned
+      → (GivesNone turned ⊎ ((h.base + open_nodes r ≤ wait_end r.now) × (wait_end r.now ≤ s.used))) → TurnNear from s turned
   settled_near from s r (goes n) h w k = record {
     base = h.base;
     behind = h.behind;
@@ -213,13 +236,17 @@ module _ (g : Catalog) (l : Limits) where
     sized = h.sized;
   }
   settled_near from s r (gives v n) h w (inl k) = absurd k
-  settled_near from s r (gives v n) h w (inr k) =
-      (record { start = h.base; end = wait_end r.now; behind = h.behind; within = k.1; fits = omega (arith, w.1, h.starts); holds = omega (arith, w.0, k.0) }, w.2)
+  settled_near from s r (gives v n) h w (inr k) = (
+    record { start = h.base; end = wait_end r.now; behind = h.behind; within = k.1; fits = omega (arith, w.1, h.starts); holds = omega (arith, w.0, k.0) },
+    w.2,
+  )
   settled_near from s r (refuses e) h w k = tt
   settled_near from s r (late e n) h w k = tt
 
   -- where a container is open settling gives no value
-  inside : (n start end : ℕ) (fs : List Frame) (now : Now) (turned : Turn) → Leading g l (λ (r : Reading). (place r ≡ place_in fs now) × (is_top r.frames ≡ is_top fs)) turned → Weighs n l.item start end false turned → is_top fs ≡ false → GivesNone turned
+  inside : (n start end : ℕ) (fs : List Frame) (now : Now) (turned : Turn)
+      → Leading g l (λ (r : Reading). (place r ≡ place_in fs now) × (is_top r.frames ≡ is_top fs)) turned → Weighs n l.item start end false turned
+      → is_top fs ≡ false → GivesNone turned
   inside n start end fs now (goes r) h w e = tt
   inside n start end fs now (gives v r) h w e = absurd (let k : true ≡ false = sym (ap (λ (x : Reading). is_top x.frames) w.2) ∙ (h.1 ∙ e) in cc)
   inside n start end fs now (refuses x) h w e = tt
@@ -268,7 +295,17 @@ module _ (g : Catalog) (l : Limits) where
     idle_ended x t e i = ended_idle (place r) x t.mode e.idle (top_sexp r.frames r.now i)
 
     ends_near : (x : Lexeme) (t : Known) → EndedToken (place r) s x t → EndedNear from r x t
-    ends_near x t e = record { base = h.base; behind = h.behind; starts = h.starts; far = omega (arith, h.far, e.behind); some = e.some; rest = e.rest; idle = idle_ended x t e; sized = e.sized }
+    ends_near x t e = record {
+      base = h.base;
+      behind = h.behind;
+      starts = h.starts;
+      far = omega (arith, h.far, e.behind);
+      some = e.some;
+      rest =
+          e.rest;
+      idle = idle_ended x t e;
+      sized = e.sized;
+    }
 
     comes_near : (x : Outcome) → Measured (place r) s x → ((t : Known) → x ≡ Next t → is_top r.frames ≡ true → WaitsIn r.now t.mode) → ScannedNear from r x
     comes_near (Next t) z w = record {
@@ -286,11 +323,22 @@ module _ (g : Catalog) (l : Limits) where
 
   -- Behind a value, at the octet that showed its end. Behind a long string one quote may be used then: of the symbol that it begins an
   -- octet more comes before the token ends, so that the octets from here on suffice.
-  comes_again : (p : Place) (s : Known) (r : Reading) (x : Outcome) → r ≡ fresh r.context → p ≡ places.Top → wants_next s.mode ≡ 1 → Measured p s x → ((y : Lexeme) (t : Known) → x ≡ Left y t → y.kind ≡ kinds.Mark marks.Colon) → ScannedNear s.used r x
+  comes_again : (p : Place) (s : Known) (r : Reading) (x : Outcome) → r ≡ fresh r.context → p ≡ places.Top → wants_next s.mode ≡ 1 → Measured p s x
+      → ((y : Lexeme) (t : Known) → x ≡ Left y t → y.kind ≡ kinds.Mark marks.Colon) → ScannedNear s.used r x
   comes_again p s r (Next t) e q m z k = near_fresh s.used t r e (omega (arith, z.1, z.2, m)) z.0
   comes_again p s r (Given y t) e q m z k =
       subst (λ n. EndedNear s.used n y t) (sym e)
-      (record { base = s.used; behind = omega arith; starts = omega arith; far = omega (arith, z.2); some = z.0.some; rest = z.0.rest; idle = λ _. ended_idle p y t.mode z.0.idle (ap is_sexp q); sized = z.0.sized })
+      (record {
+        base = s.used;
+        behind = omega arith;
+        starts = omega arith;
+        far = omega (arith, z.2);
+        some = z.0.some;
+        rest = z.0.rest;
+        idle =
+            λ _. ended_idle p y t.mode z.0.idle (ap is_sexp q);
+        sized = z.0.sized;
+      })
   comes_again p s r (Left y t) e q m z k = inr (k y t refl, e)
   comes_again p s r (Refused n y) e q m z k = tt
 
@@ -305,7 +353,8 @@ module _ (g : Catalog) (l : Limits) where
   abbrev CameNear : ℕ → ℕ → ℕ → Effect → Type 0
   CameNear from used o (uses m) = Near from m.scan m.reading × (m.scan.used ≡ used + 1)
   CameNear from used o (tells v m) = HasSpan l.item from (used + 1) v × Near (used + 1) m.scan m.reading × (m.scan.used ≡ used + 1)
-  CameNear from used o (leaves v m) = HasSpan l.item from used v × (m.scan.used ≡ used) × (m.reading ≡ fresh m.reading.context) × ScannedNear used m.reading (feed (place m.reading) m.scan o) × Sized m.scan
+  CameNear from used o (leaves v m) = HasSpan l.item from used v × (m.scan.used ≡ used) × (m.reading ≡ fresh m.reading.context)
+      × ScannedNear used m.reading (feed (place m.reading) m.scan o) × Sized m.scan
   CameNear from used o (fails e) = Unit {0}
 
   module _ (from used o : ℕ) where
@@ -318,16 +367,19 @@ module _ (g : Catalog) (l : Limits) where
     noticed_came : (r : Reading) (t : Known) → Near from t r → t.used ≡ used + 1 → CameNear from used o (noticed l r t)
     noticed_came r t h e = go (shut r.now && not (is_idle t.mode)) (nat_le (reaches r.frames r t) l.item)
       where
-        go : (x y : Bool) → CameNear from used o (if x then fails reasons.Unexpected else (if y then uses (record { scan = t; reading = r }) else fails reasons.ItemTooLong))
+        go : (x y : Bool) → CameNear from used o (if x then fails reasons.Unexpected else
+            (if y then uses (record { scan = t; reading = r }) else fails reasons.ItemTooLong))
         go true y = tt
         go false true = (h, e)
         go false false = tt
 
-    said_came : (r : Result Content Reason) (f : Content → Effect) → ((c : Content) → r ≡ Ok c → CameNear from used o (f c)) → CameNear from used o (on_said r f)
+    said_came : (r : Result Content Reason) (f : Content → Effect) → ((c : Content) → r ≡ Ok c → CameNear from used o (f c))
+        → CameNear from used o (on_said r f)
     said_came (Ok c) f h = h c refl
     said_came (Err e) f h = tt
 
-    given_came : (t : Known) (turned : Turn) → TurnNear from t turned → t.used ≡ used + 1 → wants t.mode ≡ 0 → Sized t → CameNear from used o (behind_given l t turned)
+    given_came : (t : Known) (turned : Turn) → TurnNear from t turned → t.used ≡ used + 1 → wants t.mode ≡ 0 → Sized t
+        → CameNear from used o (behind_given l t turned)
     given_came t (goes r) h e w z = noticed_came r t h e
     given_came t (gives v r) h e w z = (subst (λ n. HasSpan l.item from n v) e h.0, near_fresh (used + 1) t r h.1 (omega (arith, e, w)) z, e)
     given_came t (refuses x) h e w z = tt
@@ -337,7 +389,8 @@ module _ (g : Catalog) (l : Limits) where
     abbrev AgainNear : (State → Effect) → Type 0
     AgainNear again = (k : State) → Near from k.scan k.reading → k.scan.used ≡ used → CameNear from used o (again k)
 
-    left_came : (again : State → Effect) (t : Known) (turned : Turn) → AgainNear again → TurnNear from t turned → t.used ≡ used → (GivesNone turned ⊎ (is_idle t.mode ≡ true)) → Sized t → CameNear from used o (behind_left again t turned)
+    left_came : (again : State → Effect) (t : Known) (turned : Turn) → AgainNear again → TurnNear from t turned → t.used ≡ used
+        → (GivesNone turned ⊎ (is_idle t.mode ≡ true)) → Sized t → CameNear from used o (behind_left again t turned)
     left_came again t (goes r) f h e i z = f (with_scan t r) h e
     left_came again t (gives v r) f h e (inl i) z = absurd i
     left_came again t (gives v r) f h e (inr i) z =
@@ -345,19 +398,22 @@ module _ (g : Catalog) (l : Limits) where
           subst (λ n. HasSpan l.item from n v) e h.0,
           e,
           h.1,
-          subst (λ n. ScannedNear n r (feed (place r) t o)) e (comes_again (place r) t r (feed (place r) t o) h.1 top (idle_next t.mode i) (feed_measured (place r) t o z) (λ y k q. idle_colon t o i y k (ap (λ p. feed p t o) (sym top) ∙ q))),
+          subst (λ n. ScannedNear n r (feed (place r) t o)) e (comes_again (place r) t r (feed (place r) t o) h.1 top (idle_next t.mode i)
+              (feed_measured (place r) t o z) (λ y k q. idle_colon t o i y k (ap (λ p. feed p t o) (sym top) ∙ q))),
           z,
         )
     left_came again t (refuses x) f h e i z = tt
     left_came again t (late x r) f h e i z = worse_came x (again (with_scan t r))
 
     -- a colon where no item is open
-    colon_fails : (again : State → Effect) (t : Known) (r : Reading) (x : Lexeme) (c : Content) → r ≡ fresh r.context → c ≡ Mark' marks.Colon → CameNear from used o (behind_left again t (turn g l r (token_of x c)))
+    colon_fails : (again : State → Effect) (t : Known) (r : Reading) (x : Lexeme) (c : Content) → r ≡ fresh r.context → c ≡ Mark' marks.Colon
+        → CameNear from used o (behind_left again t (turn g l r (token_of x c)))
     colon_fails again t r x c e k =
         subst (λ n. CameNear from used o (behind_left again t (turn g l n (token_of x c)))) (sym e)
         (subst (λ b. CameNear from used o (behind_left again t (turn g l (fresh r.context) (token_of x b)))) (sym k) tt)
 
-    operator_gives : (begin end start : ℕ) (c : List Slot) (fs : List Frame) (ss : Symbols) (now : Now) (w : List ℕ) → is_top fs ≡ false → GivesNone (turn_now (under g l) (at start c fs ss now) (token_at begin end (Operator w)) now)
+    operator_gives : (begin end start : ℕ) (c : List Slot) (fs : List Frame) (ss : Symbols) (now : Now) (w : List ℕ) → is_top fs ≡ false
+        → GivesNone (turn_now (under g l) (at start c fs ss now) (token_at begin end (Operator w)) now)
     operator_gives begin end start c [] ss now w h = absurd cc
     operator_gives begin end start c (frames.List xs vs ∷ fs) ss nows.Ready w h = tt
     operator_gives begin end start c (frames.Sexp xs vs ∷ fs) ss nows.Ready w h = tt
@@ -371,7 +427,8 @@ module _ (g : Catalog) (l : Limits) where
     operator_gives begin end start c (f ∷ fs) ss (nows.Keyed k) w h = tt
 
     -- a token that is left gives a value where none is open behind it
-    left_idle : (p : Place) (r : Reading) (x : Lexeme) (t : Known) (c : Content) → p ≡ place r → (is_idle t.mode ≡ true) ⊎ ((x.kind ≡ kinds.Operator) × (is_sexp p ≡ true)) → said x.kind x.octets ≡ Ok c → GivesNone (turn g l r (token_of x c)) ⊎ (is_idle t.mode ≡ true)
+    left_idle : (p : Place) (r : Reading) (x : Lexeme) (t : Known) (c : Content) → p ≡ place r → (is_idle t.mode ≡ true)
+        ⊎ ((x.kind ≡ kinds.Operator) × (is_sexp p ≡ true)) → said x.kind x.octets ≡ Ok c → GivesNone (turn g l r (token_of x c)) ⊎ (is_idle t.mode ≡ true)
     left_idle p r x t c q (inl i) e = inr i
     left_idle p r x t c q (inr i) e = by (is_top r.frames) refl
       where
@@ -379,10 +436,12 @@ module _ (g : Catalog) (l : Limits) where
         by true k = absurd (let n : true ≡ false = sym i.1 ∙ (ap is_sexp q ∙ top_sexp r.frames r.now k) in cc)
         by false k =
             let operator : c ≡ Operator x.octets = operator_body x.octets c (subst (λ y. IsBody y x.octets (Ok c)) i.0 (said_body x.kind x.octets c e)) in
-            inl (subst (λ y. GivesNone (turn g l r (token_of x y))) (sym operator) (operator_gives x.start x.end r.start r.context r.frames r.notes r.now x.octets k))
+            inl (subst (λ y. GivesNone (turn g l r (token_of x y))) (sym operator)
+            (operator_gives x.start x.end r.start r.context r.frames r.notes r.now x.octets k))
 
     -- An octet at the scanner.
-    scan_came : (p : Place) (s : Known) (r : Reading) (again : State → Effect) (x : Outcome) → p ≡ place r → s.used ≡ used → AgainNear again → Measured p s x → ScannedNear from r x → CameNear from used o (on_scan g l again r x)
+    scan_came : (p : Place) (s : Known) (r : Reading) (again : State → Effect) (x : Outcome) → p ≡ place r → s.used ≡ used → AgainNear again → Measured p s x
+        → ScannedNear from r x → CameNear from used o (on_scan g l again r x)
     scan_came p s r again (Next t) q e f z h = noticed_came r t h (omega (arith, z.1, e))
     scan_came p s r again (Given x t) q e f z h =
         said_came (said x.kind x.octets) (λ c. behind_given l t (turn g l r (token_of x c)))
@@ -413,7 +472,8 @@ module _ (g : Catalog) (l : Limits) where
         quoted (Given x k) h w y t e = cc
         quoted (Refused n x) h w y t e = cc
 
-    shown_before : (s : Known) (start : ℕ) (c : List Slot) (fs : List Frame) (ss : Symbols) (now : Now) → Near from s (at start c fs ss now) → waits (at start c fs ss now) (feed (place_in fs now) s o) ≡ false
+    shown_before : (s : Known) (start : ℕ) (c : List Slot) (fs : List Frame) (ss : Symbols) (now : Now) → Near from s (at start c fs ss now)
+        → waits (at start c fs ss now) (feed (place_in fs now) s o) ≡ false
         → GivesNone (settle g l (at start c fs ss now)) ⊎ ShowsEnd s
     shown_before s start c (f ∷ fs) ss now h w = inl (open_none start c f fs ss now)
     shown_before s start c [] ss (nows.Pending k e) h w = inr (idle_next s.mode (h.quiet refl), idle_colon s o (h.quiet refl))
@@ -428,8 +488,10 @@ module _ (g : Catalog) (l : Limits) where
     on_place p q s e z = subst (λ k. Measured k s (feed p s o)) e (feed_measured p s o z)
 
     -- where it was settled before the octet
-    settled_came : (s : Known) (fs : List Frame) (now : Now) (again : State → Effect) (turned : Turn) → s.used ≡ used → Sized s → AgainNear again → TurnNear from s turned → SettledNear turned
-        → Leading g l (λ (r : Reading). (place r ≡ place_in fs now) × (is_top r.frames ≡ is_top fs)) turned → GivesNone turned ⊎ ShowsEnd s → CameNear from used o (on_settled g l again s (feed (place_in fs now) s o) turned)
+    settled_came : (s : Known) (fs : List Frame) (now : Now) (again : State → Effect) (turned : Turn) → s.used ≡ used → Sized s → AgainNear again
+        → TurnNear from s turned → SettledNear turned
+        → Leading g l (λ (r : Reading). (place r ≡ place_in fs now) × (is_top r.frames ≡ is_top fs)) turned → GivesNone turned ⊎ ShowsEnd s
+        → CameNear from used o (on_settled g l again s (feed (place_in fs now) s o) turned)
     settled_came s fs now again (goes r) e z f h i k w =
         let x : Outcome = feed (place_in fs now) s o in
         let there = on_place (place_in fs now) (place r) s (sym k.0) z in
@@ -440,7 +502,8 @@ module _ (g : Catalog) (l : Limits) where
           subst (λ n. HasSpan l.item from n v) e h.0,
           e,
           h.1,
-          subst (λ n. ScannedNear n r (feed (place r) s o)) e (comes_again (place r) s r (feed (place r) s o) h.1 top w.0 (feed_measured (place r) s o z) (λ y t q. w.1 y t (ap (λ p. feed p s o) (sym top) ∙ q))),
+          subst (λ n. ScannedNear n r (feed (place r) s o)) e (comes_again (place r) s r (feed (place r) s o) h.1 top w.0 (feed_measured (place r) s o z)
+              (λ y t q. w.1 y t (ap (λ p. feed p s o) (sym top) ∙ q))),
           z,
         )
     settled_came s fs now again (refuses x) e z f h i k w = tt
@@ -454,20 +517,29 @@ module _ (g : Catalog) (l : Limits) where
         again : State → Effect
         again k = takes g l n k o
 
-        go : (b : Bool) → unsettled s r (feed (place r) s o) ≡ b → AgainNear again → CameNear from used o (if b then on_scan g l again r (feed (place r) s o) else on_settled g l again s (feed (place r) s o) (settle g l r))
+        go : (b : Bool) → unsettled s r (feed (place r) s o) ≡ b → AgainNear again
+            → CameNear from used o (if b then on_scan g l again r (feed (place r) s o) else on_settled g l again s (feed (place r) s o) (settle g l r))
         go true w f =
             let z = feed_measured (place r) s o h.sized in
-            scan_came (place r) s r again (feed (place r) s o) refl e f z (comes_near from s r h (feed (place r) s o) z (λ t q i. waits_in r.now (is_top r.frames) t (subst (λ x. waits r x ≡ true) q (unsettled_waits (place r) s r o (subst NotRefused (sym q) tt) w))))
+            scan_came (place r) s r again (feed (place r) s o) refl e f z
+            (comes_near from s r h (feed (place r) s o) z (λ t q i.
+            waits_in r.now (is_top r.frames) t (subst (λ x. waits r x ≡ true) q (unsettled_waits (place r) s r o (subst NotRefused (sym q) tt) w))))
         go false w f =
-            settled_came s r.frames r.now again (settle g l r) e h.sized f (settle_near from s r h) (settled_in (open_nodes r) r.start (wait_end r.now) (settle g l r) (settle_weighs g l r))
-            (settle_same g l r.start r.context r.frames r.notes r.now) (shown_before s r.start r.context r.frames r.notes r.now h (or_parts (waits r (feed (place r) s o)) (in_segment r.now s) w).0)
+            settled_came s r.frames r.now again (settle g l r) e h.sized f (settle_near from s r h)
+            (settled_in (open_nodes r) r.start (wait_end r.now) (settle g l r) (settle_weighs g l r))
+            (settle_same g l r.start r.context r.frames r.notes r.now)
+            (shown_before s r.start r.context r.frames r.notes r.now h (or_parts (waits r (feed (place r) s o)) (in_segment r.now s) w).0)
 
     -- the octet that showed the end of a value, again
-    fresh_came : (s : Known) (c : List Slot) → ScannedNear from (fresh c) (feed places.Top s o) → s.used ≡ used → Sized s → CameNear from used o (takes g l 3 (with_scan s (fresh c)) o)
-    fresh_came s c h e z = scan_came places.Top s (fresh c) (λ k. takes g l 2 k o) (feed places.Top s o) refl e (λ k i j. takes_came 2 k.scan k.reading i j) (feed_measured places.Top s o z) h
+    fresh_came : (s : Known) (c : List Slot) → ScannedNear from (fresh c) (feed places.Top s o) → s.used ≡ used → Sized s
+        → CameNear from used o (takes g l 3 (with_scan s (fresh c)) o)
+    fresh_came s c h e z = scan_came places.Top s (fresh c) (λ k. takes g l 2 k o) (feed places.Top s o) refl e (λ k i j. takes_came 2 k.scan k.reading i j)
+        (feed_measured places.Top s o z) h
 
-    again_came : (m : State) → m.reading ≡ fresh m.reading.context → ScannedNear from m.reading (feed (place m.reading) m.scan o) → m.scan.used ≡ used → Sized m.scan → CameNear from used o (eats g l m o)
-    again_came m f h e z = subst (λ r. ScannedNear from r (feed (place r) m.scan o) → CameNear from used o (takes g l 3 (with_scan m.scan r) o)) (sym f) (λ k. fresh_came m.scan m.reading.context k e z) h
+    again_came : (m : State) → m.reading ≡ fresh m.reading.context → ScannedNear from m.reading (feed (place m.reading) m.scan o) → m.scan.used ≡ used
+        → Sized m.scan → CameNear from used o (eats g l m o)
+    again_came m f h e z = subst (λ r. ScannedNear from r (feed (place r) m.scan o) → CameNear from used o (takes g l 3 (with_scan m.scan r) o)) (sym f)
+        (λ k. fresh_came m.scan m.reading.context k e z) h
 
   -- of runs
 
@@ -477,20 +549,24 @@ module _ (g : Catalog) (l : Limits) where
   Led from [] (Err e) n = from ≤ n
   Led from ((v, at) ∷ given) now n = HasSpan l.item from at v × Led at given now n
 
-  more_led : (from to n o : ℕ) (rest : State → Run) (x : Effect) → from ≤ n → ((k : ℕ) (m : State) → Near k m.scan m.reading → m.scan.used ≡ to + 1 → Led k (rest m).given (rest m).now n) → CameNear from to o x → Led from (once_more to rest x).given (once_more to rest x).now n
+  more_led : (from to n o : ℕ) (rest : State → Run) (x : Effect) → from ≤ n
+      → ((k : ℕ) (m : State) → Near k m.scan m.reading → m.scan.used ≡ to + 1 → Led k (rest m).given (rest m).now n) → CameNear from to o x
+      → Led from (once_more to rest x).given (once_more to rest x).now n
   more_led from to n o rest (uses m) k f h = f from m h.0 h.1
   more_led from to n o rest (tells v m) k f h = (h.0, f (to + 1) m h.1 h.2)
   more_led from to n o rest (leaves v m) k f h = k
   more_led from to n o rest (fails e) k f h = k
 
-  octet_led : (from to n o : ℕ) (rest : State → Run) (x : Effect) → from ≤ n → to ≤ n → ((k : ℕ) (m : State) → Near k m.scan m.reading → m.scan.used ≡ to + 1 → Led k (rest m).given (rest m).now n) → CameNear from to o x
+  octet_led : (from to n o : ℕ) (rest : State → Run) (x : Effect) → from ≤ n → to ≤ n
+      → ((k : ℕ) (m : State) → Near k m.scan m.reading → m.scan.used ≡ to + 1 → Led k (rest m).given (rest m).now n) → CameNear from to o x
       → Led from (run_on to (λ m. eats g l m o) rest x).given (run_on to (λ m. eats g l m o) rest x).now n
   octet_led from to n o rest (uses m) j k f h = f from m h.0 h.1
   octet_led from to n o rest (tells v m) j k f h = (h.0, f (to + 1) m h.1 h.2)
   octet_led from to n o rest (leaves v m) j k f h = (h.0, more_led to to n o rest (eats g l m o) k f (again_came to to o m h.2 h.3 h.1 h.4))
   octet_led from to n o rest (fails e) j k f h = j
 
-  run_led : (os : List ℕ) (from to n : ℕ) (m : State) → n ≡ to + length os → Near from m.scan m.reading → m.scan.used ≡ to → Led from (run g l to m os).given (run g l to m os).now n
+  run_led : (os : List ℕ) (from to n : ℕ) (m : State) → n ≡ to + length os → Near from m.scan m.reading → m.scan.used ≡ to
+      → Led from (run g l to m os).given (run g l to m os).now n
   run_led [] from to n m e h u = (h, omega (arith, e, u))
   run_led (o ∷ os) from to n m e h u =
       octet_led from to n o (λ k. run g l (to + 1) k os) (eats g l m o) (omega (arith, e, u, h.behind, h.far)) (omega (arith, e))
@@ -534,13 +610,25 @@ module _ (g : Catalog) (l : Limits) where
         let n = token_wants (place r) s x e in
         let z = h.sized in
         let i = z.enough in
-        record { base = h.base; behind = h.behind; starts = h.starts; far = omega (arith, h.far, k.1, n); some = omega (arith, k.0, k.1, i, n); rest = omega (arith, k.1); idle = λ _. refl; sized = record { enough = omega arith; letters = refl } }
+        record {
+          base = h.base;
+          behind = h.behind;
+          starts = h.starts;
+          far = omega (arith, h.far, k.1, n);
+          some = omega (arith, k.0, k.1, i, n);
+          rest =
+              omega (arith, k.1);
+          idle = λ _. refl;
+          sized = record { enough = omega arith; letters = refl };
+        }
 
-    said_has : (s : Known) (r : Reading) (x : Lexeme) (c : Result Content Reason) → EndedNear from r x (behind_last s.used) → EndHas from s.used (end_said g l s.used r x c)
+    said_has : (s : Known) (r : Reading) (x : Lexeme) (c : Result Content Reason) → EndedNear from r x (behind_last s.used)
+        → EndHas from s.used (end_said g l s.used r x c)
     said_has s r x (Ok c) h = turned_has (behind_last s.used) (turn g l r (token_of x c)) (token_near from r x (behind_last s.used) c h)
     said_has s r x (Err e) h = tt
 
-    waiting_has : (s : Known) (x : Result (Option Lexeme) Reason) (turned : Turn) → TurnNear from s turned → EndHas from s.used (end_waiting g l s.used x turned)
+    waiting_has : (s : Known) (x : Result (Option Lexeme) Reason) (turned : Turn) → TurnNear from s turned
+        → EndHas from s.used (end_waiting g l s.used x turned)
     waiting_has s (Ok None) t h = settled_has s t h
     waiting_has s (Ok (Some x)) (goes r) h = tt
     waiting_has s (Ok (Some x)) (gives v r) h = tt
@@ -551,7 +639,8 @@ module _ (g : Catalog) (l : Limits) where
     waiting_has s (Err y) (refuses e) h = tt
     waiting_has s (Err y) (late e r) h = late_has s.used e
 
-    ready_has : (s : Known) (r : Reading) (x : Result (Option Lexeme) Reason) → Near from s r → at_end (place r) s ≡ x → EndHas from s.used (end_ready g l s.used r x)
+    ready_has : (s : Known) (r : Reading) (x : Result (Option Lexeme) Reason) → Near from s r → at_end (place r) s ≡ x
+        → EndHas from s.used (end_ready g l s.used r x)
     ready_has s r (Ok None) h e = fresh_has s.used (is_fresh r)
     ready_has s r (Ok (Some x)) h e = said_has s r x (said x.kind x.octets) (last_ended s r x h e)
     ready_has s r (Err y) h e = tt
@@ -570,8 +659,13 @@ module _ (g : Catalog) (l : Limits) where
   led_spaced from n [] (Err e) h = h
   led_spaced from n ((v, at) ∷ given) now h = (h.0, led_spaced at n given now h.1)
 
-  last_spaced : (from n : ℕ) (given : List (Value × ℕ)) (now : Result State Refusal) (v : Value) → Led from given now n → ends_of g l now ≡ Ok (Some v) → Spaced l.item from (given ++ (v, n) ∷ []) n
-  last_spaced from n [] (Ok m) v h e = (subst (λ k. HasSpan l.item from k v) h.1 (subst (EndHas from m.scan.used) e (ends_has from m.scan m.reading m.reading.now h.0)), omega arith)
+  last_spaced : (from n : ℕ) (given : List (Value × ℕ)) (now : Result State Refusal) (v : Value) → Led from given now n → ends_of g l now ≡ Ok (Some v)
+      → Spaced l.item from (given ++ (v, n) ∷ []) n
+  last_spaced from n [] (Ok m) v h e = (
+    subst (λ k. HasSpan l.item from k v) h.1
+        (subst (EndHas from m.scan.used) e (ends_has from m.scan m.reading m.reading.now h.0)),
+    omega arith,
+  )
   last_spaced from n [] (Err x) v h e = absurd cc
   last_spaced from n ((w, at) ∷ given) now v h e = (h.0, last_spaced at n given now v h.1 e)
 

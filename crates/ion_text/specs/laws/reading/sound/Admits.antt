@@ -97,7 +97,8 @@ pub at_end_fine : (p : Place) (s : Known) (x : Lexeme) → at_end p s ≡ Ok (So
 at_end_fine p s x h = token_fine s.mode s (end_of p s.mode) x (end_fine p s.mode) h
 
 -- where nothing is open, no token is
-pub fresh_empty : (start : ℕ) (c : List Slot) (fs : List Frame) (ss : Symbols) (now : Now) (ts : List Placed) → is_fresh (at start c fs ss now) ≡ true → NowStands c fs ss ts now → ts ≡ []
+pub fresh_empty : (start : ℕ) (c : List Slot) (fs : List Frame) (ss : Symbols) (now : Now) (ts : List Placed) → is_fresh (at start c fs ss now) ≡ true
+    → NowStands c fs ss ts now → ts ≡ []
 fresh_empty start c [] [] nows.Ready ts h d = d.whole ∙ (ap (λ x. x ++ d.notes) d.outer ∙ none_noted c places.Top d.notes [] d.noted refl)
 fresh_empty start c [] [] (nows.Pending k end) ts h d = absurd cc
 fresh_empty start c [] [] (nows.Long w end) ts h d = absurd cc
@@ -113,11 +114,13 @@ abbrev answered : Option Value → Result (Option Value) Refusal
 answered last = Ok last
 
 module _ (g : Catalog) (l : Limits) where
-  pub no_item : (S : Scans) (u : List ℕ) (vs : List Value) (s : Known) (r : Reading) (ahead : List ℕ) (A : Type 0) → (b : Behind g l S u vs s r ahead A) → is_fresh r ≡ true → b.item ≡ []
+  pub no_item : (S : Scans) (u : List ℕ) (vs : List Value) (s : Known) (r : Reading) (ahead : List ℕ) (A : Type 0) → (b : Behind g l S u vs s r ahead A)
+      → is_fresh r ≡ true → b.item ≡ []
   no_item S u vs s r ahead A b h = fresh_empty r.start r.context r.frames r.notes r.now b.item h b.stands
 
   -- where nothing is open at the end, the octets are a document
-  pub whole_document : (u : List ℕ) (vs : List Value) (s : Known) (r : Reading) (A : Type 0) → Behind g l Ended u vs s r [] A → is_fresh r ≡ true → Document g l u vs
+  pub whole_document : (u : List ℕ) (vs : List Value) (s : Known) (r : Reading) (A : Type 0) → Behind g l Ended u vs s r [] A → is_fresh r ≡ true
+      → Document g l u vs
   whole_document u vs s r A b h =
       let e = no_item Ended u vs s r [] A b h in
       record {
@@ -143,7 +146,8 @@ module _ (g : Catalog) (l : Limits) where
     some_accepted v None h d = absurd (let n : answered (Some v) ≡ Ok None = h in cc)
     some_accepted v (Some w) h d = subst (λ x. Document g l u (vs ++ x ∷ [])) (let n : v ≡ w = cc in n) d
 
-    fresh_accepted : (used : ℕ) (r : Reading) (last : Option Value) (A : Type 0) → Behind g l Ended u vs s r [] A → (b : Bool) → is_fresh r ≡ b → (if b then Ok None else cut_short used) ≡ Ok last → Accepted last
+    fresh_accepted : (used : ℕ) (r : Reading) (last : Option Value) (A : Type 0) → Behind g l Ended u vs s r [] A → (b : Bool) → is_fresh r ≡ b
+        → (if b then Ok None else cut_short used) ≡ Ok last → Accepted last
     fresh_accepted used r last A b true e h = none_accepted last h (whole_document u vs s r A b e)
     fresh_accepted used r last A b false e h = absurd cc
 
@@ -153,7 +157,8 @@ module _ (g : Catalog) (l : Limits) where
     settled_accepted used (refuses e) last b h = absurd cc
     settled_accepted used (late e r) last b h = absurd (late_never used e last h)
 
-    turned_accepted : (used : ℕ) (t : Turn) (last : Option Value) → Reads g l Ended u vs s [] (λ n. Unit {0}) t → end_turned g l used t ≡ Ok last → Accepted last
+    turned_accepted : (used : ℕ) (t : Turn) (last : Option Value) → Reads g l Ended u vs s [] (λ n. Unit {0}) t → end_turned g l used t ≡ Ok last
+        → Accepted last
     turned_accepted used (goes r) last b h = settled_accepted used (settle g l r) last (settled_end g l Ended u vs s [] (Unit {0}) r b) h
     turned_accepted used (gives v r) last b h = some_accepted v last h (whole_document u (vs ++ v ∷ []) s r (Unit {0}) b.0 b.1)
     turned_accepted used (refuses e) last b h = absurd cc
@@ -167,7 +172,9 @@ module _ (g : Catalog) (l : Limits) where
           record {
             front = b.front;
             item = b.item;
-            scanned = subst (λ x. Lexes false 0 x (b.front ++ b.item)) (sym b.scanned.cut) (ends_in_blank b.scanned.behind s b.scanned.front (b.front ++ b.item) b.scanned.left b.scanned.since k.0 (place r) b.scanned.told b.scanned.pass k.1 b.scanned.ran e);
+            scanned = subst (λ x. Lexes false 0 x (b.front ++ b.item)) (sym b.scanned.cut)
+                (ends_in_blank b.scanned.behind s b.scanned.front (b.front ++ b.item) b.scanned.left b.scanned.since k.0 (place r) b.scanned.told b.scanned.pass
+                k.1 b.scanned.ran e);
             pieces = b.pieces;
             stands = b.stands;
             begins = b.begins;
@@ -179,8 +186,10 @@ module _ (g : Catalog) (l : Limits) where
             fine = b.fine;
           }
 
-      waiting_accepted : (used : ℕ) (x : Result (Option Lexeme) Reason) (t : Turn) (last : Option Value) → at_end (place r) s ≡ x → settle g l r ≡ t → end_waiting g l used x t ≡ Ok last → Accepted last
-      waiting_accepted used (Ok None) t last e f h = settled_accepted used t last (subst (Reads g l Ended u vs s [] (λ n. Unit {0})) f (settled_end g l Ended u vs s [] (NoLongText s.mode) r (ended_behind e))) h
+      waiting_accepted : (used : ℕ) (x : Result (Option Lexeme) Reason) (t : Turn) (last : Option Value) → at_end (place r) s ≡ x → settle g l r ≡ t
+          → end_waiting g l used x t ≡ Ok last → Accepted last
+      waiting_accepted used (Ok None) t last e f h = settled_accepted used t last
+          (subst (Reads g l Ended u vs s [] (λ n. Unit {0})) f (settled_end g l Ended u vs s [] (NoLongText s.mode) r (ended_behind e))) h
       waiting_accepted used (Ok (Some x)) (goes n) last e f h = absurd cc
       waiting_accepted used (Ok (Some x)) (gives v n) last e f h = absurd cc
       waiting_accepted used (Ok (Some x)) (refuses y) last e f h = absurd cc
@@ -190,18 +199,22 @@ module _ (g : Catalog) (l : Limits) where
       waiting_accepted used (Err x) (refuses y) last e f h = absurd cc
       waiting_accepted used (Err x) (late y n) last e f h = absurd (late_never used y last h)
 
-      token_accepted : (used : ℕ) (x : Lexeme) (c : Result Content Reason) (last : Option Value) → at_end (place r) s ≡ Ok (Some x) → said x.kind x.octets ≡ c → end_said g l used r x c ≡ Ok last → Accepted last
+      token_accepted : (used : ℕ) (x : Lexeme) (c : Result Content Reason) (last : Option Value) → at_end (place r) s ≡ Ok (Some x) → said x.kind x.octets ≡ c
+          → end_said g l used r x c ≡ Ok last → Accepted last
       token_accepted used x (Err y) last e f h = absurd cc
       token_accepted used x (Ok c) last e f h =
           let k = all_since (place r) s u (b.front ++ b.item) b.scanned in
           let fine = at_end_fine (place r) s x e in
           turned_accepted used (turn g l r (token_of x c)) last
-          (token_read g l Scanned u vs s r [] (NoLongText s.mode) b x (λ a. (fine.0, λ t. left_none x.kind x.start x.end (fine.1 a.1))) Ended u s [] (λ n. Unit {0}) c f
+          (token_read g l Scanned u vs s r [] (NoLongText s.mode) b x (λ a. (fine.0, λ t. left_none x.kind x.start x.end (fine.1 a.1))) Ended u s []
+          (λ n. Unit {0}) c f
           (λ q. subst (λ y. Lexes false 0 y ((b.front ++ b.item) ++ placed (place r) x ∷ [])) (sym b.scanned.cut)
-          (ends_in_token b.scanned.behind s b.scanned.front (b.front ++ b.item) b.scanned.left b.scanned.since k.0 (place r) x b.scanned.told b.scanned.pass k.1 b.scanned.ran e
+          (ends_in_token b.scanned.behind s b.scanned.front (b.front ++ b.item) b.scanned.left b.scanned.since k.0 (place r) x b.scanned.told b.scanned.pass k.1
+          b.scanned.ran e
           (said_passes x.kind x.octets c f))) b.sane b.fine) h
 
-      ready_accepted : (used : ℕ) (x : Result (Option Lexeme) Reason) (last : Option Value) → at_end (place r) s ≡ x → end_ready g l used r x ≡ Ok last → Accepted last
+      ready_accepted : (used : ℕ) (x : Result (Option Lexeme) Reason) (last : Option Value) → at_end (place r) s ≡ x → end_ready g l used r x ≡ Ok last
+          → Accepted last
       ready_accepted used (Ok None) last e h = fresh_accepted used r last (NoLongText s.mode) (ended_behind e) (is_fresh r) refl h
       ready_accepted used (Ok (Some x)) last e h = token_accepted used x (said x.kind x.octets) last e refl h
       ready_accepted used (Err y) last e h = absurd cc
@@ -216,10 +229,12 @@ module _ (g : Catalog) (l : Limits) where
       now_accepted used (nows.Keyed k) last h = ready_accepted used (at_end (place r) s) last refl h
 
   -- What stands for octets that the end accepts shows that they are a document.
-  pub stood_accepted : (u : List ℕ) (vs : List Value) (m : State) (last : Option Value) → Stood g l u vs m → ends g l m ≡ Ok last → Document g l u (vs ++ option_to_list last)
+  pub stood_accepted : (u : List ℕ) (vs : List Value) (m : State) (last : Option Value) → Stood g l u vs m → ends g l m ≡ Ok last
+      → Document g l u (vs ++ option_to_list last)
   stood_accepted u vs m last b h = now_accepted u vs m.scan m.reading b m.scan.used m.reading.now last h
 
-  run_accepted : (u : List ℕ) (given : List (Value × ℕ)) (now : Result State Refusal) (last : Option Value) → StoodBehind g l u [] (record { given = given; now = now }) → ends_of g l now ≡ Ok last → Document g l u (plain given ++ option_to_list last)
+  run_accepted : (u : List ℕ) (given : List (Value × ℕ)) (now : Result State Refusal) (last : Option Value)
+      → StoodBehind g l u [] (record { given = given; now = now }) → ends_of g l now ≡ Ok last → Document g l u (plain given ++ option_to_list last)
   run_accepted u given (Ok m) last b h = stood_accepted u (plain given) m last b h
   run_accepted u given (Err e) last b h = absurd cc
 

@@ -97,22 +97,27 @@ within_deep n item start end t h = go (nat_le end (start + item))
     go true = h
     go false = tt
 
-top_deep : (n item start end : ℕ) (c : List Slot) (v : Value) (d : Result (List Slot) Reason) (b : Bool) → depth v ≤ n → GoesDeep n (if b then turned item start end d else within item start end (gives v (fresh c)))
+top_deep : (n item start end : ℕ) (c : List Slot) (v : Value) (d : Result (List Slot) Reason) (b : Bool) → depth v ≤ n
+    → GoesDeep n (if b then turned item start end d else within item start end (gives v (fresh c)))
 top_deep n item start end c v (Ok d) true h = within_deep n item start end (goes (fresh d)) tt
 top_deep n item start end c v (Err e) true h = tt
 top_deep n item start end c v d false h = within_deep n item start end (gives v (fresh c)) h
 
-ended_deep : (n : ℕ) (setting : Setting) (spot : Spot) (fs : List Frame) (v : Value) → Deep n fs → depth v + length fs ≤ n → GoesDeep n (ended setting spot fs v)
-ended_deep n setting spot [] v d h = top_deep n setting.limits.item spot.start spot.end spot.context v (next spot.context v setting.catalog) (is_table v) (omega arith)
+ended_deep : (n : ℕ) (setting : Setting) (spot : Spot) (fs : List Frame) (v : Value) → Deep n fs → depth v + length fs ≤ n
+    → GoesDeep n (ended setting spot fs v)
+ended_deep n setting spot [] v d h = top_deep n setting.limits.item spot.start spot.end spot.context v (next spot.context v setting.catalog) (is_table v)
+    (omega arith)
 ended_deep n setting spot (frames.List ss vs ∷ fs) v d h = let k = d.0 in let m = deepest-more vs v in (omega arith, d.1)
 ended_deep n setting spot (frames.Sexp ss vs ∷ fs) v d h = let k = d.0 in let m = deepest-more vs v in (omega arith, d.1)
 ended_deep n setting spot (frames.Named ss ms s ∷ fs) v d h = let k = d.0 in let m = field_deepest-more ms (field_of s v) in (omega arith, d.1)
 ended_deep n setting spot (frames.Fields ss ms ∷ fs) v d h = tt
 
-flat_deep : (n : ℕ) (setting : Setting) (spot : Spot) (fs : List Frame) (ss : Symbols) (q : Payload) → Deep n fs → Flat ss q → GoesDeep n (ended setting spot fs (annotated ss q))
+flat_deep : (n : ℕ) (setting : Setting) (spot : Spot) (fs : List Frame) (ss : Symbols) (q : Payload) → Deep n fs → Flat ss q
+    → GoesDeep n (ended setting spot fs (annotated ss q))
 flat_deep n setting spot fs ss q d h = let k = length_deep n fs d in ended_deep n setting spot fs (annotated ss q) d (omega arith)
 
-paid_deep : (n : ℕ) (setting : Setting) (spot : Spot) (fs : List Frame) (ss : Symbols) (h : Held) (r : Result Payload Reason) → held_payload h ≡ r → Deep n fs → GoesDeep n (paid setting spot fs ss r)
+paid_deep : (n : ℕ) (setting : Setting) (spot : Spot) (fs : List Frame) (ss : Symbols) (h : Held) (r : Result Payload Reason) → held_payload h ≡ r → Deep n fs
+    → GoesDeep n (paid setting spot fs ss r)
 paid_deep n setting spot fs ss h (Ok q) e d = flat_deep n setting spot fs ss q d (flat_held ss h q e)
 paid_deep n setting spot fs ss h (Err x) e d = tt
 
@@ -126,23 +131,27 @@ released_deep n setting spot [] [] helds.Nan d = tt
 released_deep n setting spot [] (s ∷ ss) h d = paid_deep n setting spot [] (s ∷ ss) h _ refl d
 released_deep n setting spot (f ∷ fs) ss h d = paid_deep n setting spot (f ∷ fs) ss h _ refl d
 
-resolved_deep : (n : ℕ) (r : Result (Option (List ℕ)) Reason) (f : Option (List ℕ) → Turn) → ((s : Option (List ℕ)) → GoesDeep n (f s)) → GoesDeep n (resolved r f)
+resolved_deep : (n : ℕ) (r : Result (Option (List ℕ)) Reason) (f : Option (List ℕ) → Turn) → ((s : Option (List ℕ)) → GoesDeep n (f s))
+    → GoesDeep n (resolved r f)
 resolved_deep n (Ok s) f h = h s
 resolved_deep n (Err e) f h = tt
 
 lt_of : (a b : ℕ) → nat_lt a b ≡ true → suc a ≤ b
 lt_of a b h = grind (arith, nat_tests)
 
-list_opens : (n start : ℕ) (c : List Slot) (fs : List Frame) (ss : Symbols) (b : Bool) → nat_lt (length fs) n ≡ b → Deep n fs → GoesDeep n (if b then goes (at start c (frames.List ss [] ∷ fs) [] nows.Ready) else refuses reasons.Depth)
+list_opens : (n start : ℕ) (c : List Slot) (fs : List Frame) (ss : Symbols) (b : Bool) → nat_lt (length fs) n ≡ b → Deep n fs
+    → GoesDeep n (if b then goes (at start c (frames.List ss [] ∷ fs) [] nows.Ready) else refuses reasons.Depth)
 list_opens n start c fs ss true e d = let k = lt_of (length fs) n e in (omega arith, d)
 list_opens n start c fs ss false e d = tt
 
-sexp_opens : (n start : ℕ) (c : List Slot) (fs : List Frame) (ss : Symbols) (b : Bool) → nat_lt (length fs) n ≡ b → Deep n fs → GoesDeep n (if b then goes (at start c (frames.Sexp ss [] ∷ fs) [] nows.Ready) else refuses reasons.Depth)
+sexp_opens : (n start : ℕ) (c : List Slot) (fs : List Frame) (ss : Symbols) (b : Bool) → nat_lt (length fs) n ≡ b → Deep n fs
+    → GoesDeep n (if b then goes (at start c (frames.Sexp ss [] ∷ fs) [] nows.Ready) else refuses reasons.Depth)
 sexp_opens n start c fs ss true e d = let k = lt_of (length fs) n e in (omega arith, d)
 sexp_opens n start c fs ss false e d = tt
 
 struct_opens : (n start : ℕ) (c : List Slot) (fs : List Frame) (ss : Symbols) (b : Bool) → nat_lt (length fs) n ≡ b → Deep n fs
-    → GoesDeep n (if b then goes (at start c (frames.Fields ss [] ∷ fs) [] nows.Name) else late reasons.Depth (at start c (frames.Fields ss [] ∷ fs) [] nows.Name))
+    → GoesDeep n (if b then goes (at start c (frames.Fields ss [] ∷ fs) [] nows.Name) else late reasons.Depth
+    (at start c (frames.Fields ss [] ∷ fs) [] nows.Name))
 struct_opens n start c fs ss true e d = let k = lt_of (length fs) n e in (omega arith, d)
 struct_opens n start c fs ss false e d = tt
 
@@ -171,7 +180,8 @@ bare_deep : (n : ℕ) (ss : Symbols) (t : Turn) → GoesDeep n t → GoesDeep n 
 bare_deep n [] t h = h
 bare_deep n (s ∷ ss) t h = tt
 
-ready_deep : (setting : Setting) (spot : Spot) (fs : List Frame) (ss : Symbols) (said : Content) → Deep setting.limits.depth fs → GoesDeep setting.limits.depth (on_ready setting spot fs ss said)
+ready_deep : (setting : Setting) (spot : Spot) (fs : List Frame) (ss : Symbols) (said : Content) → Deep setting.limits.depth fs
+    → GoesDeep setting.limits.depth (on_ready setting spot fs ss said)
 ready_deep setting spot fs ss (Word w) d = d
 ready_deep setting spot fs ss (Id id) d = resolved_deep setting.limits.depth (resolve spot.context id) _ (λ s. d)
 ready_deep setting spot fs ss (Quoted w) d = d
@@ -182,9 +192,12 @@ ready_deep setting spot fs ss (Number' m) d = flat_deep setting.limits.depth set
 ready_deep setting spot fs ss (Operator w) d = flat_deep setting.limits.depth setting spot fs ss _ d (flat_symbol ss (Some w))
 ready_deep setting spot fs ss (Clob w) d = flat_deep setting.limits.depth setting spot fs ss _ d (flat_clob ss w)
 ready_deep setting spot fs ss (Blob w) d = flat_deep setting.limits.depth setting spot fs ss _ d (flat_blob ss w)
-ready_deep setting spot fs ss (Mark' marks.ListOpen) d = list_opens setting.limits.depth spot.start spot.context fs ss (nat_lt (length fs) setting.limits.depth) refl d
-ready_deep setting spot fs ss (Mark' marks.SexpOpen) d = sexp_opens setting.limits.depth spot.start spot.context fs ss (nat_lt (length fs) setting.limits.depth) refl d
-ready_deep setting spot fs ss (Mark' marks.FieldsOpen) d = struct_opens setting.limits.depth spot.start spot.context fs ss (nat_lt (length fs) setting.limits.depth) refl d
+ready_deep setting spot fs ss (Mark' marks.ListOpen) d =
+    list_opens setting.limits.depth spot.start spot.context fs ss (nat_lt (length fs) setting.limits.depth) refl d
+ready_deep setting spot fs ss (Mark' marks.SexpOpen) d =
+    sexp_opens setting.limits.depth spot.start spot.context fs ss (nat_lt (length fs) setting.limits.depth) refl d
+ready_deep setting spot fs ss (Mark' marks.FieldsOpen) d =
+    struct_opens setting.limits.depth spot.start spot.context fs ss (nat_lt (length fs) setting.limits.depth) refl d
 ready_deep setting spot fs ss (Mark' marks.ListClose) d = bare_deep setting.limits.depth ss _ (list_closes setting.limits.depth setting spot fs d)
 ready_deep setting spot fs ss (Mark' marks.SexpClose) d = bare_deep setting.limits.depth ss _ (sexp_closes setting.limits.depth setting spot fs d)
 ready_deep setting spot fs ss (Mark' marks.FieldsClose) d = tt
@@ -192,11 +205,13 @@ ready_deep setting spot fs ss (Mark' marks.Comma) d = tt
 ready_deep setting spot fs ss (Mark' marks.Colon) d = tt
 ready_deep setting spot fs ss (Mark' marks.Colons) d = tt
 
-noted_deep : (n start : ℕ) (c : List Slot) (fs : List Frame) (ss : Symbols) (r : Result (Option (List ℕ)) Reason) → Deep n fs → GoesDeep n (noted start c fs ss r)
+noted_deep : (n start : ℕ) (c : List Slot) (fs : List Frame) (ss : Symbols) (r : Result (Option (List ℕ)) Reason) → Deep n fs
+    → GoesDeep n (noted start c fs ss r)
 noted_deep n start c fs ss (Ok s) d = d
 noted_deep n start c fs ss (Err e) d = tt
 
-pending_deep : (n start : ℕ) (c : List Slot) (fs : List Frame) (ss : Symbols) (h : Held) (said : Content) → Deep n fs → GoesDeep n (on_pending start c fs ss h said)
+pending_deep : (n start : ℕ) (c : List Slot) (fs : List Frame) (ss : Symbols) (h : Held) (said : Content) → Deep n fs
+    → GoesDeep n (on_pending start c fs ss h said)
 pending_deep n start c fs ss h (Mark' marks.Colons) d = noted_deep n start c fs ss (held_symbol h) d
 pending_deep n start c fs ss h _ d = tt
 
@@ -220,7 +235,8 @@ after_deep n setting spot fs _ d = tt
 name_deep : (n : ℕ) (setting : Setting) (spot : Spot) (fs : List Frame) (said : Content) → Deep n fs → GoesDeep n (on_name setting spot fs said)
 name_deep n setting spot fs (Word w) d = go (is_keyword w)
   where
-    go : (b : Bool) → GoesDeep n (if b then late reasons.KeywordAsName (keyed spot.start spot.context fs (Some w)) else goes (keyed spot.start spot.context fs (Some w)))
+    go : (b : Bool) → GoesDeep n (if b then late reasons.KeywordAsName (keyed spot.start spot.context fs (Some w)) else goes
+        (keyed spot.start spot.context fs (Some w)))
     go true = tt
     go false = d
 name_deep n setting spot fs (TypedNull k) d = tt
@@ -246,7 +262,8 @@ keyed_deep : (n start : ℕ) (c : List Slot) (fs : List Frame) (s : Option (List
 keyed_deep n start c fs s (Mark' marks.Colon) d = named_deep n start c fs s d
 keyed_deep n start c fs s _ d = tt
 
-now_deep : (g : Catalog) (l : Limits) (begin end start : ℕ) (c : List Slot) (fs : List Frame) (ss : Symbols) (said : Content) (now : Now) → Deep l.depth fs → GoesDeep l.depth (turn_now (under g l) (at start c fs ss now) (token_at begin end said) now)
+now_deep : (g : Catalog) (l : Limits) (begin end start : ℕ) (c : List Slot) (fs : List Frame) (ss : Symbols) (said : Content) (now : Now) → Deep l.depth fs
+    → GoesDeep l.depth (turn_now (under g l) (at start c fs ss now) (token_at begin end said) now)
 now_deep g l begin end start c fs ss said nows.Ready d = ready_deep (under g l) (spot_at end (begun_at start begin fs ss) c) fs ss said d
 now_deep g l begin end start c fs ss said (nows.Pending h e) d = pending_deep l.depth start c fs ss h said d
 now_deep g l begin end start c fs ss said (nows.Long w e) d = long_deep l.depth (spot_at end start c) fs ss w said d
@@ -259,7 +276,8 @@ now_deep g l begin end start c fs ss said (nows.Keyed s) d = keyed_deep l.depth 
 pub turn_deep : (g : Catalog) (l : Limits) (r : Reading) (t : Token) → Deep l.depth r.frames → GoesDeep l.depth (turn g l r t)
 turn_deep g l r t d = now_deep g l t.start t.end r.start r.context r.frames r.notes t.said r.now d
 
-settled_deep : (g : Catalog) (l : Limits) (start : ℕ) (c : List Slot) (fs : List Frame) (ss : Symbols) (now : Now) → Deep l.depth fs → GoesDeep l.depth (settle g l (at start c fs ss now))
+settled_deep : (g : Catalog) (l : Limits) (start : ℕ) (c : List Slot) (fs : List Frame) (ss : Symbols) (now : Now) → Deep l.depth fs
+    → GoesDeep l.depth (settle g l (at start c fs ss now))
 settled_deep g l start c fs ss (nows.Pending h e) d = released_deep l.depth (under g l) (spot_at e start c) fs ss h d
 settled_deep g l start c fs ss (nows.Long w e) d = flat_deep l.depth (under g l) (spot_at e start c) fs ss _ d (flat_text ss w)
 settled_deep g l start c fs ss (nows.LongName w) d = d

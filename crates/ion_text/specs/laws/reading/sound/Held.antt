@@ -162,7 +162,8 @@ none_open c fs ss (nows.LongName w) d = absurd (name_some c fs d.before d.outer 
 none_open c fs ss (nows.Keyed s) d = absurd (name_some c fs d.before d.outer d.struct (none_front d.before d.name d.whole).0)
 
 -- the item began at its first token
-start_kept : (c : List Slot) (fs : List Frame) (ss : Symbols) (now : Now) (t : Placed) (ts : List Placed) (start begin : ℕ) → NowStands c fs ss (t ∷ ts) now → start_now now start begin fs ss ≡ start
+start_kept : (c : List Slot) (fs : List Frame) (ss : Symbols) (now : Now) (t : Placed) (ts : List Placed) (start begin : ℕ) → NowStands c fs ss (t ∷ ts) now
+    → start_now now start begin fs ss ≡ start
 start_kept c [] [] nows.Ready t ts start begin d =
     let none : d.notes ≡ [] = none_noted c places.Top d.notes [] d.noted refl in
     absurd (let e : t ∷ ts ≡ [] = d.whole ∙ (ap (λ x. x ++ d.notes) d.outer ∙ none) in cc)
@@ -178,17 +179,20 @@ start_kept c fs ss (nows.Keyed s) t ts start begin d = refl
 
 -- an s-expression whose body ends long ends the item so
 long_tokens : (c : List Slot) (fs : List Frame) (ts : List Placed) → (o : Opened c fs ts true) → long_behind c fs ts o ≡ true → ends_long ts ≡ true
-long_tokens c (frames.Sexp ss vs ∷ fs) ts o h = ap ends_long o.whole ∙ ends_behind o.front (o.notes ++ o.open' ∷ o.body) (ends_behind o.notes (o.open' ∷ o.body) (ends_behind (o.open' ∷ []) o.body h))
+long_tokens c (frames.Sexp ss vs ∷ fs) ts o h = ap ends_long o.whole
+    ∙ ends_behind o.front (o.notes ++ o.open' ∷ o.body) (ends_behind o.notes (o.open' ∷ o.body) (ends_behind (o.open' ∷ []) o.body h))
 long_tokens c [] ts o h = absurd cc
 long_tokens c (frames.List ss vs ∷ fs) ts o h = absurd cc
 long_tokens c (frames.Fields ss ms ∷ fs) ts o h = absurd cc
 long_tokens c (frames.Named ss ms s ∷ fs) ts o h = absurd cc
 
 -- a token behind annotations, or one that is no segment
-notes_apart : (c : List Slot) (p : Place) (notes : List Placed) (ss : Symbols) (t : Placed) → Annotations c p notes ss → (notes ≡ [] → is_long t ≡ false) → begins_long (notes ++ t ∷ []) ≡ false
+notes_apart : (c : List Slot) (p : Place) (notes : List Placed) (ss : Symbols) (t : Placed) → Annotations c p notes ss → (notes ≡ [] → is_long t ≡ false)
+    → begins_long (notes ++ t ∷ []) ≡ false
 notes_apart c p _ _ t no_annotation h = h refl
 notes_apart c p _ _ t (one_annotation ts ss a colons said s d i j k) h =
-    ap begins_long (append_assoc ts (a ∷ colons ∷ []) (t ∷ [])) ∙ notes_not_long c p ts (colons ∷ t ∷ []) ss a d (not_long p a said i (symbol_no_long c said s j))
+    ap begins_long (append_assoc ts (a ∷ colons ∷ []) (t ∷ []))
+    ∙ notes_not_long c p ts (colons ∷ t ∷ []) ss a d (not_long p a said i (symbol_no_long c said s j))
 
 -- a segment leads to a long string
 abbrev LongTurn : Turn → Type 0
@@ -197,7 +201,8 @@ LongTurn (gives v r) = ⊥
 LongTurn (refuses e) = Unit {0}
 LongTurn (late e r) = Unit {0}
 
-now_long : (g : Catalog) (l : Limits) (begin end start : ℕ) (c : List Slot) (fs : List Frame) (ss : Symbols) (w : List ℕ) (now : Now) → LongTurn (turn_now (under g l) (at start c fs ss now) (token_at begin end (Long w)) now)
+now_long : (g : Catalog) (l : Limits) (begin end start : ℕ) (c : List Slot) (fs : List Frame) (ss : Symbols) (w : List ℕ) (now : Now)
+    → LongTurn (turn_now (under g l) (at start c fs ss now) (token_at begin end (Long w)) now)
 now_long g l begin end start c fs ss w nows.Ready = tt
 now_long g l begin end start c fs ss w (nows.Pending h e) = tt
 now_long g l begin end start c fs ss w (nows.Long v e) = tt
@@ -251,7 +256,8 @@ module _ (g : Catalog) (l : Limits) where
   fresh_stands c = record { front = []; notes = []; whole = refl; outer = refl; receives = tt; noted = no_annotation }
 
   -- behind a whole item nothing is open
-  pub nothing_open : (S : Scans) (u : List ℕ) (vs : List Value) (s : Known) (c : List Slot) (front : List Placed) (ahead : List ℕ) (A : Type 0) → S places.Top s u front ahead → Pieces g l front vs c → (ends_long front ≡ true → ⊥ ⊎ A) → is_sane s.mode ≡ true → Fine s
+  pub nothing_open : (S : Scans) (u : List ℕ) (vs : List Value) (s : Known) (c : List Slot) (front : List Placed) (ahead : List ℕ) (A : Type 0)
+      → S places.Top s u front ahead → Pieces g l front vs c → (ends_long front ≡ true → ⊥ ⊎ A) → is_sane s.mode ≡ true → Fine s
       → Behind S u vs s (fresh c) ahead A
   nothing_open S u vs s c front ahead A scanned pieces apart sane fine = record {
     front = front;
@@ -276,7 +282,8 @@ module _ (g : Catalog) (l : Limits) where
   long_now r c e h = subst (λ (x : Reading). IsLongNow x.now) e h
 
   -- What a turn leads to stands for the octets, where the tokens of the open item led to it.
-  pub sounds_read : (S : Scans) (u : List ℕ) (vs : List Value) (s : Known) (ahead : List ℕ) (A : Reading → Type 0) (c : List Slot) (front item : List Placed) (start end : ℕ) (t : Turn)
+  pub sounds_read : (S : Scans) (u : List ℕ) (vs : List Value) (s : Known) (ahead : List ℕ) (A : Reading → Type 0) (c : List Slot) (front item : List Placed)
+      (start end : ℕ) (t : Turn)
       → Pieces g l front vs c → Sounds g l c start end item t → GoesDeep l.depth t → IsFirst item start → end ≡ end_of 0 item
       → Leading g l (λ r. S (place r) s u (front ++ item) ahead) t → Leading g l (λ r. ends_long (front ++ item) ≡ true → IsLongNow r.now ⊎ A r) t
       → (ends_long front && begins_as_long item) ≡ false → is_sane s.mode ≡ true → Fine s → Reads S u vs s ahead A t
@@ -302,7 +309,8 @@ module _ (g : Catalog) (l : Limits) where
   sounds_read S u vs s ahead A c front item start end (goes r) p (inr (inr (t, one, m, fits, e))) deep first last scanned apart long sane fine =
       subst (λ x. Behind S u vs s x ahead (A x)) (sym e)
       (nothing_open S u vs s system_slots (front ++ item) ahead (A (fresh system_slots)) (subst (λ x. S (place x) s u (front ++ item) ahead) e scanned)
-      (subst (λ x. Pieces g l (front ++ x) vs system_slots) (sym one) (marked front vs c t p m (subst (λ x. span x ≤ l.item) one (span_fits item start end first last fits))))
+      (subst (λ x. Pieces g l (front ++ x) vs system_slots) (sym one)
+      (marked front vs c t p m (subst (λ x. span x ≤ l.item) one (span_fits item start end first last fits))))
       (subst (λ (x : Reading). ends_long (front ++ item) ≡ true → IsLongNow x.now ⊎ A x) e apart) sane fine)
   sounds_read S u vs s ahead A c front item start end (gives v r) p (m, table, word, levels, fits, e) deep first last scanned apart long sane fine = (
     subst (λ x. Behind S u (vs ++ v ∷ []) s x ahead (A x)) (sym e)
@@ -330,7 +338,8 @@ module _ (g : Catalog) (l : Limits) where
   abbrev pub NotLong : Bool → Lexeme → Type 0
   NotLong top x = (is_segment x.kind ≡ false) × (top ≡ true → is_two_quotes x.kind x.start x.end ≡ false)
 
-  module _ (S : Scans) (u : List ℕ) (vs : List Value) (s : Known) (r : Reading) (ahead : List ℕ) (A : Type 0) (b : Behind S u vs s r ahead A) (x : Lexeme) (alone : A → NotLong (is_top r.frames) x) where
+  module _ (S : Scans) (u : List ℕ) (vs : List Value) (s : Known) (r : Reading) (ahead : List ℕ) (A : Type 0) (b : Behind S u vs s r ahead A) (x : Lexeme)
+      (alone : A → NotLong (is_top r.frames) x) where
     is_top_none : (fs : List Frame) → fs ≡ [] → is_top fs ≡ true
     is_top_none fs e = ap is_top e
 
@@ -342,7 +351,8 @@ module _ (g : Catalog) (l : Limits) where
         go (inr h) = inr (alone h)
 
     -- a segment doesn't stand where a value may come behind one
-    ready_apart : (fs : List Frame) (ss : Symbols) (now : Now) (d : NowStands r.context fs ss b.item now) → (ends_long (b.front ++ b.item) ≡ true → IsLongNow now ⊎ (is_segment x.kind ≡ false)) → (c : Content)
+    ready_apart : (fs : List Frame) (ss : Symbols) (now : Now) (d : NowStands r.context fs ss b.item now)
+        → (ends_long (b.front ++ b.item) ≡ true → IsLongNow now ⊎ (is_segment x.kind ≡ false)) → (c : Content)
         → NoSegmentComes g l r.context fs ss b.item (placed (place_in fs now) x) c now d
     ready_apart fs ss nows.Ready d h c = λ w e. go (long_behind r.context fs d.front d.outer) refl
       where
@@ -354,7 +364,8 @@ module _ (g : Catalog) (l : Limits) where
 
         go : (y : Bool) → long_behind r.context fs d.front d.outer ≡ y → (y && begins_long (d.notes ++ placed (place_in fs nows.Ready) x ∷ [])) ≡ false
         go false e = refl
-        go true e = notes_apart r.context (value_place fs) d.notes ss (placed (place_in fs nows.Ready) x) d.noted (none (long_tokens r.context fs d.front d.outer e))
+        go true e = notes_apart r.context (value_place fs) d.notes ss (placed (place_in fs nows.Ready) x) d.noted
+            (none (long_tokens r.context fs d.front d.outer e))
     ready_apart fs ss (nows.Pending k end) d h c = tt
     ready_apart fs ss (nows.Long w end) d h c = tt
     ready_apart fs ss nows.After d h c = tt
@@ -383,31 +394,40 @@ module _ (g : Catalog) (l : Limits) where
     starts_more : (item : List Placed) → b.item ≡ item → IsFirst (item ++ placed (place r) x ∷ []) (start_now r.now r.start x.start r.frames r.notes)
     starts_more [] e =
         let o = none_open r.context r.frames r.notes r.now (subst (λ y. NowStands r.context r.frames r.notes y r.now) e b.stands) in
-        sym (ap (λ y. start_now y r.start x.start r.frames r.notes) o.2 ∙ (ap (λ y. begun_at r.start x.start y r.notes) o.0 ∙ ap (λ y. begun_at r.start x.start [] y) o.1))
-    starts_more (t ∷ ts) e = subst (λ y. IsFirst y r.start) e b.begins ∙ sym (start_kept r.context r.frames r.notes r.now t ts r.start x.start (subst (λ y. NowStands r.context r.frames r.notes y r.now) e b.stands))
+        sym (ap (λ y. start_now y r.start x.start r.frames r.notes) o.2
+        ∙ (ap (λ y. begun_at r.start x.start y r.notes) o.0 ∙ ap (λ y. begun_at r.start x.start [] y) o.1))
+    starts_more (t ∷ ts) e = subst (λ y. IsFirst y r.start) e b.begins
+        ∙ sym (start_kept r.context r.frames r.notes r.now t ts r.start x.start (subst (λ y. NowStands r.context r.frames r.notes y r.now) e b.stands))
 
     -- A token is read.
-    pub token_read : (S' : Scans) (v : List ℕ) (s' : Known) (ahead' : List ℕ) (A' : Reading → Type 0) (c : Content) → said x.kind x.octets ≡ Ok c → ((q : Place) → S' q s' v ((b.front ++ b.item) ++ placed (place r) x ∷ []) ahead') → is_sane s'.mode ≡ true → Fine s'
+    pub token_read : (S' : Scans) (v : List ℕ) (s' : Known) (ahead' : List ℕ) (A' : Reading → Type 0) (c : Content) → said x.kind x.octets ≡ Ok c
+        → ((q : Place) → S' q s' v ((b.front ++ b.item) ++ placed (place r) x ∷ []) ahead') → is_sane s'.mode ≡ true → Fine s'
         → Reads S' v vs s' ahead' A' (turn g l r (token_of x c))
     token_read S' v s' ahead' A' c e scan sane fine =
         let t = placed (place r) x in
         let body = said_body x.kind x.octets c e in
         let says' : Says (place r) t c = record { place = refl; body = body } in
         let cut : (b.front ++ b.item) ++ t ∷ [] ≡ b.front ++ (b.item ++ t ∷ []) = append_assoc b.front b.item (t ∷ []) in
-        sounds_read S' v vs s' ahead' A' r.context b.front (b.item ++ t ∷ []) (start_now r.now r.start x.start r.frames r.notes) x.end (turn g l r (token_of x c)) b.pieces
-        (turn_sounds g l r.context r.frames r.notes r.now b.item t c r.start b.deep b.stands says' (ready_apart r.frames r.notes r.now b.stands (λ h. segment_part (not_segment h)) c))
+        sounds_read S' v vs s' ahead' A' r.context b.front (b.item ++ t ∷ []) (start_now r.now r.start x.start r.frames r.notes) x.end
+        (turn g l r (token_of x c)) b.pieces
+        (turn_sounds g l r.context r.frames r.notes r.now b.item t c r.start b.deep b.stands says'
+        (ready_apart r.frames r.notes r.now b.stands (λ h. segment_part (not_segment h)) c))
         (turn_deep g l r (token_of x c) b.deep) (starts_more b.item refl) (sym (end_more b.item t 0))
-        (any_turn (λ n. S' (place n) s' v (b.front ++ (b.item ++ t ∷ [])) ahead') (λ n. subst (λ y. S' (place n) s' v y ahead') cut (scan (place n))) (turn g l r (token_of x c)))
+        (any_turn (λ n. S' (place n) s' v (b.front ++ (b.item ++ t ∷ [])) ahead') (λ n. subst (λ y. S' (place n) s' v y ahead') cut (scan (place n)))
+        (turn g l r (token_of x c)))
         (long (is_segment x.kind) refl body)
         (first_more b.item refl) sane fine
       where
-        long : (y : Bool) → is_segment x.kind ≡ y → IsBody x.kind x.octets (Ok c) → Leading g l (λ n. ends_long (b.front ++ (b.item ++ placed (place r) x ∷ [])) ≡ true → IsLongNow n.now ⊎ A' n) (turn g l r (token_of x c))
+        long : (y : Bool) → is_segment x.kind ≡ y → IsBody x.kind x.octets (Ok c)
+            → Leading g l (λ n. ends_long (b.front ++ (b.item ++ placed (place r) x ∷ [])) ≡ true → IsLongNow n.now ⊎ A' n) (turn g l r (token_of x c))
         long true k h =
             from_long A' (ends_long (b.front ++ (b.item ++ placed (place r) x ∷ [])) ≡ true) (turn g l r (token_of x c))
-            (subst (λ y. LongTurn (turn g l r (token_of x y))) (sym (segment_says x.kind x.octets c k h)) (now_long g l x.start x.end r.start r.context r.frames r.notes x.octets r.now))
+            (subst (λ y. LongTurn (turn g l r (token_of x y))) (sym (segment_says x.kind x.octets c k h))
+            (now_long g l x.start x.end r.start r.context r.frames r.notes x.octets r.now))
         long false k h =
             any_turn (λ n. ends_long (b.front ++ (b.item ++ placed (place r) x ∷ [])) ≡ true → IsLongNow n.now ⊎ A' n)
-            (λ n i. absurd (let never : false ≡ true = sym (ap ends_long (sym (append_assoc b.front b.item (placed (place r) x ∷ []))) ∙ (last_long (b.front ++ b.item) (placed (place r) x) ∙ k)) ∙ i in cc))
+            (λ n i. absurd (let never : false ≡ true = sym (ap ends_long (sym (append_assoc b.front b.item (placed (place r) x ∷ [])))
+            ∙ (last_long (b.front ++ b.item) (placed (place r) x) ∙ k)) ∙ i in cc))
             (turn g l r (token_of x c))
 
   pub map_turn : (P Q : Reading → Type 0) → ((r : Reading) → P r → Q r) → (t : Turn) → Leading g l P t → Leading g l Q t
@@ -422,13 +442,15 @@ module _ (g : Catalog) (l : Limits) where
 
   module _ (S : Scans) (u : List ℕ) (vs : List Value) (s : Known) (ahead : List ℕ) (o : ℕ) where
     same_apart : (n : Reading) (p : Place) (top : Bool) (y : Outcome) → place n ≡ p → is_top n.frames ≡ top → feed p s o ≡ y → NoSegment top y → ApartAt o s n
-    same_apart n p top y e f k h = subst (λ q. NoSegment (is_top n.frames) (feed q s o)) (sym e) (subst (λ b. NoSegment b (feed p s o)) (sym f) (subst (NoSegment top) (sym k) h))
+    same_apart n p top y e f k h = subst (λ q. NoSegment (is_top n.frames) (feed q s o)) (sym e)
+        (subst (λ b. NoSegment b (feed p s o)) (sym f) (subst (NoSegment top) (sym k) h))
 
     weaker : (r : Reading) → Behind S u vs s r ahead (ApartAt o s r) → Reads S u vs s ahead (λ n. ApartAt o s n) (goes r)
     weaker r b = b
 
     -- What waited is settled before the octet, with which it doesn't go on.
-    pub settled_read : (start : ℕ) (c : List Slot) (fs : List Frame) (ss : Symbols) (now : Now) → Behind S u vs s (at start c fs ss now) ahead (ApartAt o s (at start c fs ss now)) → waits (at start c fs ss now) (feed (place_in fs now) s o) ≡ false
+    pub settled_read : (start : ℕ) (c : List Slot) (fs : List Frame) (ss : Symbols) (now : Now)
+        → Behind S u vs s (at start c fs ss now) ahead (ApartAt o s (at start c fs ss now)) → waits (at start c fs ss now) (feed (place_in fs now) s o) ≡ false
         → Reads S u vs s ahead (λ n. ApartAt o s n) (settle g l (at start c fs ss now))
     settled_read start c fs ss now b w = go now refl
       where
@@ -439,17 +461,24 @@ module _ (g : Catalog) (l : Limits) where
         some now' e n [] f = tt
         some now' e n (t ∷ ts) f = subst (λ x. IsFirst x start) f b.begins
 
-        by : IsLongNow now ⊎ NoSegment (is_top fs) (feed (place_in fs now) s o) → (IsLongNow now → NoSegment (is_top fs) (feed (place_in fs now) s o)) → NoSegment (is_top fs) (feed (place_in fs now) s o)
+        by : IsLongNow now ⊎ NoSegment (is_top fs) (feed (place_in fs now) s o) → (IsLongNow now → NoSegment (is_top fs) (feed (place_in fs now) s o))
+            → NoSegment (is_top fs) (feed (place_in fs now) s o)
         by (inl h) f = f h
         by (inr h) f = h
 
-        waited : (IsLongNow now → NoSegment (is_top fs) (feed (place_in fs now) s o)) → (d : NowStands c fs ss b.item now) → Reads S u vs s ahead (λ n. ApartAt o s n) (settle g l (at start c fs ss now))
+        waited : (IsLongNow now → NoSegment (is_top fs) (feed (place_in fs now) s o)) → (d : NowStands c fs ss b.item now)
+            → Reads S u vs s ahead (λ n. ApartAt o s n) (settle g l (at start c fs ss now))
         waited f d =
-            sounds_read S u vs s ahead (λ n. ApartAt o s n) c b.front b.item start (end_of_now now (end_of 0 b.item)) (settle g l (at start c fs ss now)) b.pieces
+            sounds_read S u vs s ahead (λ n. ApartAt o s n) c b.front b.item start (end_of_now now (end_of 0 b.item)) (settle g l (at start c fs ss now))
+            b.pieces
             (settle_sounds g l c fs ss now b.item start (end_of 0 b.item) d)
             (settle_deep g l (at start c fs ss now) b.deep) b.begins (last now b.ends)
-            (map_turn (λ n. (place n ≡ place_in fs now) × (is_top n.frames ≡ is_top fs)) (λ n. S (place n) s u (b.front ++ b.item) ahead) (λ n e. subst (λ q. S q s u (b.front ++ b.item) ahead) (sym e.0) b.scanned) (settle g l (at start c fs ss now)) (settle_same g l start c fs ss now))
-            (map_turn (λ n. (place n ≡ place_in fs now) × (is_top n.frames ≡ is_top fs)) (λ n. ends_long (b.front ++ b.item) ≡ true → IsLongNow n.now ⊎ ApartAt o s n) (λ n e k. inr (same_apart n (place_in fs now) (is_top fs) (feed (place_in fs now) s o) e.0 e.1 refl (by (b.apart k) f))) (settle g l (at start c fs ss now)) (settle_same g l start c fs ss now))
+            (map_turn (λ n. (place n ≡ place_in fs now) × (is_top n.frames ≡ is_top fs)) (λ n. S (place n) s u (b.front ++ b.item) ahead)
+            (λ n e. subst (λ q. S q s u (b.front ++ b.item) ahead) (sym e.0) b.scanned) (settle g l (at start c fs ss now))
+            (settle_same g l start c fs ss now))
+            (map_turn (λ n. (place n ≡ place_in fs now) × (is_top n.frames ≡ is_top fs)) (λ n. ends_long (b.front ++ b.item) ≡ true → IsLongNow n.now
+            ⊎ ApartAt o s n) (λ n e k. inr (same_apart n (place_in fs now) (is_top fs) (feed (place_in fs now) s o) e.0 e.1 refl (by (b.apart k) f)))
+            (settle g l (at start c fs ss now)) (settle_same g l start c fs ss now))
             b.first b.sane b.fine
           where
             last : (n : Now) → EndsAt n (end_of 0 b.item) → end_of_now n (end_of 0 b.item) ≡ end_of 0 b.item
@@ -463,12 +492,19 @@ module _ (g : Catalog) (l : Limits) where
 
         go : (n : Now) → now ≡ n → Reads S u vs s ahead (λ n. ApartAt o s n) (settle g l (at start c fs ss now))
         go (nows.Pending h end) e = waited (λ k. absurd (subst IsLongNow e k)) b.stands
-        go (nows.Long v end) e = waited (λ k. long_apart (is_top fs) (feed (place_in fs now) s o) (ap (λ m. waits_now (is_top fs) m (feed (place_in fs now) s o)) (sym e) ∙ w)) b.stands
-        go (nows.LongName v) e = waited (λ k. name_apart (is_top fs) (feed (place_in fs now) s o) (name_inside fs (subst (λ m. NowStands c fs ss b.item m) e b.stands).struct) (ap (λ m. waits_now (is_top fs) m (feed (place_in fs now) s o)) (sym e) ∙ w)) b.stands
-        go nows.Ready e = subst (λ m. Reads S u vs s ahead (λ n. ApartAt o s n) (settle g l (at start c fs ss m))) (sym e) (subst (λ m. Behind S u vs s (at start c fs ss m) ahead (ApartAt o s (at start c fs ss m))) e b)
-        go nows.After e = subst (λ m. Reads S u vs s ahead (λ n. ApartAt o s n) (settle g l (at start c fs ss m))) (sym e) (subst (λ m. Behind S u vs s (at start c fs ss m) ahead (ApartAt o s (at start c fs ss m))) e b)
-        go nows.Name e = subst (λ m. Reads S u vs s ahead (λ n. ApartAt o s n) (settle g l (at start c fs ss m))) (sym e) (subst (λ m. Behind S u vs s (at start c fs ss m) ahead (ApartAt o s (at start c fs ss m))) e b)
-        go (nows.Keyed k) e = subst (λ m. Reads S u vs s ahead (λ n. ApartAt o s n) (settle g l (at start c fs ss m))) (sym e) (subst (λ m. Behind S u vs s (at start c fs ss m) ahead (ApartAt o s (at start c fs ss m))) e b)
+        go (nows.Long v end) e = waited (λ k. long_apart (is_top fs) (feed (place_in fs now) s o)
+            (ap (λ m. waits_now (is_top fs) m (feed (place_in fs now) s o)) (sym e) ∙ w)) b.stands
+        go (nows.LongName v) e = waited (λ k. name_apart (is_top fs) (feed (place_in fs now) s o)
+            (name_inside fs (subst (λ m. NowStands c fs ss b.item m) e b.stands).struct) (ap (λ m. waits_now (is_top fs) m (feed (place_in fs now) s o)) (sym e)
+            ∙ w)) b.stands
+        go nows.Ready e = subst (λ m. Reads S u vs s ahead (λ n. ApartAt o s n) (settle g l (at start c fs ss m))) (sym e)
+            (subst (λ m. Behind S u vs s (at start c fs ss m) ahead (ApartAt o s (at start c fs ss m))) e b)
+        go nows.After e = subst (λ m. Reads S u vs s ahead (λ n. ApartAt o s n) (settle g l (at start c fs ss m))) (sym e)
+            (subst (λ m. Behind S u vs s (at start c fs ss m) ahead (ApartAt o s (at start c fs ss m))) e b)
+        go nows.Name e = subst (λ m. Reads S u vs s ahead (λ n. ApartAt o s n) (settle g l (at start c fs ss m))) (sym e)
+            (subst (λ m. Behind S u vs s (at start c fs ss m) ahead (ApartAt o s (at start c fs ss m))) e b)
+        go (nows.Keyed k) e = subst (λ m. Reads S u vs s ahead (λ n. ApartAt o s n) (settle g l (at start c fs ss m))) (sym e)
+            (subst (λ m. Behind S u vs s (at start c fs ss m) ahead (ApartAt o s (at start c fs ss m))) e b)
 
   -- What waited is settled by the end.
   module _ (S : Scans) (u : List ℕ) (vs : List Value) (s : Known) (ahead : List ℕ) (A : Type 0) where
@@ -496,13 +532,17 @@ module _ (g : Catalog) (l : Limits) where
             sounds_read S u vs s ahead (λ n. Unit {0}) r.context b.front b.item r.start (end_of_now r.now (end_of 0 b.item)) (settle g l r) b.pieces
             (settle_sounds g l r.context r.frames r.notes r.now b.item r.start (end_of 0 b.item) b.stands)
             (settle_deep g l r b.deep) b.begins (ap (λ m. end_of_now m (end_of 0 b.item)) e ∙ f)
-            (map_turn (λ n. (place n ≡ place_in r.frames r.now) × (is_top n.frames ≡ is_top r.frames)) (λ n. S (place n) s u (b.front ++ b.item) ahead) (λ n e. subst (λ q. S q s u (b.front ++ b.item) ahead) (sym e.0) b.scanned) (settle g l r) (settle_same g l r.start r.context r.frames r.notes r.now))
+            (map_turn (λ n. (place n ≡ place_in r.frames r.now) × (is_top n.frames ≡ is_top r.frames)) (λ n. S (place n) s u (b.front ++ b.item) ahead)
+            (λ n e. subst (λ q. S q s u (b.front ++ b.item) ahead) (sym e.0) b.scanned) (settle g l r)
+            (settle_same g l r.start r.context r.frames r.notes r.now))
             (any_turn (λ n. ends_long (b.front ++ b.item) ≡ true → IsLongNow n.now ⊎ Unit {0}) (λ n k. inr tt) (settle g l r))
             b.first b.sane b.fine
 
-        held : (n : Now) → r.now ≡ n → settle g l (at r.start r.context r.frames r.notes n) ≡ goes (at r.start r.context r.frames r.notes n) → Reads S u vs s ahead (λ n. Unit {0}) (settle g l r)
+        held : (n : Now) → r.now ≡ n → settle g l (at r.start r.context r.frames r.notes n) ≡ goes (at r.start r.context r.frames r.notes n)
+            → Reads S u vs s ahead (λ n. Unit {0}) (settle g l r)
         held n e f = subst (λ m. Reads S u vs s ahead (λ n. Unit {0}) (settle g l (at r.start r.context r.frames r.notes m))) (sym e)
-            (subst (λ t. Reads S u vs s ahead (λ n. Unit {0}) t) (sym f) (anywhere (at r.start r.context r.frames r.notes n) (subst (λ m. Behind S u vs s (at r.start r.context r.frames r.notes m) ahead A) e b)))
+            (subst (λ t. Reads S u vs s ahead (λ n. Unit {0}) t) (sym f)
+            (anywhere (at r.start r.context r.frames r.notes n) (subst (λ m. Behind S u vs s (at r.start r.context r.frames r.notes m) ahead A) e b)))
 
         go : (n : Now) → r.now ≡ n → Reads S u vs s ahead (λ n. Unit {0}) (settle g l r)
         go (nows.Pending h end) e = waited (nows.Pending h end) e (subst (λ m. EndsAt m (end_of 0 b.item)) e b.ends)

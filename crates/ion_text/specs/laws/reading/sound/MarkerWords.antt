@@ -19,14 +19,17 @@ use Rattle.std.specs.List.{list_all}
 use Rattle.std.proofs.lemmas.Bool.Decides.{nat_tests}
 
 -- a token that says neither a word nor an id isn't of that kind
-pub other_word : (t : Placed) (said : Content) → ((w : List ℕ) → said ≡ Word w → ⊥) → ((id : ℕ) → said ≡ Id id → ⊥) → IsBody t.lexeme.kind t.lexeme.octets (Ok said) → is_version_word (t ∷ []) ≡ false
+pub other_word : (t : Placed) (said : Content) → ((w : List ℕ) → said ≡ Word w → ⊥) → ((id : ℕ) → said ≡ Id id → ⊥)
+    → IsBody t.lexeme.kind t.lexeme.octets (Ok said) → is_version_word (t ∷ []) ≡ false
 other_word t said n m h = go t.lexeme.kind h
   where
     word : (id : Option ℕ) → IsWordBody t.lexeme.octets id (Ok said) → ⊥
     word None h = n t.lexeme.octets h.0
     word (Some id) h = m id (let e : said ≡ Id id = cc in e)
 
-    go : (k : TokenKind) → IsBody k t.lexeme.octets (Ok said) → is_version_word (record { place = t.place; lexeme = record { start = t.lexeme.start; end = t.lexeme.end; kind = k; octets = t.lexeme.octets } } ∷ []) ≡ false
+    go : (k : TokenKind) → IsBody k t.lexeme.octets (Ok said)
+        → is_version_word (record { place = t.place; lexeme = record { start = t.lexeme.start; end = t.lexeme.end; kind = k; octets = t.lexeme.octets } } ∷ [])
+        ≡ false
     go kinds.Word h = absurd (word (id_of t.lexeme.octets) h)
     go kinds.LongString h = refl
     go kinds.KindName h = refl
@@ -51,7 +54,8 @@ id_no_version (o ∷ x ∷ xs) id h = both_not (36 == o) _ (go (o == 36) (nat_lt
     digit : (x : ℕ) → is_digit x ≡ true → (105 == x) ≡ false
     digit x h = grind (arith, nat_tests)
 
-    go : (a m b d : Bool) → is_digit x ≡ b → (if a && m && (b && d) then Some (min (number_in 0 (x ∷ xs)) (2 ^ 64 - 1)) else None) ≡ Some id → ((105 == x) && behind_front (codes "on_") xs version_parts) ≡ false
+    go : (a m b d : Bool) → is_digit x ≡ b → (if a && m && (b && d) then Some (min (number_in 0 (x ∷ xs)) (2 ^ 64 - 1)) else None) ≡ Some id
+        → ((105 == x) && behind_front (codes "on_") xs version_parts) ≡ false
     go a m true d e h = ap (λ b. b && behind_front (codes "on_") xs version_parts) (digit x e)
     go true true false d e h = absurd (let n : None ≡ Some id = h in cc)
     go true false false d e h = absurd (let n : None ≡ Some id = h in cc)
@@ -65,7 +69,9 @@ id_no_word t id h = go t.lexeme.kind h
     word None e h = absurd (let e : Id id ≡ Word t.lexeme.octets = h.0 in cc)
     word (Some x) e h = id_no_version t.lexeme.octets x e
 
-    go : (k : TokenKind) → IsBody k t.lexeme.octets (Ok (Id id)) → is_version_word (record { place = t.place; lexeme = record { start = t.lexeme.start; end = t.lexeme.end; kind = k; octets = t.lexeme.octets } } ∷ []) ≡ false
+    go : (k : TokenKind) → IsBody k t.lexeme.octets (Ok (Id id))
+        → is_version_word (record { place = t.place; lexeme = record { start = t.lexeme.start; end = t.lexeme.end; kind = k; octets = t.lexeme.octets } } ∷ [])
+        ≡ false
     go kinds.Word h = word (id_of t.lexeme.octets) refl h
     go kinds.LongString h = refl
     go kinds.KindName h = refl
@@ -88,7 +94,8 @@ segments_no_word p _ _ (joined [] v w t d h) = other_word t (Long w) (λ v e. cc
 segments_no_word p _ _ (joined (x ∷ ts) v w t d h) = more_words x ts t
 
 -- behind annotations there are more tokens
-pub noted_no_word : (c : List Slot) (p : Place) (notes us : List Placed) (ss : Symbols) → Annotations c p notes ss → (ss ≡ [] → is_version_word us ≡ false) → is_version_word (notes ++ us) ≡ false
+pub noted_no_word : (c : List Slot) (p : Place) (notes us : List Placed) (ss : Symbols) → Annotations c p notes ss → (ss ≡ [] → is_version_word us ≡ false)
+    → is_version_word (notes ++ us) ≡ false
 noted_no_word c p _ us _ no_annotation h = h refl
 noted_no_word c p _ us _ (one_annotation [] rs t colons said s e i j k) h = refl
 noted_no_word c p _ us _ (one_annotation (x ∷ []) rs t colons said s e i j k) h = refl
@@ -100,13 +107,17 @@ is_unmarked (helds.Version ours s) = false
 is_unmarked _ = true
 
 pub unmarked_word : (w : List ℕ) → is_unmarked (held_word w) ≡ true → is_version w ≡ false
-unmarked_word w h = go (bytes_eq w (codes "null")) (bytes_eq w (codes "true")) (bytes_eq w (codes "false")) (bytes_eq w (codes "nan")) (is_version w) refl refl refl refl refl h
+unmarked_word w h = go (bytes_eq w (codes "null")) (bytes_eq w (codes "true")) (bytes_eq w (codes "false")) (bytes_eq w (codes "nan")) (is_version w) refl refl
+    refl refl refl h
   where
     is : (v : List ℕ) → bytes_eq w v ≡ true → is_version v ≡ false → is_version w ≡ false
     is v e n = ap is_version ((bytes_eq-Decides w v).0 e) ∙ n
 
-    go : (a b d e f : Bool) → bytes_eq w (codes "null") ≡ a → bytes_eq w (codes "true") ≡ b → bytes_eq w (codes "false") ≡ d → bytes_eq w (codes "nan") ≡ e → is_version w ≡ f
-        → is_unmarked (if a then helds.Null values.Null else (if b then helds.Truth true else (if d then helds.Truth false else (if e then helds.Nan else (if f then helds.Version (bytes_eq w the_marker) (Some w) else helds.Symbol (Some w)))))) ≡ true → is_version w ≡ false
+    go : (a b d e f : Bool) → bytes_eq w (codes "null") ≡ a → bytes_eq w (codes "true") ≡ b → bytes_eq w (codes "false") ≡ d → bytes_eq w (codes "nan") ≡ e
+        → is_version w ≡ f
+        → is_unmarked (if a then helds.Null values.Null else (if b then helds.Truth true else
+        (if d then helds.Truth false else (if e then helds.Nan else (if f then helds.Version (bytes_eq w the_marker) (Some w) else helds.Symbol (Some w))))))
+        ≡ true → is_version w ≡ false
     go true b d e f i j k m n h = is (codes "null") i refl
     go false true d e f i j k m n h = is (codes "true") j refl
     go false false true e f i j k m n h = is (codes "false") k refl
@@ -114,6 +125,8 @@ unmarked_word w h = go (bytes_eq w (codes "null")) (bytes_eq w (codes "true")) (
     go false false false false true i j k m n h = absurd cc
     go false false false false false i j k m n h = n
 
-pub word_no_word : (t : Placed) (w : List ℕ) → IsBody t.lexeme.kind t.lexeme.octets (Ok (Word w)) → is_unmarked (held_word w) ≡ true → is_version_word (t ∷ []) ≡ false
+pub word_no_word : (t : Placed) (w : List ℕ) → IsBody t.lexeme.kind t.lexeme.octets (Ok (Word w)) → is_unmarked (held_word w) ≡ true → is_version_word (t ∷ [])
+    ≡ false
 word_no_word t w h n = let e = word_token t.lexeme.kind t.lexeme.octets w h in
-    ap (λ k. is_version_word (record { place = t.place; lexeme = record { start = t.lexeme.start; end = t.lexeme.end; kind = k; octets = t.lexeme.octets } } ∷ [])) e.0 ∙ (ap is_version e.1 ∙ unmarked_word w n)
+    ap (λ k. is_version_word (record { place = t.place; lexeme = record { start = t.lexeme.start; end = t.lexeme.end; kind = k; octets = t.lexeme.octets } }
+    ∷ [])) e.0 ∙ (ap is_version e.1 ∙ unmarked_word w n)

@@ -63,7 +63,8 @@ pub record Fine (s : Known) : Type 0 where
 abbrev pub Finely : Mode → Outcome → Type 0
 Finely m (Next s) = Fine s
 Finely m (Given l s) = Fine s × (is_quoted l.kind ≡ true → l.start + 3 ≤ l.end) × (is_sane s.mode ≡ true) × (is_idle s.mode ≡ true) × (l.end ≡ s.used)
-Finely m (Left l s) = Fine s × (is_segment l.kind ≡ false) × (is_quoting m ≡ false → is_quoted l.kind ≡ false) × (is_sane s.mode ≡ true) × ((is_idle s.mode ≡ true) ⊎ (l.kind ≡ kinds.Operator)) × (is_close l.kind ≡ false) × (l.end ≤ s.used)
+Finely m (Left l s) = Fine s × (is_segment l.kind ≡ false) × (is_quoting m ≡ false → is_quoted l.kind ≡ false) × (is_sane s.mode ≡ true)
+    × ((is_idle s.mode ≡ true) ⊎ (l.kind ≡ kinds.Operator)) × (is_close l.kind ≡ false) × (l.end ≤ s.used)
 Finely m (Refused n e) = Unit {0}
 
 pub le_of : (a b : ℕ) → nat_le a b ≡ true → a ≤ b
@@ -119,7 +120,8 @@ acts_fine p s o (actions.Before kind k m) f h =
     )
 acts_fine p s o actions.EndWord f h = word ((o == 46) && bytes_eq s.kept (codes "null"))
   where
-    word : (b : Bool) → Finely s.mode (cond b (Next (go_to s modes.KindName [])) (Left (cut s kinds.Word s.kept s.used) (past p kinds.Word modes.Blank [] s.used s.used)))
+    word : (b : Bool) → Finely s.mode (cond b (Next (go_to s modes.KindName []))
+        (Left (cut s kinds.Word s.kept s.used) (past p kinds.Word modes.Blank [] s.used s.used)))
     word true = let k = h.enough in record { enough = omega arith }
     word false = (record { enough = omega arith }, refl, (λ e. refl), refl, inl refl, refl, omega arith)
 acts_fine p s o (actions.Split n) f h = (record { enough = omega arith }, refl, (λ e. refl), refl, inr refl, refl, omega arith)

@@ -49,68 +49,80 @@ Spans top said item start end (gives v r) = (end ≤ start + item) × IsClose to
 Spans top said item start end (refuses e) = Unit {0}
 Spans top said item start end (late e r) = Unit {0}
 
-within_spans : (top : Bool) (said : Content) (item start end : ℕ) (t : Turn) → (end ≤ start + item → Spans top said item start end t) → Spans top said item start end (within item start end t)
+within_spans : (top : Bool) (said : Content) (item start end : ℕ) (t : Turn) → (end ≤ start + item → Spans top said item start end t)
+    → Spans top said item start end (within item start end t)
 within_spans top said item start end t h = go (nat_le end (start + item)) refl
   where
     go : (b : Bool) → nat_le end (start + item) ≡ b → Spans top said item start end (if b then t else refuses reasons.ItemTooLong)
     go true e = h (le_of end (start + item) e)
     go false e = tt
 
-top_spans : (top : Bool) (said : Content) (item start end : ℕ) (c : List Slot) (v : Value) (d : Result (List Slot) Reason) (b : Bool) → IsClose top said → Spans top said item start end (if b then turned item start end d else within item start end (gives v (fresh c)))
+top_spans : (top : Bool) (said : Content) (item start end : ℕ) (c : List Slot) (v : Value) (d : Result (List Slot) Reason) (b : Bool) → IsClose top said
+    → Spans top said item start end (if b then turned item start end d else within item start end (gives v (fresh c)))
 top_spans top said item start end c v (Ok d) true h = within_spans top said item start end (goes (fresh d)) (λ k. inr (k, h, refl))
 top_spans top said item start end c v (Err e) true h = tt
 top_spans top said item start end c v d false h = within_spans top said item start end (gives v (fresh c)) (λ k. (k, h, refl))
 
 -- a value that ends in these frames, which were below `top` before
-ended_spans : (top : Bool) (said : Content) (setting : Setting) (spot : Spot) (fs : List Frame) (v : Value) → (is_top fs ≡ true → IsClose top said) → Spans top said setting.limits.item spot.start spot.end (ended setting spot fs v)
-ended_spans top said setting spot [] v h = top_spans top said setting.limits.item spot.start spot.end spot.context v (next spot.context v setting.catalog) (is_table v) (h refl)
+ended_spans : (top : Bool) (said : Content) (setting : Setting) (spot : Spot) (fs : List Frame) (v : Value) → (is_top fs ≡ true → IsClose top said)
+    → Spans top said setting.limits.item spot.start spot.end (ended setting spot fs v)
+ended_spans top said setting spot [] v h = top_spans top said setting.limits.item spot.start spot.end spot.context v (next spot.context v setting.catalog)
+    (is_table v) (h refl)
 ended_spans top said setting spot (frames.List ss vs ∷ fs) v h = inl (inl refl, refl, tt)
 ended_spans top said setting spot (frames.Sexp ss vs ∷ fs) v h = inl (inl refl, refl, tt)
 ended_spans top said setting spot (frames.Named ss ms s ∷ fs) v h = inl (inl refl, refl, tt)
 ended_spans top said setting spot (frames.Fields ss ms ∷ fs) v h = tt
 
 -- a value of one token, in the frames that stay
-one_spans : (said : Content) (setting : Setting) (spot : Spot) (fs : List Frame) (v : Value) → Spans (is_top fs) said setting.limits.item spot.start spot.end (ended setting spot fs v)
+one_spans : (said : Content) (setting : Setting) (spot : Spot) (fs : List Frame) (v : Value)
+    → Spans (is_top fs) said setting.limits.item spot.start spot.end (ended setting spot fs v)
 one_spans said setting spot fs v = ended_spans (is_top fs) said setting spot fs v (λ e. subst (λ b. IsClose b said) (sym e) tt)
 
 -- what waits, or a name, is open in all frames
-open_now : (start : ℕ) (c : List Slot) (fs : List Frame) (ss : Symbols) (now : Now) → (is_fresh (at start c [] ss now) ≡ false) → IsTopNow now → OpenAs (is_top fs) (at start c fs ss now)
+open_now : (start : ℕ) (c : List Slot) (fs : List Frame) (ss : Symbols) (now : Now) → (is_fresh (at start c [] ss now) ≡ false) → IsTopNow now
+    → OpenAs (is_top fs) (at start c fs ss now)
 open_now start c [] ss now h k = inr (refl, h, k)
 open_now start c (f ∷ fs) ss now h k = inl refl
 
-resolved_spans : (top : Bool) (said : Content) (item start end : ℕ) (r : Result (Option (List ℕ)) Reason) (f : Option (List ℕ) → Turn) → ((s : Option (List ℕ)) → Spans top said item start end (f s)) → Spans top said item start end (resolved r f)
+resolved_spans : (top : Bool) (said : Content) (item start end : ℕ) (r : Result (Option (List ℕ)) Reason) (f : Option (List ℕ) → Turn)
+    → ((s : Option (List ℕ)) → Spans top said item start end (f s)) → Spans top said item start end (resolved r f)
 resolved_spans top said item start end (Ok s) f h = h s
 resolved_spans top said item start end (Err e) f h = tt
 
-deeper_spans : (top : Bool) (said : Content) (item start end depth : ℕ) (fs : List Frame) (t deep : Turn) → Spans top said item start end t → Spans top said item start end deep → Spans top said item start end (deeper depth fs t deep)
+deeper_spans : (top : Bool) (said : Content) (item start end depth : ℕ) (fs : List Frame) (t deep : Turn) → Spans top said item start end t
+    → Spans top said item start end deep → Spans top said item start end (deeper depth fs t deep)
 deeper_spans top said item start end depth fs t deep h k = go (nat_lt (length fs) depth)
   where
     go : (b : Bool) → Spans top said item start end (if b then t else deep)
     go true = h
     go false = k
 
-list_closes : (setting : Setting) (spot : Spot) (fs : List Frame) → Spans (is_top fs) (Mark' marks.ListClose) setting.limits.item spot.start spot.end (list_closed setting spot fs)
+list_closes : (setting : Setting) (spot : Spot) (fs : List Frame) → Spans (is_top fs) (Mark' marks.ListClose) setting.limits.item spot.start spot.end
+    (list_closed setting spot fs)
 list_closes setting spot (frames.List ss vs ∷ fs) = ended_spans false (Mark' marks.ListClose) setting spot fs _ (λ e. tt)
 list_closes setting spot (frames.Sexp ss vs ∷ fs) = tt
 list_closes setting spot (frames.Fields ss vs ∷ fs) = tt
 list_closes setting spot (frames.Named ss vs s ∷ fs) = tt
 list_closes setting spot [] = tt
 
-sexp_closes : (setting : Setting) (spot : Spot) (fs : List Frame) → Spans (is_top fs) (Mark' marks.SexpClose) setting.limits.item spot.start spot.end (sexp_closed setting spot fs)
+sexp_closes : (setting : Setting) (spot : Spot) (fs : List Frame) → Spans (is_top fs) (Mark' marks.SexpClose) setting.limits.item spot.start spot.end
+    (sexp_closed setting spot fs)
 sexp_closes setting spot (frames.Sexp ss vs ∷ fs) = ended_spans false (Mark' marks.SexpClose) setting spot fs _ (λ e. tt)
 sexp_closes setting spot (frames.List ss vs ∷ fs) = tt
 sexp_closes setting spot (frames.Fields ss vs ∷ fs) = tt
 sexp_closes setting spot (frames.Named ss vs s ∷ fs) = tt
 sexp_closes setting spot [] = tt
 
-struct_closes : (setting : Setting) (spot : Spot) (fs : List Frame) → Spans (is_top fs) (Mark' marks.FieldsClose) setting.limits.item spot.start spot.end (struct_closed setting spot fs)
+struct_closes : (setting : Setting) (spot : Spot) (fs : List Frame) → Spans (is_top fs) (Mark' marks.FieldsClose) setting.limits.item spot.start spot.end
+    (struct_closed setting spot fs)
 struct_closes setting spot (frames.Fields ss vs ∷ fs) = ended_spans false (Mark' marks.FieldsClose) setting spot fs _ (λ e. tt)
 struct_closes setting spot (frames.List ss vs ∷ fs) = tt
 struct_closes setting spot (frames.Sexp ss vs ∷ fs) = tt
 struct_closes setting spot (frames.Named ss vs s ∷ fs) = tt
 struct_closes setting spot [] = tt
 
-bare_spans : (top : Bool) (said : Content) (item start end : ℕ) (ss : Symbols) (t : Turn) → Spans top said item start end t → Spans top said item start end (bare_close ss t)
+bare_spans : (top : Bool) (said : Content) (item start end : ℕ) (ss : Symbols) (t : Turn) → Spans top said item start end t
+    → Spans top said item start end (bare_close ss t)
 bare_spans top said item start end [] t h = h
 bare_spans top said item start end (s ∷ ss) t h = tt
 
@@ -123,12 +135,39 @@ any_note [] start c now h = h
 any_note (s ∷ ss) start c now h = refl
 
 module _ (g : Catalog) (l : Limits) where
-  ready_spans : (spot : Spot) (fs : List Frame) (ss : Symbols) (said : Content) → Spans (is_top fs) said l.item spot.start spot.end (on_ready (under g l) spot fs ss said)
-  ready_spans spot fs ss (Word w) = inl (open_now spot.start spot.context fs ss (nows.Pending (held_word w) spot.end) (any_note ss spot.start spot.context (nows.Pending (held_word w) spot.end) refl) tt, refl, refl)
-  ready_spans spot fs ss (Id id) = resolved_spans (is_top fs) (Id id) l.item spot.start spot.end (resolve spot.context id) _ (λ s. inl (open_now spot.start spot.context fs ss (nows.Pending (helds.Symbol s) spot.end) (any_note ss spot.start spot.context (nows.Pending (helds.Symbol s) spot.end) refl) tt, refl, refl))
-  ready_spans spot fs ss (Quoted w) = inl (open_now spot.start spot.context fs ss (nows.Pending (helds.Symbol (Some w)) spot.end) (any_note ss spot.start spot.context (nows.Pending (helds.Symbol (Some w)) spot.end) refl) tt, refl, refl)
-  ready_spans spot fs ss (TypedNull k) = inl (open_now spot.start spot.context fs ss (nows.Pending (helds.Null k) spot.end) (any_note ss spot.start spot.context (nows.Pending (helds.Null k) spot.end) refl) tt, refl, refl)
-  ready_spans spot fs ss (Long w) = inl (open_now spot.start spot.context fs ss (nows.Long w spot.end) (any_note ss spot.start spot.context (nows.Long w spot.end) refl) tt, refl, refl)
+  ready_spans : (spot : Spot) (fs : List Frame) (ss : Symbols) (said : Content)
+      → Spans (is_top fs) said l.item spot.start spot.end (on_ready (under g l) spot fs ss said)
+  ready_spans spot fs ss (Word w) = inl (
+    open_now spot.start spot.context fs ss (nows.Pending (held_word w) spot.end)
+        (any_note ss spot.start spot.context (nows.Pending (held_word w) spot.end) refl) tt,
+    refl,
+    refl,
+  )
+  ready_spans spot fs ss (Id id) = resolved_spans (is_top fs) (Id id) l.item spot.start spot.end (resolve spot.context id) _
+      (λ s. inl (
+        open_now spot.start spot.context fs ss (nows.Pending (helds.Symbol s) spot.end)
+            (any_note ss spot.start spot.context (nows.Pending (helds.Symbol s) spot.end) refl) tt,
+        refl,
+        refl,
+      ))
+  ready_spans spot fs ss (Quoted w) = inl (
+    open_now spot.start spot.context fs ss (nows.Pending (helds.Symbol (Some w)) spot.end)
+        (any_note ss spot.start spot.context (nows.Pending (helds.Symbol (Some w)) spot.end) refl) tt,
+    refl,
+    refl,
+  )
+  ready_spans spot fs ss (TypedNull k) = inl (
+    open_now spot.start spot.context fs ss (nows.Pending (helds.Null k) spot.end)
+        (any_note ss spot.start spot.context (nows.Pending (helds.Null k) spot.end) refl) tt,
+    refl,
+    refl,
+  )
+  ready_spans spot fs ss (Long w) = inl (
+    open_now spot.start spot.context fs ss (nows.Long w spot.end)
+        (any_note ss spot.start spot.context (nows.Long w spot.end) refl) tt,
+    refl,
+    refl,
+  )
   ready_spans spot fs ss (Short w) = one_spans (Short w) (under g l) spot fs _
   ready_spans spot fs ss (Number' n) = one_spans (Number' n) (under g l) spot fs _
   ready_spans spot fs ss (Operator w) = one_spans (Operator w) (under g l) spot fs _
@@ -144,16 +183,24 @@ module _ (g : Catalog) (l : Limits) where
   ready_spans spot fs ss (Mark' marks.Colon) = tt
   ready_spans spot fs ss (Mark' marks.Colons) = tt
 
-  noted_spans : (spot : Spot) (fs : List Frame) (ss : Symbols) (r : Result (Option (List ℕ)) Reason) → Spans (is_top fs) (Mark' marks.Colons) l.item spot.start spot.end (noted spot.start spot.context fs ss r)
+  noted_spans : (spot : Spot) (fs : List Frame) (ss : Symbols) (r : Result (Option (List ℕ)) Reason)
+      → Spans (is_top fs) (Mark' marks.Colons) l.item spot.start spot.end (noted spot.start spot.context fs ss r)
   noted_spans spot fs ss (Ok s) = inl (open_now spot.start spot.context fs (ss ++ s ∷ []) nows.Ready (some_note ss s spot.start spot.context) tt, refl, tt)
   noted_spans spot fs ss (Err e) = tt
 
-  pending_spans : (spot : Spot) (fs : List Frame) (ss : Symbols) (h : Held) (said : Content) → Spans (is_top fs) said l.item spot.start spot.end (on_pending spot.start spot.context fs ss h said)
+  pending_spans : (spot : Spot) (fs : List Frame) (ss : Symbols) (h : Held) (said : Content)
+      → Spans (is_top fs) said l.item spot.start spot.end (on_pending spot.start spot.context fs ss h said)
   pending_spans spot fs ss h (Mark' marks.Colons) = noted_spans spot fs ss (held_symbol h)
   pending_spans spot fs ss h _ = tt
 
-  long_spans : (spot : Spot) (fs : List Frame) (ss : Symbols) (v : List ℕ) (said : Content) → Spans (is_top fs) said l.item spot.start spot.end (on_long spot fs ss v said)
-  long_spans spot fs ss v (Long w) = inl (open_now spot.start spot.context fs ss (nows.Long (v ++ w) spot.end) (any_note ss spot.start spot.context (nows.Long (v ++ w) spot.end) refl) tt, refl, refl)
+  long_spans : (spot : Spot) (fs : List Frame) (ss : Symbols) (v : List ℕ) (said : Content)
+      → Spans (is_top fs) said l.item spot.start spot.end (on_long spot fs ss v said)
+  long_spans spot fs ss v (Long w) = inl (
+    open_now spot.start spot.context fs ss (nows.Long (v ++ w) spot.end)
+        (any_note ss spot.start spot.context (nows.Long (v ++ w) spot.end) refl) tt,
+    refl,
+    refl,
+  )
   long_spans spot fs ss v _ = tt
 
   comma_spans : (spot : Spot) (fs : List Frame) → Spans (is_top fs) (Mark' marks.Comma) l.item spot.start spot.end (on_comma spot.start spot.context fs)
@@ -169,13 +216,16 @@ module _ (g : Catalog) (l : Limits) where
   after_spans spot fs (Mark' marks.FieldsClose) = struct_closes (under g l) spot fs
   after_spans spot fs _ = tt
 
-  keyed_open : (spot : Spot) (f : Frame) (fs : List Frame) (said : Content) (s : Option (List ℕ)) → Spans false said l.item spot.start spot.end (goes (keyed spot.start spot.context (f ∷ fs) s))
+  keyed_open : (spot : Spot) (f : Frame) (fs : List Frame) (said : Content) (s : Option (List ℕ))
+      → Spans false said l.item spot.start spot.end (goes (keyed spot.start spot.context (f ∷ fs) s))
   keyed_open spot f fs said s = inl (inl refl, refl, tt)
 
-  name_spans : (spot : Spot) (f : Frame) (fs : List Frame) (said : Content) → Spans false said l.item spot.start spot.end (on_name (under g l) spot (f ∷ fs) said)
+  name_spans : (spot : Spot) (f : Frame) (fs : List Frame) (said : Content)
+      → Spans false said l.item spot.start spot.end (on_name (under g l) spot (f ∷ fs) said)
   name_spans spot f fs (Word w) = go (is_keyword w)
     where
-      go : (b : Bool) → Spans false (Word w) l.item spot.start spot.end (if b then late reasons.KeywordAsName (keyed spot.start spot.context (f ∷ fs) (Some w)) else goes (keyed spot.start spot.context (f ∷ fs) (Some w)))
+      go : (b : Bool) → Spans false (Word w) l.item spot.start spot.end
+          (if b then late reasons.KeywordAsName (keyed spot.start spot.context (f ∷ fs) (Some w)) else goes (keyed spot.start spot.context (f ∷ fs) (Some w)))
       go true = tt
       go false = keyed_open spot f fs (Word w) (Some w)
   name_spans spot f fs (TypedNull k) = tt
@@ -186,22 +236,26 @@ module _ (g : Catalog) (l : Limits) where
   name_spans spot f fs (Mark' marks.FieldsClose) = struct_closes (under g l) spot (f ∷ fs)
   name_spans spot f fs _ = tt
 
-  long_name_spans : (spot : Spot) (f : Frame) (fs : List Frame) (v : List ℕ) (said : Content) → Spans false said l.item spot.start spot.end (on_long_name spot.start spot.context (f ∷ fs) v said)
+  long_name_spans : (spot : Spot) (f : Frame) (fs : List Frame) (v : List ℕ) (said : Content)
+      → Spans false said l.item spot.start spot.end (on_long_name spot.start spot.context (f ∷ fs) v said)
   long_name_spans spot f fs v (Long w) = inl (inl refl, refl, tt)
   long_name_spans spot f fs v _ = tt
 
-  named_spans : (spot : Spot) (fs : List Frame) (s : Option (List ℕ)) → Spans (is_top fs) (Mark' marks.Colon) l.item spot.start spot.end (named spot.start spot.context fs s)
+  named_spans : (spot : Spot) (fs : List Frame) (s : Option (List ℕ))
+      → Spans (is_top fs) (Mark' marks.Colon) l.item spot.start spot.end (named spot.start spot.context fs s)
   named_spans spot (frames.Fields ss ms ∷ fs) s = inl (inl refl, refl, tt)
   named_spans spot (frames.List ss vs ∷ fs) s = tt
   named_spans spot (frames.Sexp ss vs ∷ fs) s = tt
   named_spans spot (frames.Named ss ms x ∷ fs) s = tt
   named_spans spot [] s = tt
 
-  keyed_spans : (spot : Spot) (fs : List Frame) (s : Option (List ℕ)) (said : Content) → Spans (is_top fs) said l.item spot.start spot.end (on_keyed spot.start spot.context fs s said)
+  keyed_spans : (spot : Spot) (fs : List Frame) (s : Option (List ℕ)) (said : Content)
+      → Spans (is_top fs) said l.item spot.start spot.end (on_keyed spot.start spot.context fs s said)
   keyed_spans spot fs s (Mark' marks.Colon) = named_spans spot fs s
   keyed_spans spot fs s _ = tt
 
-  now_spans : (begin end start : ℕ) (c : List Slot) (fs : List Frame) (ss : Symbols) (said : Content) (now : Now) → (is_top fs ≡ true → IsTopNow now) → Spans (is_top fs) said l.item (start_now now start begin fs ss) end (turn_now (under g l) (at start c fs ss now) (token_at begin end said) now)
+  now_spans : (begin end start : ℕ) (c : List Slot) (fs : List Frame) (ss : Symbols) (said : Content) (now : Now) → (is_top fs ≡ true → IsTopNow now)
+      → Spans (is_top fs) said l.item (start_now now start begin fs ss) end (turn_now (under g l) (at start c fs ss now) (token_at begin end said) now)
   now_spans begin end start c fs ss said nows.Ready k = ready_spans (spot_at end (begun_at start begin fs ss) c) fs ss said
   now_spans begin end start c fs ss said (nows.Pending h e) k = pending_spans (spot_at end start c) fs ss h said
   now_spans begin end start c fs ss said (nows.Long w e) k = long_spans (spot_at end start c) fs ss w said
@@ -213,7 +267,8 @@ module _ (g : Catalog) (l : Limits) where
   now_spans begin end start c [] ss said (nows.LongName w) k = absurd (k refl)
 
   -- A token leaves the item open, or ends it within the limit.
-  pub turn_spans : (r : Reading) (t : Token) → (is_top r.frames ≡ true → IsTopNow r.now) → Spans (is_top r.frames) t.said l.item (start_now r.now r.start t.start r.frames r.notes) t.end (turn g l r t)
+  pub turn_spans : (r : Reading) (t : Token) → (is_top r.frames ≡ true → IsTopNow r.now)
+      → Spans (is_top r.frames) t.said l.item (start_now r.now r.start t.start r.frames r.notes) t.end (turn g l r t)
   turn_spans r t k = now_spans t.start t.end r.start r.context r.frames r.notes t.said r.now k
 
   -- what waited leaves the container open, or ends an item of the top level
@@ -230,7 +285,8 @@ module _ (g : Catalog) (l : Limits) where
       go true e = h (le_of end (start + l.item) e)
       go false e = tt
 
-  top_settles : (start end : ℕ) (c : List Slot) (v : Value) (d : Result (List Slot) Reason) (b : Bool) → SettlesWithin start end [] (if b then turned l.item start end d else within l.item start end (gives v (fresh c)))
+  top_settles : (start end : ℕ) (c : List Slot) (v : Value) (d : Result (List Slot) Reason) (b : Bool)
+      → SettlesWithin start end [] (if b then turned l.item start end d else within l.item start end (gives v (fresh c)))
   top_settles start end c v (Ok d) true = within_settles start end (goes (fresh d)) (λ k. inr (refl, k))
   top_settles start end c v (Err e) true = tt
   top_settles start end c v d false = within_settles start end (gives v (fresh c)) (λ k. (refl, k))
@@ -242,7 +298,8 @@ module _ (g : Catalog) (l : Limits) where
   ended_settles spot (frames.Named ss ms s ∷ fs) v = inl (refl, refl, refl)
   ended_settles spot (frames.Fields ss ms ∷ fs) v = tt
 
-  paid_settles : (spot : Spot) (fs : List Frame) (ss : Symbols) (q : Result Payload Reason) → SettlesWithin spot.start spot.end fs (paid (under g l) spot fs ss q)
+  paid_settles : (spot : Spot) (fs : List Frame) (ss : Symbols) (q : Result Payload Reason)
+      → SettlesWithin spot.start spot.end fs (paid (under g l) spot fs ss q)
   paid_settles spot fs ss (Ok q) = ended_settles spot fs _
   paid_settles spot fs ss (Err e) = tt
 
@@ -263,7 +320,8 @@ module _ (g : Catalog) (l : Limits) where
   IsWaiting _ = ⊥
 
   -- What waited for more was within the limit.
-  pub settle_spans : (start : ℕ) (c : List Slot) (fs : List Frame) (ss : Symbols) (now : Now) (end : ℕ) → IsWaiting now → SettlesWithin start (end_of_now now end) fs (settle g l (at start c fs ss now))
+  pub settle_spans : (start : ℕ) (c : List Slot) (fs : List Frame) (ss : Symbols) (now : Now) (end : ℕ) → IsWaiting now
+      → SettlesWithin start (end_of_now now end) fs (settle g l (at start c fs ss now))
   settle_spans start c fs ss (nows.Pending h e) end w = released_settles (spot_at e start c) fs ss h
   settle_spans start c fs ss (nows.Long v e) end w = ended_settles (spot_at e start c) fs _
   settle_spans start c fs ss nows.Ready end w = absurd w

@@ -33,7 +33,8 @@ module _ (g : Catalog) (l : Limits) where
   abbrev pub After : List ℕ → List Value → ℕ → Effect → Type 0
   After u vs o (uses m) = Behind g l Scanned (u ++ o ∷ []) vs m.scan m.reading [] (NoLongText m.scan.mode)
   After u vs o (tells v m) = Behind g l Scanned (u ++ o ∷ []) (vs ++ v ∷ []) m.scan m.reading [] (NoLongText m.scan.mode)
-  After u vs o (leaves v m) = (ahead : List ℕ) × Continues (o ∷ []) ahead × Behind g l Scanned u (vs ++ v ∷ []) m.scan m.reading ahead (ApartAt o m.scan m.reading)
+  After u vs o (leaves v m) = (ahead : List ℕ) × Continues (o ∷ []) ahead
+      × Behind g l Scanned u (vs ++ v ∷ []) m.scan m.reading ahead (ApartAt o m.scan m.reading)
   After u vs o (fails e) = Unit {0}
 
   worse_after : (u : List ℕ) (vs : List Value) (o : ℕ) (e : Reason) (x : Effect) → After u vs o (or_worse e x)
@@ -42,10 +43,12 @@ module _ (g : Catalog) (l : Limits) where
   worse_after u vs o e (tells v m) = tt
   worse_after u vs o e (leaves v m) = tt
 
-  noticed_after : (u : List ℕ) (vs : List Value) (o : ℕ) (r : Reading) (s : Known) → Behind g l Scanned (u ++ o ∷ []) vs s r [] (NoLongText s.mode) → After u vs o (noticed l r s)
+  noticed_after : (u : List ℕ) (vs : List Value) (o : ℕ) (r : Reading) (s : Known) → Behind g l Scanned (u ++ o ∷ []) vs s r [] (NoLongText s.mode)
+      → After u vs o (noticed l r s)
   noticed_after u vs o r s b = go (shut r.now && not (is_idle s.mode)) (nat_le (reaches r.frames r s) l.item)
     where
-      go : (x y : Bool) → After u vs o (if x then fails reasons.Unexpected else (if y then uses (record { scan = s; reading = r }) else fails reasons.ItemTooLong))
+      go : (x y : Bool) → After u vs o (if x then fails reasons.Unexpected else
+          (if y then uses (record { scan = s; reading = r }) else fails reasons.ItemTooLong))
       go true y = tt
       go false true = b
       go false false = tt
@@ -61,13 +64,15 @@ module _ (g : Catalog) (l : Limits) where
     given_after s' (refuses e) h = tt
     given_after s' (late e r) h = worse_after u vs o e (noticed l r s')
 
-    left_after : (again : State → Effect) (s' : Known) (t : Turn) → AtOctet again → Reads g l Scanned u vs s' (o ∷ []) (λ r. ApartAt o s' r) t → After u vs o (behind_left again s' t)
+    left_after : (again : State → Effect) (s' : Known) (t : Turn) → AtOctet again → Reads g l Scanned u vs s' (o ∷ []) (λ r. ApartAt o s' r) t
+        → After u vs o (behind_left again s' t)
     left_after again s' (goes r) f h = f (with_scan s' r) h
     left_after again s' (gives v r) f h = (o ∷ [], ([], refl), h.0)
     left_after again s' (refuses e) f h = tt
     left_after again s' (late e r) f h = worse_after u vs o e (again (with_scan s' r))
 
-    next_after : (s s' : Known) (r : Reading) (ahead : List ℕ) → Continues (o ∷ []) ahead → (b : Behind g l Scanned u vs s r ahead (ApartAt o s r)) → feed (place r) s o ≡ Next s' → Follows (place r) s.mode (Next s') → Fine s' → After u vs o (noticed l r s')
+    next_after : (s s' : Known) (r : Reading) (ahead : List ℕ) → Continues (o ∷ []) ahead → (b : Behind g l Scanned u vs s r ahead (ApartAt o s r))
+        → feed (place r) s o ≡ Next s' → Follows (place r) s.mode (Next s') → Fine s' → After u vs o (noticed l r s')
     next_after s s' r ahead c b e fo fi =
         noticed_after u vs o r s' (record {
           front = b.front;
@@ -92,67 +97,89 @@ module _ (g : Catalog) (l : Limits) where
     said_after (Ok c) f h = h c refl
     said_after (Err e) f h = tt
 
-    token_given : (s s' : Known) (r : Reading) (ahead : List ℕ) → Continues (o ∷ []) ahead → (b : Behind g l Scanned u vs s r ahead (ApartAt o s r)) → (x : Lexeme) → feed (place r) s o ≡ Given x s' → is_sane s'.mode ≡ true → Finely s.mode (Given x s')
+    token_given : (s s' : Known) (r : Reading) (ahead : List ℕ) → Continues (o ∷ []) ahead → (b : Behind g l Scanned u vs s r ahead (ApartAt o s r))
+        → (x : Lexeme) → feed (place r) s o ≡ Given x s' → is_sane s'.mode ≡ true → Finely s.mode (Given x s')
         → After u vs o (on_said (said x.kind x.octets) (λ c. behind_given l s' (turn g l r (token_of x c))))
     token_given s s' r ahead c b x e sane fi =
         said_after (said x.kind x.octets) (λ c. behind_given l s' (turn g l r (token_of x c)))
         (λ k h. given_after s' (turn g l r (token_of x k))
-        (token_read g l Scanned u vs s r ahead (ApartAt o s r) b x (λ a. (subst (λ y. NoSegment (is_top r.frames) y) e a, λ t. given_far x fi.1)) Scanned (u ++ o ∷ []) s' [] (λ n. NoLongText s'.mode) k h
+        (token_read g l Scanned u vs s r ahead (ApartAt o s r) b x (λ a. (subst (λ y. NoSegment (is_top r.frames) y) e a, λ t. given_far x fi.1)) Scanned
+        (u ++ o ∷ []) s' [] (λ n. NoLongText s'.mode) k h
         (λ q. scanned_given (place r) s u (b.front ++ b.item) ahead b.scanned o c s' x e (said_passes x.kind x.octets k h) q) sane fi.0))
 
     -- what a token that is left leads to
-    pub left_reads : (s s' : Known) (r : Reading) (ahead : List ℕ) → Continues (o ∷ []) ahead → (b : Behind g l Scanned u vs s r ahead (ApartAt o s r)) → (x : Lexeme) → feed (place r) s o ≡ Left x s' → is_sane s'.mode ≡ true → Finely s.mode (Left x s') → (k : Content) → said x.kind x.octets ≡ Ok k
+    pub left_reads : (s s' : Known) (r : Reading) (ahead : List ℕ) → Continues (o ∷ []) ahead → (b : Behind g l Scanned u vs s r ahead (ApartAt o s r))
+        → (x : Lexeme) → feed (place r) s o ≡ Left x s' → is_sane s'.mode ≡ true → Finely s.mode (Left x s') → (k : Content) → said x.kind x.octets ≡ Ok k
         → Reads g l Scanned u vs s' (o ∷ []) (λ n. ApartAt o s' n) (turn g l r (token_of x k))
     left_reads s s' r ahead c b x e sane fi k h =
-        token_read g l Scanned u vs s r ahead (ApartAt o s r) b x (λ a. (fi.1, λ t. left_none x.kind x.start x.end (unquoted (is_top r.frames) (is_quoted x.kind) t (subst (λ y. NoSegment (is_top r.frames) y) e a)))) Scanned u s' (o ∷ []) (λ n. ApartAt o s' n) k h
+        token_read g l Scanned u vs s r ahead (ApartAt o s r) b x
+        (λ a. (
+          fi.1,
+          λ t. left_none x.kind x.start x.end (unquoted (is_top r.frames) (is_quoted x.kind) t
+              (subst (λ y. NoSegment (is_top r.frames) y) e a)),
+        )) Scanned u s' (o ∷ []) (λ n. ApartAt o s' n) k h
         (λ q. scanned_left (place r) s u (b.front ++ b.item) ahead b.scanned o c s' x e (said_passes x.kind x.octets k h) q) sane fi.0
       where
         unquoted : (top quoted : Bool) → top ≡ true → (top && quoted) ≡ false → quoted ≡ false
         unquoted true quoted h k = k
         unquoted false quoted h k = absurd cc
 
-    token_left : (s s' : Known) (r : Reading) (ahead : List ℕ) (again : State → Effect) → Continues (o ∷ []) ahead → AtOctet again → (b : Behind g l Scanned u vs s r ahead (ApartAt o s r)) → (x : Lexeme) → feed (place r) s o ≡ Left x s' → is_sane s'.mode ≡ true → Finely s.mode (Left x s')
+    token_left : (s s' : Known) (r : Reading) (ahead : List ℕ) (again : State → Effect) → Continues (o ∷ []) ahead → AtOctet again
+        → (b : Behind g l Scanned u vs s r ahead (ApartAt o s r)) → (x : Lexeme) → feed (place r) s o ≡ Left x s' → is_sane s'.mode ≡ true
+        → Finely s.mode (Left x s')
         → After u vs o (on_said (said x.kind x.octets) (λ c. behind_left again s' (turn g l r (token_of x c))))
     token_left s s' r ahead again c f b x e sane fi =
         said_after (said x.kind x.octets) (λ c. behind_left again s' (turn g l r (token_of x c)))
         (λ k h. left_after again s' (turn g l r (token_of x k)) f (left_reads s s' r ahead c b x e sane fi k h))
 
     -- An octet at the scanner.
-    scan_after : (s : Known) (r : Reading) (ahead : List ℕ) (again : State → Effect) → Continues (o ∷ []) ahead → AtOctet again → (b : Behind g l Scanned u vs s r ahead (ApartAt o s r)) → (x : Outcome) → feed (place r) s o ≡ x
+    scan_after : (s : Known) (r : Reading) (ahead : List ℕ) (again : State → Effect) → Continues (o ∷ []) ahead → AtOctet again
+        → (b : Behind g l Scanned u vs s r ahead (ApartAt o s r)) → (x : Outcome) → feed (place r) s o ≡ x
         → Follows (place r) s.mode x → Finely s.mode x → After u vs o (on_scan g l again r x)
     scan_after s r ahead again c f b (Next s') e fo fi = next_after s s' r ahead c b e fo fi
     scan_after s r ahead again c f b (Given x s') e fo fi = token_given s s' r ahead c b x e fi.2 fi
     scan_after s r ahead again c f b (Left x s') e fo fi = token_left s s' r ahead again c f b x e fi.3 fi
     scan_after s r ahead again c f b (Refused n y) e fo fi = tt
 
-    octet_scanned : (s : Known) (r : Reading) (ahead : List ℕ) (again : State → Effect) → Continues (o ∷ []) ahead → AtOctet again → (b : Behind g l Scanned u vs s r ahead (ApartAt o s r)) → After u vs o (on_scan g l again r (feed (place r) s o))
-    octet_scanned s r ahead again c f b = scan_after s r ahead again c f b (feed (place r) s o) refl (feed_follows (place r) s o b.sane) (feed_fine (place r) s o b.fine)
+    octet_scanned : (s : Known) (r : Reading) (ahead : List ℕ) (again : State → Effect) → Continues (o ∷ []) ahead → AtOctet again
+        → (b : Behind g l Scanned u vs s r ahead (ApartAt o s r)) → After u vs o (on_scan g l again r (feed (place r) s o))
+    octet_scanned s r ahead again c f b = scan_after s r ahead again c f b (feed (place r) s o) refl (feed_follows (place r) s o b.sane)
+        (feed_fine (place r) s o b.fine)
 
     -- where it was settled before the octet
-    settled_after : (s : Known) (ahead : List ℕ) (again : State → Effect) (p : Place) → Continues (o ∷ []) ahead → AtOctet again → (t : Turn) → Reads g l Scanned u vs s ahead (λ n. ApartAt o s n) t → Leading g l (λ n. place n ≡ p) t → After u vs o (on_settled g l again s (feed p s o) t)
+    settled_after : (s : Known) (ahead : List ℕ) (again : State → Effect) (p : Place) → Continues (o ∷ []) ahead → AtOctet again → (t : Turn)
+        → Reads g l Scanned u vs s ahead (λ n. ApartAt o s n) t → Leading g l (λ n. place n ≡ p) t → After u vs o (on_settled g l again s (feed p s o) t)
     settled_after s ahead again p c f (goes r) b e = subst (λ q. After u vs o (on_scan g l again r (feed q s o))) e (octet_scanned s r ahead again c f b)
     settled_after s ahead again p c f (gives v r) b e = (ahead, c, b.0)
     settled_after s ahead again p c f (refuses x) b e = tt
     settled_after s ahead again p c f (late x r) b e = worse_after u vs o x (on_scan g l again r (feed p s o))
 
-    places_only : (fs : List _) (now : _) (t : Turn) → Leading g l (λ r. (place r ≡ place_in fs now) × (is_top r.frames ≡ is_top fs)) t → Leading g l (λ n. place n ≡ place_in fs now) t
+    places_only : (fs : List _) (now : _) (t : Turn) → Leading g l (λ r. (place r ≡ place_in fs now) × (is_top r.frames ≡ is_top fs)) t
+        → Leading g l (λ n. place n ≡ place_in fs now) t
     places_only fs now (goes r) h = h.0
     places_only fs now (gives v r) h = h.0
     places_only fs now (refuses x) h = tt
     places_only fs now (late x r) h = tt
 
-    octet_after : (s : Known) (r : Reading) (ahead : List ℕ) (again : State → Effect) → Continues (o ∷ []) ahead → AtOctet again → (b : Behind g l Scanned u vs s r ahead (ApartAt o s r)) → After u vs o (on_octet g l again (with_scan s r) (feed (place r) s o))
+    octet_after : (s : Known) (r : Reading) (ahead : List ℕ) (again : State → Effect) → Continues (o ∷ []) ahead → AtOctet again
+        → (b : Behind g l Scanned u vs s r ahead (ApartAt o s r)) → After u vs o (on_octet g l again (with_scan s r) (feed (place r) s o))
     octet_after s r ahead again c f b = go (unsettled s r (feed (place r) s o)) refl
       where
-        go : (w : Bool) → unsettled s r (feed (place r) s o) ≡ w → After u vs o (if w then on_scan g l again r (feed (place r) s o) else on_settled g l again s (feed (place r) s o) (settle g l r))
+        go : (w : Bool) → unsettled s r (feed (place r) s o) ≡ w
+            → After u vs o (if w then on_scan g l again r (feed (place r) s o) else on_settled g l again s (feed (place r) s o) (settle g l r))
         go true e = octet_scanned s r ahead again c f b
-        go false e = settled_after s ahead again (place r) c f (settle g l r) (settled_read g l Scanned u vs s ahead o r.start r.context r.frames r.notes r.now b (or_parts (waits r (feed (place r) s o)) (in_segment r.now s) e).0) (places_only r.frames r.now (settle g l r) (settle_same g l r.start r.context r.frames r.notes r.now))
+        go false e = settled_after s ahead again (place r) c f (settle g l r)
+            (settled_read g l Scanned u vs s ahead o r.start r.context r.frames r.notes r.now b
+            (or_parts (waits r (feed (place r) s o)) (in_segment r.now s) e).0)
+            (places_only r.frames r.now (settle g l r) (settle_same g l r.start r.context r.frames r.notes r.now))
 
-    pub takes_after : (n : ℕ) (s : Known) (r : Reading) (ahead : List ℕ) → Continues (o ∷ []) ahead → Behind g l Scanned u vs s r ahead (ApartAt o s r) → After u vs o (takes g l n (with_scan s r) o)
+    pub takes_after : (n : ℕ) (s : Known) (r : Reading) (ahead : List ℕ) → Continues (o ∷ []) ahead → Behind g l Scanned u vs s r ahead (ApartAt o s r)
+        → After u vs o (takes g l n (with_scan s r) o)
     takes_after zero s r ahead c b = tt
     takes_after (suc n) s r ahead c b = octet_after s r ahead (λ k. takes g l n k o) c (λ k h. takes_after n k.scan k.reading (o ∷ []) ([], refl) h) b
 
-  unfoldable pub open_at : (u : List ℕ) (vs : List Value) (o : ℕ) (s : Known) (r : Reading) → Behind g l Scanned u vs s r [] (NoLongText s.mode) → Behind g l Scanned u vs s r [] (ApartAt o s r)
+  unfoldable pub open_at : (u : List ℕ) (vs : List Value) (o : ℕ) (s : Known) (r : Reading) → Behind g l Scanned u vs s r [] (NoLongText s.mode)
+      → Behind g l Scanned u vs s r [] (ApartAt o s r)
   open_at u vs o s r b = record {
     front = b.front;
     item = b.item;
@@ -195,22 +222,28 @@ module _ (g : Catalog) (l : Limits) where
   ran_more : (u : List ℕ) (vs : List Value) (v : Value) (to : ℕ) (r : Run) → StoodBehind u (vs ++ v ∷ []) r → StoodBehind u vs (with_value v to r)
   ran_more u vs v to r h = go r.now h
     where
-      go : (n : Result State Refusal) → StoodBehind u (vs ++ v ∷ []) (record { given = r.given; now = n }) → StoodBehind u vs (record { given = (v, to) ∷ r.given; now = n })
+      go : (n : Result State Refusal) → StoodBehind u (vs ++ v ∷ []) (record { given = r.given; now = n })
+          → StoodBehind u vs (record { given = (v, to) ∷ r.given; now = n })
       go (Ok n) h = subst (λ x. Stood u x n) (append_assoc vs (v ∷ []) (plain r.given)) h
       go (Err e) h = subst HasPieces (append_assoc vs (v ∷ []) (plain r.given)) h
 
-  more_ran : (u w : List ℕ) (vs : List Value) (to o : ℕ) (rest : State → Run) → ((xs : List Value) (n : State) → Stood (u ++ o ∷ []) xs n → StoodBehind w xs (rest n)) → (x : Effect) → HasPieces vs → After u vs o x → StoodBehind w vs (once_more to rest x)
+  more_ran : (u w : List ℕ) (vs : List Value) (to o : ℕ) (rest : State → Run)
+      → ((xs : List Value) (n : State) → Stood (u ++ o ∷ []) xs n → StoodBehind w xs (rest n)) → (x : Effect) → HasPieces vs → After u vs o x
+      → StoodBehind w vs (once_more to rest x)
   more_ran u w vs to o rest f (uses m) p h = f vs m h
   more_ran u w vs to o rest f (tells v m) p h = ran_more w vs v (to + 1) (rest m) (f (vs ++ v ∷ []) m h)
   more_ran u w vs to o rest f (leaves v m) p h = subst HasPieces (sym (append-nil vs)) p
   more_ran u w vs to o rest f (fails e) p h = subst HasPieces (sym (append-nil vs)) p
 
-  octet_ran : (u w : List ℕ) (vs : List Value) (to o : ℕ) (rest : State → Run) → ((xs : List Value) (n : State) → Stood (u ++ o ∷ []) xs n → StoodBehind w xs (rest n)) → (x : Effect) → HasPieces vs → After u vs o x → StoodBehind w vs (run_on to (λ n. eats g l n o) rest x)
+  octet_ran : (u w : List ℕ) (vs : List Value) (to o : ℕ) (rest : State → Run)
+      → ((xs : List Value) (n : State) → Stood (u ++ o ∷ []) xs n → StoodBehind w xs (rest n)) → (x : Effect) → HasPieces vs → After u vs o x
+      → StoodBehind w vs (run_on to (λ n. eats g l n o) rest x)
   octet_ran u w vs to o rest f (uses m) p h = f vs m h
   octet_ran u w vs to o rest f (tells v m) p h = ran_more w vs v (to + 1) (rest m) (f (vs ++ v ∷ []) m h)
   octet_ran u w vs to o rest f (leaves v m) p h =
       ran_more w vs v to (once_more to rest (eats g l m o))
-      (more_ran u w (vs ++ v ∷ []) to o rest f (eats g l m o) (h.2.front, m.reading.context, h.2.pieces) (takes_after u (vs ++ v ∷ []) o 3 m.scan m.reading h.0 h.1 h.2))
+      (more_ran u w (vs ++ v ∷ []) to o rest f (eats g l m o) (h.2.front, m.reading.context, h.2.pieces)
+      (takes_after u (vs ++ v ∷ []) o 3 m.scan m.reading h.0 h.1 h.2))
   octet_ran u w vs to o rest f (fails e) p h = subst HasPieces (sym (append-nil vs)) p
 
   -- Octets lead from what stands for those before to what stands for all.

@@ -87,7 +87,8 @@ value_none p s o =
 blank_none : (p : Place) (s : Known) (colon : Bool) (o : ℕ) → LeavesNone p s o (in_blank p colon o)
 blank_none p s colon o =
     either (is_white o) (none tt) (either (begins_word o) (none tt) (either (o == 47) (none tt) (either (o == 34) (none tt) (either (o == 39) (none tt)
-    (either (o == 44) (none tt) (either (o == 125) (none tt) (either (o == 58) (either colon (none tt) (none tt)) (either (is_name p) (none tt) (value_none p s o)))))))))
+    (either (o == 44) (none tt) (either (o == 125) (none tt)
+    (either (o == 58) (either colon (none tt) (none tt)) (either (is_name p) (none tt) (value_none p s o)))))))))
 
 -- no token is open
 abbrev is_still : Mode → Bool
@@ -147,7 +148,8 @@ no_slashed w c h = go (number_read (w ++ 47 ∷ [])) refl h
     go (Ok n) k h = true≢false (sym (slash_in w) ∙ number_without_slash (w ++ 47 ∷ []) n (subst (ReadsNumber (w ++ 47 ∷ [])) k (number_reads (w ++ 47 ∷ []))))
 
 -- the token that the end would end is the one that ends before the octet, if one does
-same_left : (p : Place) (s : Known) (o : ℕ) (x : Lexeme) (c : Content) → is_sexp p ≡ false → is_plain s.mode ≡ true → at_end p s ≡ Ok (Some x) → said x.kind x.octets ≡ Ok c → IsLeft x (feed p s o)
+same_left : (p : Place) (s : Known) (o : ℕ) (x : Lexeme) (c : Content) → is_sexp p ≡ false → is_plain s.mode ≡ true → at_end p s ≡ Ok (Some x)
+    → said x.kind x.octets ≡ Ok c → IsLeft x (feed p s o)
 same_left p s o x c top plain h says = go s.mode plain h
   where
     operator : (b : Bool) (k : Keep) → b ≡ false → ends_at s (cond b (ends'.Token kinds.Operator k) (ends'.Refuse reasons.Incomplete)) ≡ Ok (Some x) → ⊥
@@ -157,7 +159,8 @@ same_left p s o x c top plain h says = go s.mode plain h
     behind : (kind : TokenKind) → cut s kind s.kept s.used ≡ x → IsLeft x (acts p s o (actions.Before kind keeps.Nothing modes.Blank))
     behind kind e = (ap (cut s kind s.kept) (let n : s.used - 0 ≡ s.used = omega arith in n) ∙ e, refl)
 
-    word : (b : Bool) → cut s kinds.Word s.kept s.used ≡ x → IsLeft x (cond b (Next (go_to s modes.KindName [])) (Left (cut s kinds.Word s.kept s.used) (past p kinds.Word modes.Blank [] s.used s.used)))
+    word : (b : Bool) → cut s kinds.Word s.kept s.used ≡ x → IsLeft x
+        (cond b (Next (go_to s modes.KindName [])) (Left (cut s kinds.Word s.kept s.used) (past p kinds.Word modes.Blank [] s.used s.used)))
     word true e = tt
     word false e = (e, refl)
 
@@ -165,23 +168,27 @@ same_left p s o x c top plain h says = go s.mode plain h
     words true e = tt
     words false e = word ((o == 46) && bytes_eq s.kept (codes "null")) e
 
-    names : (b : Bool) → cut s kinds.KindName s.kept s.used ≡ x → IsLeft x (acts p s o (cond b (actions.Go modes.KindName (keeps.One o)) (actions.Before kinds.KindName keeps.Nothing modes.Blank)))
+    names : (b : Bool) → cut s kinds.KindName s.kept s.used ≡ x
+        → IsLeft x (acts p s o (cond b (actions.Go modes.KindName (keeps.One o)) (actions.Before kinds.KindName keeps.Nothing modes.Blank)))
     names true e = tt
     names false e = behind kinds.KindName e
 
     numbers : (b d : Bool) → cut s kinds.Number s.kept s.used ≡ x
-        → IsLeft x (acts p s o (cond b (actions.Before kinds.Number keeps.Nothing modes.Blank) (cond d (actions.Go modes.NumberSlash keeps.Nothing) (actions.Go modes.Number (keeps.One o)))))
+        → IsLeft x (acts p s o (cond b (actions.Before kinds.Number keeps.Nothing modes.Blank)
+        (cond d (actions.Go modes.NumberSlash keeps.Nothing) (actions.Go modes.Number (keeps.One o)))))
     numbers true d e = behind kinds.Number e
     numbers false true e = tt
     numbers false false e = tt
 
     quotes : (b : Bool) → cut s kinds.QuotedSymbol s.kept s.used ≡ x
-        → IsLeft x (acts p s o (cond b (actions.Go (modes.Text styles.LongString inside.Plain) keeps.Nothing) (actions.Before kinds.QuotedSymbol keeps.Nothing modes.Blank)))
+        → IsLeft x (acts p s o (cond b (actions.Go (modes.Text styles.LongString inside.Plain) keeps.Nothing)
+        (actions.Before kinds.QuotedSymbol keeps.Nothing modes.Blank)))
     quotes true e = tt
     quotes false e = behind kinds.QuotedSymbol e
 
     colons : (b : Bool) → cut s (kinds.Mark marks.Colon) s.kept s.used ≡ x
-        → IsLeft x (acts p s o (cond b (actions.Give (kinds.Mark marks.Colons) keeps.Nothing) (actions.Before (kinds.Mark marks.Colon) keeps.Nothing modes.Blank)))
+        → IsLeft x (acts p s o (cond b (actions.Give (kinds.Mark marks.Colons) keeps.Nothing)
+        (actions.Before (kinds.Mark marks.Colon) keeps.Nothing modes.Blank)))
     colons true e = tt
     colons false e = behind (kinds.Mark marks.Colon) e
 
@@ -228,7 +235,8 @@ module _ (g : Catalog) (l : Limits) (used : ℕ) (v : Value) where
   noticed_value : (r : Reading) (s : Known) → LeavesValue v (noticed l r s)
   noticed_value r s = go (shut r.now && not (is_idle s.mode)) (nat_le (reaches r.frames r s) l.item)
     where
-      go : (a b : Bool) → LeavesValue v (if a then fails reasons.Unexpected else (if b then uses (record { scan = s; reading = r }) else fails reasons.ItemTooLong))
+      go : (a b : Bool) → LeavesValue v (if a then fails reasons.Unexpected else
+          (if b then uses (record { scan = s; reading = r }) else fails reasons.ItemTooLong))
       go true b = tt
       go false true = tt
       go false false = tt
@@ -239,7 +247,8 @@ module _ (g : Catalog) (l : Limits) (used : ℕ) (v : Value) where
   given_value s (refuses e) = tt
   given_value s (late e r) = worse_value v e (noticed l r s)
 
-  said_value : (s : Known) (r : Reading) (x : Lexeme) (c : Result Content Reason) → LeavesValue v (on_said c (λ c. behind_given l s (turn g l r (token_of x c))))
+  said_value : (s : Known) (r : Reading) (x : Lexeme) (c : Result Content Reason)
+      → LeavesValue v (on_said c (λ c. behind_given l s (turn g l r (token_of x c))))
   said_value s r x (Ok c) = given_value s (turn g l r (token_of x c))
   said_value s r x (Err e) = tt
 
@@ -256,7 +265,8 @@ module _ (g : Catalog) (l : Limits) (used : ℕ) (v : Value) where
   settled_value again s x (late e r) h = absurd h
 
   -- what waits is that value, and no token is open
-  still_value : (again : State → Effect) (m : State) (x : Outcome) → NoneLeft x → end_settled used (settle g l m.reading) ≡ Ok (Some v) → LeavesValue v (on_octet g l again m x)
+  still_value : (again : State → Effect) (m : State) (x : Outcome) → NoneLeft x → end_settled used (settle g l m.reading) ≡ Ok (Some v)
+      → LeavesValue v (on_octet g l again m x)
   still_value again m x h e = go (unsettled m.scan m.reading x)
     where
       go : (b : Bool) → LeavesValue v (if b then on_scan g l again m.reading x else on_settled g l again m.scan x (settle g l m.reading))
@@ -268,13 +278,15 @@ module _ (g : Catalog) (l : Limits) (used : ℕ) (v : Value) where
   still_takes (suc n) o m h e = still_value (λ k. takes g l n k o) m (feed (place m.reading) m.scan o) (still_none (place m.reading) m.scan o h) e
 
   -- the open token is that value
-  left_value : (n o : ℕ) (s : Known) (t : Turn) → is_still s.mode ≡ true → end_turned g l used t ≡ Ok (Some v) → LeavesValue v (behind_left (λ k. takes g l n k o) s t)
+  left_value : (n o : ℕ) (s : Known) (t : Turn) → is_still s.mode ≡ true → end_turned g l used t ≡ Ok (Some v)
+      → LeavesValue v (behind_left (λ k. takes g l n k o) s t)
   left_value n o s (goes r) h e = still_takes n o (with_scan s r) h e
   left_value n o s (gives w r) h e = let same : w ≡ v = cc in same
   left_value n o s (refuses f) h e = tt
   left_value n o s (late f r) h e = worse_value v f (takes g l n (with_scan s r) o)
 
-  token_value : (n o : ℕ) (r : Reading) (x : Lexeme) (c : Content) (y : Outcome) → IsLeft x y → said x.kind x.octets ≡ Ok c → end_turned g l used (turn g l r (token_of x c)) ≡ Ok (Some v) → LeavesValue v (on_scan g l (λ k. takes g l n k o) r y)
+  token_value : (n o : ℕ) (r : Reading) (x : Lexeme) (c : Content) (y : Outcome) → IsLeft x y → said x.kind x.octets ≡ Ok c
+      → end_turned g l used (turn g l r (token_of x c)) ≡ Ok (Some v) → LeavesValue v (on_scan g l (λ k. takes g l n k o) r y)
   token_value n o r x c (Next s) h k e = noticed_value r s
   token_value n o r x c (Given y s) h k e = said_value s r y (said y.kind y.octets)
   token_value n o r x c (Refused m f) h k e = tt
@@ -284,18 +296,21 @@ module _ (g : Catalog) (l : Limits) (used : ℕ) (v : Value) where
       (left_value n o s (turn g l r (token_of x c)) h.1 e))
 
   ready_value : (o start : ℕ) (c : List Slot) (fs : List Frame) (ss : Symbols) (s : Known) → is_top fs ≡ true → is_plain s.mode ≡ true
-      → end_ready g l used (at start c fs ss nows.Ready) (at_end (place (at start c fs ss nows.Ready)) s) ≡ Ok (Some v) → LeavesValue v (eats g l (record { scan = s; reading = at start c fs ss nows.Ready }) o)
+      → end_ready g l used (at start c fs ss nows.Ready) (at_end (place (at start c fs ss nows.Ready)) s) ≡ Ok (Some v)
+      → LeavesValue v (eats g l (record { scan = s; reading = at start c fs ss nows.Ready }) o)
   ready_value o start c (f ∷ fs) ss s top plain h = absurd cc
   ready_value o start c [] ss s top plain h = go (at_end places.Top s) refl h
     where
       r : Reading
       r = at start c [] ss nows.Ready
 
-      said_so : (x : Lexeme) → at_end places.Top s ≡ Ok (Some x) → (d : Result Content Reason) → said x.kind x.octets ≡ d → end_said g l used r x d ≡ Ok (Some v) → LeavesValue v (eats g l (record { scan = s; reading = r }) o)
+      said_so : (x : Lexeme) → at_end places.Top s ≡ Ok (Some x) → (d : Result Content Reason) → said x.kind x.octets ≡ d
+          → end_said g l used r x d ≡ Ok (Some v) → LeavesValue v (eats g l (record { scan = s; reading = r }) o)
       said_so x e (Ok d) k h = token_value 2 o r x d (feed places.Top s o) (same_left places.Top s o x d refl plain e k) k h
       said_so x e (Err f) k h = absurd cc
 
-      go : (x : Result (Option Lexeme) Reason) → at_end places.Top s ≡ x → end_ready g l used r x ≡ Ok (Some v) → LeavesValue v (eats g l (record { scan = s; reading = r }) o)
+      go : (x : Result (Option Lexeme) Reason) → at_end places.Top s ≡ x → end_ready g l used r x ≡ Ok (Some v)
+          → LeavesValue v (eats g l (record { scan = s; reading = r }) o)
       go (Ok None) e h = absurd (no_value g l (is_fresh r) used v h)
       go (Ok (Some x)) e h = said_so x e (said x.kind x.octets) refl h
       go (Err f) e h = absurd cc
@@ -307,7 +322,8 @@ module _ (g : Catalog) (l : Limits) (used : ℕ) (v : Value) where
 
 module _ (g : Catalog) (l : Limits) where
   ends_value : (o : ℕ) (s : Known) (start : ℕ) (c : List Slot) (fs : List Frame) (ss : Symbols) (now : Now) (v : Value) → StandsSo g l s (at start c fs ss now)
-      → ends g l (record { scan = s; reading = at start c fs ss now }) ≡ Ok (Some v) → LeavesValue v (eats g l (record { scan = s; reading = at start c fs ss now }) o)
+      → ends g l (record { scan = s; reading = at start c fs ss now }) ≡ Ok (Some v)
+      → LeavesValue v (eats g l (record { scan = s; reading = at start c fs ss now }) o)
   ends_value o s start c fs ss (nows.Pending k e) v so h = waits_value g l s.used v o (record { scan = s; reading = at start c fs ss (nows.Pending k e) }) h
   ends_value o s start c fs ss (nows.Long w e) v so h = waits_value g l s.used v o (record { scan = s; reading = at start c fs ss (nows.Long w e) }) h
   ends_value o s start c fs ss nows.Ready v so h = ready_value g l s.used v o start c fs ss s so.1.0 so.0 h
@@ -319,19 +335,22 @@ module _ (g : Catalog) (l : Limits) where
 -- 2. So for whole runs.
 
 module _ (g : Catalog) (l : Limits) (u : List ℕ) (o : ℕ) (v w : Value) (total : ℕ) (later : List (Value × ℕ)) where
-  effect_total : (to : ℕ) (again : State → Effect) (rest : State → Run) (e : Effect) → IsUntold e → ((n : State) → (rest n).given ≡ []) → (run_on to again rest e).given ≡ (w, total) ∷ later → total ≡ to
+  effect_total : (to : ℕ) (again : State → Effect) (rest : State → Run) (e : Effect) → IsUntold e → ((n : State) → (rest n).given ≡ [])
+      → (run_on to again rest e).given ≡ (w, total) ∷ later → total ≡ to
   effect_total to again rest (uses n) i none h = absurd (let never : [] ≡ (w, total) ∷ later = sym (none n) ∙ h in cc)
   effect_total to again rest (tells x n) i none h = absurd i
   effect_total to again rest (leaves x n) i none h = let same : Path (Value × ℕ) (x, to) (w, total) = cc in sym (ap (λ (y : Value × ℕ). y.1) same)
   effect_total to again rest (fails e) i none h = absurd cc
 
-  effect_value : (to : ℕ) (again : State → Effect) (rest : State → Run) (e : Effect) → IsUntold e → LeavesValue v e → ((n : State) → (rest n).given ≡ []) → (run_on to again rest e).given ≡ (w, total) ∷ later → w ≡ v
+  effect_value : (to : ℕ) (again : State → Effect) (rest : State → Run) (e : Effect) → IsUntold e → LeavesValue v e → ((n : State) → (rest n).given ≡ [])
+      → (run_on to again rest e).given ≡ (w, total) ∷ later → w ≡ v
   effect_value to again rest (uses n) i j none h = absurd (let never : [] ≡ (w, total) ∷ later = sym (none n) ∙ h in cc)
   effect_value to again rest (tells x n) i j none h = absurd i
   effect_value to again rest (leaves x n) i j none h = let same : Path (Value × ℕ) (x, to) (w, total) = cc in sym (ap (λ (y : Value × ℕ). y.0) same) ∙ j
   effect_value to again rest (fails e) i j none h = absurd cc
 
-  unused_now : (given : List (Value × ℕ)) (now : Result State Refusal) → StoodBehind g l u [] (record { given = given; now = now }) → run g l 0 begun u ≡ record { given = given; now = now } → ends_of g l now ≡ Ok (Some v)
+  unused_now : (given : List (Value × ℕ)) (now : Result State Refusal) → StoodBehind g l u [] (record { given = given; now = now })
+      → run g l 0 begun u ≡ record { given = given; now = now } → ends_of g l now ≡ Ok (Some v)
       → (run g l 0 begun (u ++ o ∷ [])).given ≡ given ++ (w, total) ∷ later → (total ≡ length u) × (w ≡ v)
   unused_now given (Err e) b ran h k = absurd cc
   unused_now given (Ok m) b ran h k =
@@ -342,7 +361,8 @@ module _ (g : Catalog) (l : Limits) (u : List ℕ) (o : ℕ) (v w : Value) (tota
       let untold = takes_untold g l 3 o m so.0 so.1 in
       let here = append_cancel_left given (run g l (length u) m (o ∷ [])).given ((w, total) ∷ later) more in (
         effect_total (length u) (λ n. eats g l n o) (λ n. run g l (length u + 1) n []) (eats g l m o) untold (λ n. refl) here,
-        effect_value (length u) (λ n. eats g l n o) (λ n. run g l (length u + 1) n []) (eats g l m o) untold (ends_value g l o m.scan r.start r.context r.frames r.notes r.now v so h) (λ n. refl) here,
+        effect_value (length u) (λ n. eats g l n o) (λ n. run g l (length u + 1) n []) (eats g l m o) untold
+            (ends_value g l o m.scan r.start r.context r.frames r.notes r.now v so h) (λ n. refl) here,
       )
 
   -- where the end would give a value, the first that the next octet gives is that value, and came before that octet

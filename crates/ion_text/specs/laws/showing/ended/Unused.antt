@@ -88,7 +88,8 @@ value_plainly p o =
 blank_plainly : (p : Place) (colon : Bool) (o : ℕ) → Plainly (in_blank p colon o)
 blank_plainly p colon o =
     both (is_white o) (yes refl) (both (begins_word o) (yes refl) (both (o == 47) (yes refl) (both (o == 34) (yes refl) (both (o == 39) (yes refl)
-    (both (o == 44) (yes refl) (both (o == 125) (yes refl) (both (o == 58) (both colon (yes refl) (yes refl)) (both (is_name p) (yes refl) (value_plainly p o)))))))))
+    (both (o == 44) (yes refl) (both (o == 125) (yes refl) (both (o == 58) (both colon (yes refl) (yes refl))
+    (both (is_name p) (yes refl) (value_plainly p o)))))))))
 
 digit_plainly : (p : Place) (e : Ending) (o : ℕ) → Plainly (digit_behind p e o)
 digit_plainly p endings.LoneMinus o = yes refl
@@ -98,7 +99,8 @@ digit_plainly p endings.Other o = yes refl
 
 table_plainly : (p : Place) (colon : Bool) (m : Mode) (o : ℕ) → is_plain m ≡ true → Plainly (next p colon m o)
 table_plainly p colon modes.Blank o h = blank_plainly p colon o
-table_plainly p colon modes.Slash o h = both (o == 47) (yes refl) (both (o == 42) (yes refl) (both (not (is_sexp p)) (yes refl) (both (is_operator_octet o) (yes refl) (yes refl))))
+table_plainly p colon modes.Slash o h = both (o == 47) (yes refl)
+    (both (o == 42) (yes refl) (both (not (is_sexp p)) (yes refl) (both (is_operator_octet o) (yes refl) (yes refl))))
 table_plainly p colon modes.LineComment o h = yes refl
 table_plainly p colon modes.BlockComment o h = yes refl
 table_plainly p colon modes.BlockCommentStar o h = both (o == 47) (yes refl) (both (o == 42) (yes refl) (yes refl))
@@ -108,10 +110,12 @@ table_plainly p colon modes.KindName o h = both (is_word_octet o) (yes refl) (ye
 table_plainly p colon modes.Number o h = both (is_stop o) (yes refl) (both (o == 47) (yes refl) (yes refl))
 table_plainly p colon modes.NumberSlash o h = both ((o == 47) || (o == 42)) (yes refl) (both (is_stop o) (yes refl) (yes refl))
 table_plainly p colon (modes.Operator e) o h =
-    both (is_digit o) (digit_plainly p e o) (both ((o == 105) && not (is_other e)) (yes refl) (both (not (is_sexp p)) (yes refl) (both (o == 47) (yes refl) (both (is_operator_octet o) (yes refl) (yes refl)))))
+    both (is_digit o) (digit_plainly p e o) (both ((o == 105) && not (is_other e)) (yes refl)
+    (both (not (is_sexp p)) (yes refl) (both (o == 47) (yes refl) (both (is_operator_octet o) (yes refl) (yes refl)))))
 table_plainly p colon modes.OperatorSlash o h = both ((o == 47) || (o == 42)) (yes refl) (both (is_operator_octet o) (yes refl) (yes refl))
 table_plainly p colon (modes.Infinity n) o h =
-    both ((n == 1) && (o == 110)) (yes refl) (both ((n == 2) && (o == 102)) (yes refl) (both ((n == 3) && not (is_word_octet o)) (yes refl) (both (is_sexp p) (yes refl) (yes refl))))
+    both ((n == 1) && (o == 110)) (yes refl) (both ((n == 2) && (o == 102)) (yes refl)
+    (both ((n == 3) && not (is_word_octet o)) (yes refl) (both (is_sexp p) (yes refl) (yes refl))))
 table_plainly p colon modes.Quotes o h = both (o == 39) (yes refl) (yes refl)
 table_plainly p colon modes.Quote o h = absurd cc
 table_plainly p colon (modes.Text s w) o h = absurd cc
@@ -135,7 +139,8 @@ acts_plainly p s o (actions.Give kind k) h = h.is
 acts_plainly p s o (actions.Before kind k m) h = parts (is_opening kind) (is_plain m) h.is
 acts_plainly p s o actions.EndWord h = word ((o == 46) && bytes_eq s.kept (codes "null"))
   where
-    word : (b : Bool) → IsPlainly (cond b (Next (go_to s modes.KindName [])) (Left (cut s kinds.Word s.kept s.used) (past p kinds.Word modes.Blank [] s.used s.used)))
+    word : (b : Bool) → IsPlainly (cond b (Next (go_to s modes.KindName []))
+        (Left (cut s kinds.Word s.kept s.used) (past p kinds.Word modes.Blank [] s.used s.used)))
     word true = tt
     word false = (refl, refl)
 acts_plainly p s o (actions.Split n) h = (refl, refl)
@@ -210,7 +215,8 @@ within_stays item start end t h = go (nat_le end (start + item))
     go true = h
     go false = tt
 
-top_stays : (item start end : ℕ) (c : List Slot) (v : Value) (d : Result (List Slot) Reason) (b : Bool) → OpensNone (if b then turned item start end d else within item start end (gives v (fresh c)))
+top_stays : (item start end : ℕ) (c : List Slot) (v : Value) (d : Result (List Slot) Reason) (b : Bool)
+    → OpensNone (if b then turned item start end d else within item start end (gives v (fresh c)))
 top_stays item start end c v (Ok d) true = within_stays item start end (goes (fresh d)) (refl, tt)
 top_stays item start end c v (Err e) true = tt
 top_stays item start end c v d false = within_stays item start end (gives v (fresh c)) tt
@@ -282,9 +288,12 @@ deeper_never depth r t h = go (nat_lt 0 depth)
     go false = h
 
 ready_never : (setting : Setting) (spot : Spot) (ss : Symbols) (m : Mark) → Never (on_ready setting spot [] ss (Mark' m))
-ready_never setting spot ss marks.ListOpen = deeper_never setting.limits.depth (at spot.start spot.context (frames.List ss [] ∷ []) [] nows.Ready) (refuses reasons.Depth) tt
-ready_never setting spot ss marks.SexpOpen = deeper_never setting.limits.depth (at spot.start spot.context (frames.Sexp ss [] ∷ []) [] nows.Ready) (refuses reasons.Depth) tt
-ready_never setting spot ss marks.FieldsOpen = deeper_never setting.limits.depth (braced spot.start spot.context ss) (late reasons.Depth (braced spot.start spot.context ss)) tt
+ready_never setting spot ss marks.ListOpen = deeper_never setting.limits.depth (at spot.start spot.context (frames.List ss [] ∷ []) [] nows.Ready)
+    (refuses reasons.Depth) tt
+ready_never setting spot ss marks.SexpOpen = deeper_never setting.limits.depth (at spot.start spot.context (frames.Sexp ss [] ∷ []) [] nows.Ready)
+    (refuses reasons.Depth) tt
+ready_never setting spot ss marks.FieldsOpen = deeper_never setting.limits.depth (braced spot.start spot.context ss)
+    (late reasons.Depth (braced spot.start spot.context ss)) tt
 ready_never setting spot [] marks.ListClose = tt
 ready_never setting spot (s ∷ ss) marks.ListClose = tt
 ready_never setting spot [] marks.SexpClose = tt
@@ -303,7 +312,8 @@ pending_never start c ss h marks.Colons = noted_never start c ss (held_symbol h)
 pending_never start c ss h _ = tt
 
 module _ (g : Catalog) (l : Limits) where
-  turn_stays : (start : ℕ) (c : List Slot) (fs : List Frame) (ss : Symbols) (now : Now) (t : Token) → is_top fs ≡ true → IsTopNow now → opens t.said ≡ false → OpensNone (turn g l (at start c fs ss now) t)
+  turn_stays : (start : ℕ) (c : List Slot) (fs : List Frame) (ss : Symbols) (now : Now) (t : Token) → is_top fs ≡ true → IsTopNow now → opens t.said ≡ false
+      → OpensNone (turn g l (at start c fs ss now) t)
   turn_stays start c (f ∷ fs) ss now t h i o = absurd cc
   turn_stays start c [] ss nows.Ready t h i o = ready_stays (under g l) (spot_at t.end (begun_at start t.start [] ss) c) ss t.said o
   turn_stays start c [] ss (nows.Pending k e) t h i o = pending_stays start c ss k t.said
@@ -313,7 +323,8 @@ module _ (g : Catalog) (l : Limits) where
   turn_stays start c [] ss (nows.LongName w) t h i o = absurd i
   turn_stays start c [] ss (nows.Keyed s) t h i o = absurd i
 
-  mark_never : (start : ℕ) (c : List Slot) (fs : List Frame) (ss : Symbols) (now : Now) (begin end : ℕ) (m : Mark) → is_top fs ≡ true → IsTopNow now → Never (turn g l (at start c fs ss now) (record { start = begin; end = end; said = Mark' m }))
+  mark_never : (start : ℕ) (c : List Slot) (fs : List Frame) (ss : Symbols) (now : Now) (begin end : ℕ) (m : Mark) → is_top fs ≡ true → IsTopNow now
+      → Never (turn g l (at start c fs ss now) (record { start = begin; end = end; said = Mark' m }))
   mark_never start c (f ∷ fs) ss now begin end m h i = absurd cc
   mark_never start c [] ss nows.Ready begin end m h i = ready_never (under g l) (spot_at end (begun_at start begin [] ss) c) ss m
   mark_never start c [] ss (nows.Pending k e) begin end m h i = pending_never start c ss k m
@@ -323,7 +334,8 @@ module _ (g : Catalog) (l : Limits) where
   mark_never start c [] ss (nows.LongName w) begin end m h i = absurd i
   mark_never start c [] ss (nows.Keyed s) begin end m h i = absurd i
 
-  settled_stays : (start : ℕ) (c : List Slot) (fs : List Frame) (ss : Symbols) (now : Now) → is_top fs ≡ true → IsTopNow now → OpensNone (settle g l (at start c fs ss now))
+  settled_stays : (start : ℕ) (c : List Slot) (fs : List Frame) (ss : Symbols) (now : Now) → is_top fs ≡ true → IsTopNow now
+      → OpensNone (settle g l (at start c fs ss now))
   settled_stays start c (f ∷ fs) ss now h i = absurd cc
   settled_stays start c [] ss nows.Ready h i = (refl, tt)
   settled_stays start c [] ss (nows.Pending k e) h i = released_stays (under g l) (spot_at e start c) ss k
@@ -377,13 +389,15 @@ module _ (g : Catalog) (l : Limits) where
         go (Err e) k = tt
         go (Ok c) k =
             let m = mark_says x.kind x.octets c h k in
-            given_untold s (turn g l r (token_of x c)) (subst (λ y. Never (turn g l r (token_of x y))) (sym m.1) (mark_never g l r.start r.context r.frames r.notes r.now x.start x.end m.0 a.0 a.1))
+            given_untold s (turn g l r (token_of x c)) (subst (λ y. Never (turn g l r (token_of x y))) (sym m.1)
+            (mark_never g l r.start r.context r.frames r.notes r.now x.start x.end m.0 a.0 a.1))
     scan_untold r (Left x s) a h = go (said x.kind x.octets) refl
       where
         go : (c : Result Content Reason) → said x.kind x.octets ≡ c → IsUntold (on_said c (λ c. behind_left again s (turn g l r (token_of x c))))
         go (Err e) k = tt
         go (Ok c) k =
-            left_untold s (turn g l r (token_of x c)) h.1 (turn_stays g l r.start r.context r.frames r.notes r.now (token_of x c) a.0 a.1 (said_opens x.kind x.octets c k h.0))
+            left_untold s (turn g l r (token_of x c)) h.1 (turn_stays g l r.start r.context r.frames r.notes r.now (token_of x c) a.0 a.1
+            (said_opens x.kind x.octets c k h.0))
     scan_untold r (Refused n e) a h = tt
 
     settled_untold : (s : Known) (x : Outcome) (t : Turn) → OpensNone t → IsPlainly x → IsUntold (on_settled g l again s x t)
@@ -397,11 +411,13 @@ module _ (g : Catalog) (l : Limits) where
       where
         go : (b : Bool) → IsUntold (if b then on_scan g l again m.reading x else on_settled g l again m.scan x (settle g l m.reading))
         go true = scan_untold m.reading x a p
-        go false = settled_untold m.scan x (settle g l m.reading) (settled_stays g l m.reading.start m.reading.context m.reading.frames m.reading.notes m.reading.now a.0 a.1) p
+        go false = settled_untold m.scan x (settle g l m.reading)
+            (settled_stays g l m.reading.start m.reading.context m.reading.frames m.reading.notes m.reading.now a.0 a.1) p
 
   pub takes_untold : (n o : ℕ) (m : State) → is_plain m.scan.mode ≡ true → AtTop m.reading → IsUntold (takes g l n m o)
   takes_untold zero o m p a = tt
-  takes_untold (suc n) o m p a = octet_untold (λ k. takes g l n k o) (λ k. takes_untold n o k) m (feed (place m.reading) m.scan o) a (feed_plainly (place m.reading) m.scan o p)
+  takes_untold (suc n) o m p a = octet_untold (λ k. takes g l n k o) (λ k. takes_untold n o k) m (feed (place m.reading) m.scan o) a
+      (feed_plainly (place m.reading) m.scan o p)
 
 -- 4. Where the end gives a value, it stands so.
 
@@ -510,8 +526,10 @@ module _ (g : Catalog) (l : Limits) where
   inside_given start (refuses e) k i = i
   inside_given start (late e r) k i = i
 
-  inside_end : (used item start end : ℕ) (c : Content) (t : Turn) (v : Value) → (IsClose false c → ⊥) → Spans false c item start end t → end_turned g l used t ≡ Ok (Some v) → ⊥
-  inside_end used item start end c (goes r) v unclosed (inl (inl k, e, f)) h = inside_given r.start (settle g l r) (settle_inside g l r.start r.context r.frames r.notes r.now k) (given_end used (settle g l r) v h)
+  inside_end : (used item start end : ℕ) (c : Content) (t : Turn) (v : Value) → (IsClose false c → ⊥) → Spans false c item start end t
+      → end_turned g l used t ≡ Ok (Some v) → ⊥
+  inside_end used item start end c (goes r) v unclosed (inl (inl k, e, f)) h =
+      inside_given r.start (settle g l r) (settle_inside g l r.start r.context r.frames r.notes r.now k) (given_end used (settle g l r) v h)
   inside_end used item start end c (goes r) v unclosed (inl (inr k, e, f)) h = let n : false ≡ true = k.0 in cc
   inside_end used item start end c (goes r) v unclosed (inr k) h = unclosed k.1
   inside_end used item start end c (gives w r) v unclosed k h = unclosed k.1
@@ -519,11 +537,13 @@ module _ (g : Catalog) (l : Limits) where
   inside_end used item start end c (late e r) v unclosed k h = late_never g l used e (Some v) h
 
   -- a brace opens a struct
-  brace_end : (used start : ℕ) (c : List Slot) (fs : List Frame) (ss : Symbols) (now : Now) (begin end : ℕ) (v : Value) → is_top fs ≡ true → IsTopNow now → end_turned g l used (turn g l (at start c fs ss now) (record { start = begin; end = end; said = Mark' marks.FieldsOpen })) ≡ Ok (Some v) → ⊥
+  brace_end : (used start : ℕ) (c : List Slot) (fs : List Frame) (ss : Symbols) (now : Now) (begin end : ℕ) (v : Value) → is_top fs ≡ true → IsTopNow now
+      → end_turned g l used (turn g l (at start c fs ss now) (record { start = begin; end = end; said = Mark' marks.FieldsOpen })) ≡ Ok (Some v) → ⊥
   brace_end used start c (f ∷ fs) ss now begin end v t i h = absurd cc
   brace_end used start c [] ss nows.Ready begin end v t i h = go (nat_lt 0 l.depth) h
     where
-      go : (b : Bool) → end_turned g l used (if b then goes (braced (begun_at start begin [] ss) c ss) else late reasons.Depth (braced (begun_at start begin [] ss) c ss)) ≡ Ok (Some v) → ⊥
+      go : (b : Bool) → end_turned g l used (if b then goes (braced (begun_at start begin [] ss) c ss) else late reasons.Depth
+          (braced (begun_at start begin [] ss) c ss)) ≡ Ok (Some v) → ⊥
       go true h = cc
       go false h = cc
   brace_end used start c [] ss (nows.Pending k e) begin end v t i h = cc
@@ -537,7 +557,8 @@ module _ (g : Catalog) (l : Limits) where
   StandsSo s r = (is_plain s.mode ≡ true) × AtTop r
 
   module _ (used : ℕ) (s : Known) (r : Reading) (v : Value) (ok : is_top r.frames ≡ true → IsTopNow r.now) where
-    token_top : (x : Lexeme) (c : Content) → at_end (place r) s ≡ Ok (Some x) → said x.kind x.octets ≡ Ok c → end_turned g l used (turn g l r (token_of x c)) ≡ Ok (Some v) → is_top r.frames ≡ true
+    token_top : (x : Lexeme) (c : Content) → at_end (place r) s ≡ Ok (Some x) → said x.kind x.octets ≡ Ok c → end_turned g l used (turn g l r (token_of x c))
+        ≡ Ok (Some v) → is_top r.frames ≡ true
     token_top x c e k h = go (is_top r.frames) refl
       where
         unclosed : IsClose false c → ⊥
@@ -547,9 +568,11 @@ module _ (g : Catalog) (l : Limits) where
         go true f = f
         go false f =
             absurd (inside_end used l.item (start_now r.now r.start x.start r.frames r.notes) x.end c (turn g l r (token_of x c)) v unclosed
-            (subst (λ b. Spans b c l.item (start_now r.now r.start x.start r.frames r.notes) x.end (turn g l r (token_of x c))) f (turn_spans g l r (token_of x c) ok)) h)
+            (subst (λ b. Spans b c l.item (start_now r.now r.start x.start r.frames r.notes) x.end (turn g l r (token_of x c))) f
+            (turn_spans g l r (token_of x c) ok)) h)
 
-    token_so : (x : Lexeme) (c : Content) → at_end (place r) s ≡ Ok (Some x) → said x.kind x.octets ≡ Ok c → end_turned g l used (turn g l r (token_of x c)) ≡ Ok (Some v) → StandsSo s r
+    token_so : (x : Lexeme) (c : Content) → at_end (place r) s ≡ Ok (Some x) → said x.kind x.octets ≡ Ok c → end_turned g l used (turn g l r (token_of x c))
+        ≡ Ok (Some v) → StandsSo s r
     token_so x c e k h = (go (token_plain (place r) s x e), (top, ok top))
       where
         top : is_top r.frames ≡ true
@@ -559,12 +582,14 @@ module _ (g : Catalog) (l : Limits) where
         go (inl p) = p
         go (inr q) =
             let says : c ≡ Mark' marks.FieldsOpen = fields_say x.octets c (subst (λ y. said y x.octets ≡ Ok c) q k) in
-            absurd (brace_end used r.start r.context r.frames r.notes r.now x.start x.end v top (ok top) (subst (λ y. end_turned g l used (turn g l r (token_of x y)) ≡ Ok (Some v)) says h))
+            absurd (brace_end used r.start r.context r.frames r.notes r.now x.start x.end v top (ok top)
+            (subst (λ y. end_turned g l used (turn g l r (token_of x y)) ≡ Ok (Some v)) says h))
 
     ready_so : end_ready g l used r (at_end (place r) s) ≡ Ok (Some v) → StandsSo s r
     ready_so h = go (at_end (place r) s) refl h
       where
-        said_so : (x : Lexeme) → at_end (place r) s ≡ Ok (Some x) → (c : Result Content Reason) → said x.kind x.octets ≡ c → end_said g l used r x c ≡ Ok (Some v) → StandsSo s r
+        said_so : (x : Lexeme) → at_end (place r) s ≡ Ok (Some x) → (c : Result Content Reason) → said x.kind x.octets ≡ c
+            → end_said g l used r x c ≡ Ok (Some v) → StandsSo s r
         said_so x e (Ok c) k h = token_so x c e k h
         said_so x e (Err f) k h = absurd cc
 
@@ -573,15 +598,19 @@ module _ (g : Catalog) (l : Limits) where
         go (Ok (Some x)) e h = said_so x e (said x.kind x.octets) refl h
         go (Err f) e h = absurd cc
 
-  waits_so : (used : ℕ) (s : Known) (start : ℕ) (c : List Slot) (fs : List Frame) (ss : Symbols) (now : Now) (end : ℕ) (v : Value) → IsTopNow now → SettlesWithin g l start end fs (settle g l (at start c fs ss now))
+  waits_so : (used : ℕ) (s : Known) (start : ℕ) (c : List Slot) (fs : List Frame) (ss : Symbols) (now : Now) (end : ℕ) (v : Value) → IsTopNow now
+      → SettlesWithin g l start end fs (settle g l (at start c fs ss now))
       → end_waiting g l used (at_end (place (at start c fs ss now)) s) (settle g l (at start c fs ss now)) ≡ Ok (Some v) → StandsSo s (at start c fs ss now)
   waits_so used s start c fs ss now end v i k h =
       let w = waiting_end used (at_end (place (at start c fs ss now)) s) (settle g l (at start c fs ss now)) v h in
       (blank_plain (place (at start c fs ss now)) s w.0, (settled_top start end fs (settle g l (at start c fs ss now)) k w.1, i))
 
-  pub ends_so : (s : Known) (start : ℕ) (c : List Slot) (fs : List Frame) (ss : Symbols) (now : Now) (v : Value) → (is_top fs ≡ true → IsTopNow now) → ends g l (record { scan = s; reading = at start c fs ss now }) ≡ Ok (Some v) → StandsSo s (at start c fs ss now)
-  ends_so s start c fs ss (nows.Pending k e) v ok h = waits_so s.used s start c fs ss (nows.Pending k e) e v tt (settle_spans g l start c fs ss (nows.Pending k e) 0 tt) h
-  ends_so s start c fs ss (nows.Long w e) v ok h = waits_so s.used s start c fs ss (nows.Long w e) e v tt (settle_spans g l start c fs ss (nows.Long w e) 0 tt) h
+  pub ends_so : (s : Known) (start : ℕ) (c : List Slot) (fs : List Frame) (ss : Symbols) (now : Now) (v : Value) → (is_top fs ≡ true → IsTopNow now)
+      → ends g l (record { scan = s; reading = at start c fs ss now }) ≡ Ok (Some v) → StandsSo s (at start c fs ss now)
+  ends_so s start c fs ss (nows.Pending k e) v ok h = waits_so s.used s start c fs ss (nows.Pending k e) e v tt
+      (settle_spans g l start c fs ss (nows.Pending k e) 0 tt) h
+  ends_so s start c fs ss (nows.Long w e) v ok h = waits_so s.used s start c fs ss (nows.Long w e) e v tt (settle_spans g l start c fs ss (nows.Long w e) 0 tt)
+      h
   ends_so s start c fs ss (nows.LongName w) v ok h = absurd cc
   ends_so s start c fs ss nows.Ready v ok h = ready_so s.used s (at start c fs ss nows.Ready) v ok h
   ends_so s start c fs ss nows.After v ok h = ready_so s.used s (at start c fs ss nows.After) v ok h

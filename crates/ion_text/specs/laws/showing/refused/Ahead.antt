@@ -24,7 +24,8 @@ use Rattle.ion_text.specs.laws.showing.refused.Halts.{NotColons}
 use Rattle.ion_text.specs.laws.reading.complete.Segments.{never}
 
 -- a list's last item, where the list is parted
-pub last_parted : (xs : List ℕ) (o : ℕ) (zs ys : List ℕ) → xs ++ o ∷ [] ≡ zs ++ ys → ((ys ≡ []) × (zs ≡ xs ++ o ∷ [])) ⊎ ((front : List ℕ) × (ys ≡ front ++ o ∷ []) × (xs ≡ zs ++ front))
+pub last_parted : (xs : List ℕ) (o : ℕ) (zs ys : List ℕ) → xs ++ o ∷ [] ≡ zs ++ ys → ((ys ≡ []) × (zs ≡ xs ++ o ∷ []))
+    ⊎ ((front : List ℕ) × (ys ≡ front ++ o ∷ []) × (xs ≡ zs ++ front))
 last_parted [] o [] ys e = inr ([], sym e, refl)
 last_parted [] o (z ∷ []) ys e = inl ((let t : [] ≡ ys = cc in sym t), (let h : o ≡ z = cc in ap (λ x. x ∷ []) (sym h)))
 last_parted [] o (z ∷ w ∷ zs) ys e = absurd (let t : [] ≡ w ∷ (zs ++ ys) = cc in cc)
@@ -61,7 +62,8 @@ open_kept p (o ∷ os) s t h i e =
 
 module _ (p : Place) (k : ℕ) (since : List ℕ) (s : Known) (o : ℕ) (sane : is_sane s.mode ≡ true) where
   -- Such an octet isn't in the front of `::`, whatever follows.
-  pub octet_colons : run p since (at modes.Blank [] true k k) ≡ Next s → NotColons (feed p s o) → (following : List ℕ) → BlankThen (codes "::") (since ++ o ∷ following) → ⊥
+  pub octet_colons : run p since (at modes.Blank [] true k k) ≡ Next s → NotColons (feed p s o) → (following : List ℕ)
+      → BlankThen (codes "::") (since ++ o ∷ following) → ⊥
   octet_colons ran not following (w, more, is, e) = by (parts_meet (since ++ o ∷ []) following (w ++ 58 ∷ []) (58 ∷ more) same)
     where
       same : (since ++ o ∷ []) ++ following ≡ (w ++ 58 ∷ []) ++ 58 ∷ more
@@ -93,13 +95,15 @@ module _ (p : Place) (k : ℕ) (since : List ℕ) (s : Known) (o : ℕ) (sane : 
           let z : true ≡ false = n in cc
       beyond (a ∷ y) f g =
           let colon : a ≡ 58 = cc in
-          let r : run p (58 ∷ y) one ≡ Next s = sym (run_behind p (w ++ 58 ∷ []) (58 ∷ y) (at modes.Blank [] true k k) one reached) ∙ (ap (λ x. run p x (at modes.Blank [] true k k)) (ap (λ x. (w ++ 58 ∷ []) ++ x ∷ y) (sym colon) ∙ sym f) ∙ ran) in
+          let r : run p (58 ∷ y) one ≡ Next s = sym (run_behind p (w ++ 58 ∷ []) (58 ∷ y) (at modes.Blank [] true k k) one reached)
+          ∙ (ap (λ x. run p x (at modes.Blank [] true k k)) (ap (λ x. (w ++ 58 ∷ []) ++ x ∷ y) (sym colon) ∙ sym f) ∙ ran) in
           given y r
         where
           given : (y : List ℕ) → run p (58 ∷ y) one ≡ Next s → ⊥
           given y r = cc
 
-      by : ((y : List ℕ) × (since ++ o ∷ [] ≡ (w ++ 58 ∷ []) ++ y) × (y ++ following ≡ 58 ∷ more)) ⊎ ((z : List ℕ) × (w ++ 58 ∷ [] ≡ (since ++ o ∷ []) ++ z) × (z ++ 58 ∷ more ≡ following)) → ⊥
+      by : ((y : List ℕ) × (since ++ o ∷ [] ≡ (w ++ 58 ∷ []) ++ y) × (y ++ following ≡ 58 ∷ more))
+          ⊎ ((z : List ℕ) × (w ++ 58 ∷ [] ≡ (since ++ o ∷ []) ++ z) × (z ++ 58 ∷ more ≡ following)) → ⊥
       by (inr (z, f, g)) = within' z f
       by (inl (y, f, g)) = elim (last_parted since o (w ++ 58 ∷ []) y f) [
         | inl (a, b) ↦ within' [] (b ∙ sym (append-nil (since ++ o ∷ [])))
@@ -107,7 +111,8 @@ module _ (p : Place) (k : ℕ) (since : List ℕ) (s : Known) (o : ℕ) (sane : 
       ]
 
   -- Nor is one in the front of `''` that goes on with no long string.
-  pub octet_quotes : (colon : Bool) → run p since (at modes.Blank [] colon k k) ≡ Next s → NoSegment true (feed p s o) → is_long_text s.mode ≡ false → (following : List ℕ) → BlankThen (codes "''") (since ++ o ∷ following) → ⊥
+  pub octet_quotes : (colon : Bool) → run p since (at modes.Blank [] colon k k) ≡ Next s → NoSegment true (feed p s o) → is_long_text s.mode ≡ false
+      → (following : List ℕ) → BlankThen (codes "''") (since ++ o ∷ following) → ⊥
   octet_quotes colon ran apart bare following (w, more, is, e) = by (parts_meet (since ++ o ∷ []) following (w ++ 39 ∷ []) (39 ∷ more) same)
     where
       same : (since ++ o ∷ []) ++ following ≡ (w ++ 39 ∷ []) ++ 39 ∷ more
@@ -136,14 +141,16 @@ module _ (p : Place) (k : ℕ) (since : List ℕ) (s : Known) (o : ℕ) (sane : 
           never true (open_kept p z m.0 one (follows_as p s o (Next m.0) sane fed).0 opened m.2).1 refl
 
       -- behind two quotes
-      at_two : (b : Bool) → (o == 39) ≡ b → NoSegment true (acts p two o (if b then go_on (modes.Text styles.LongString within.Plain) else before kinds.QuotedSymbol)) → ⊥
+      at_two : (b : Bool) → (o == 39) ≡ b → NoSegment true (acts p two o
+          (if b then go_on (modes.Text styles.LongString within.Plain) else before kinds.QuotedSymbol)) → ⊥
       at_two true f h = let z : true ≡ false = h.1 in cc
       at_two false f h = let z : true ≡ false = h in cc
 
       in_text : is_long_text s.mode ≡ true → ⊥
       in_text h = never (is_long_text s.mode) bare h
 
-      third : (c : ℕ) (y : List ℕ) (b : Bool) → (c == 39) ≡ b → follow (acts p two c (if b then go_on (modes.Text styles.LongString within.Plain) else before kinds.QuotedSymbol)) (λ t. run p y t) ≡ Next s → ⊥
+      third : (c : ℕ) (y : List ℕ) (b : Bool) → (c == 39) ≡ b
+          → follow (acts p two c (if b then go_on (modes.Text styles.LongString within.Plain) else before kinds.QuotedSymbol)) (λ t. run p y t) ≡ Next s → ⊥
       third c y true f h = in_text (subst LongOn h (long_run p y long refl))
       third c y false f h = cc
 
@@ -159,9 +166,11 @@ module _ (p : Place) (k : ℕ) (since : List ℕ) (s : Known) (o : ℕ) (sane : 
           let z : true ≡ false = n.1 in cc
       beyond (a ∷ y) f g =
           let quote : a ≡ 39 = cc in
-          behind_two y (sym (run_behind p (w ++ 39 ∷ []) (39 ∷ y) (at modes.Blank [] colon k k) one reached) ∙ (ap (λ x. run p x (at modes.Blank [] colon k k)) (ap (λ x. (w ++ 39 ∷ []) ++ x ∷ y) (sym quote) ∙ sym f) ∙ ran))
+          behind_two y (sym (run_behind p (w ++ 39 ∷ []) (39 ∷ y) (at modes.Blank [] colon k k) one reached)
+          ∙ (ap (λ x. run p x (at modes.Blank [] colon k k)) (ap (λ x. (w ++ 39 ∷ []) ++ x ∷ y) (sym quote) ∙ sym f) ∙ ran))
 
-      by : ((y : List ℕ) × (since ++ o ∷ [] ≡ (w ++ 39 ∷ []) ++ y) × (y ++ following ≡ 39 ∷ more)) ⊎ ((z : List ℕ) × (w ++ 39 ∷ [] ≡ (since ++ o ∷ []) ++ z) × (z ++ 39 ∷ more ≡ following)) → ⊥
+      by : ((y : List ℕ) × (since ++ o ∷ [] ≡ (w ++ 39 ∷ []) ++ y) × (y ++ following ≡ 39 ∷ more))
+          ⊎ ((z : List ℕ) × (w ++ 39 ∷ [] ≡ (since ++ o ∷ []) ++ z) × (z ++ 39 ∷ more ≡ following)) → ⊥
       by (inr (z, f, g)) = within' z f
       by (inl (y, f, g)) = elim (last_parted since o (w ++ 39 ∷ []) y f) [
         | inl (a, b) ↦ within' [] (b ∙ sym (append-nil (since ++ o ∷ [])))

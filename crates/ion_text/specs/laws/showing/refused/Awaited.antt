@@ -29,7 +29,8 @@ use Rattle.ion_text.specs.laws.showing.refused.Halting.{follows}
 use Rattle.ion_text.specs.laws.showing.refused.Halts.{Halted, TurnRefuses, ScanRefused, StopsAt}
 use Rattle.ion_text.specs.laws.showing.refused.Unended.{used, waited}
 
-module _ (g : Catalog) (l : Limits) (u : List ℕ) (o : ℕ) (vs : List Value) (h : Halted g l u o vs) (x : Placed) (xs : List Placed) (some : h.b.item ≡ x ∷ xs) where
+module _ (g : Catalog) (l : Limits) (u : List ℕ) (o : ℕ) (vs : List Value) (h : Halted g l u o vs) (x : Placed) (xs : List Placed)
+    (some : h.b.item ≡ x ∷ xs) where
   abbrev s : Known
   s = h.s
 
@@ -45,7 +46,8 @@ module _ (g : Catalog) (l : Limits) (u : List ℕ) (o : ℕ) (vs : List Value) (
   abbrev k : OpenBehind p s u (h.b.front ++ h.b.item) h.ahead
   k = behind_tokens p s u (h.b.front ++ h.b.item) h.ahead h.b.scanned
 
-  module _ (following : List ℕ) (v rest : List ℕ) (t : List Value) (cut : u ≡ v ++ rest) (w : Whole g l v (rest ++ o ∷ following) t) (e : w.tokens ≡ h.b.front ++ h.b.item) where
+  module _ (following : List ℕ) (v rest : List ℕ) (t : List Value) (cut : u ≡ v ++ rest) (w : Whole g l v (rest ++ o ∷ following) t)
+      (e : w.tokens ≡ h.b.front ++ h.b.item) where
     there : IsWaiting g l r.now × (places.Top ≡ p)
     there = waits_there g l u vs s r h.ahead A h.b (used g l u o vs h x xs some) x xs some (o ∷ following) (follows g l u o vs h following) v rest t cut w e
 
@@ -58,7 +60,8 @@ module _ (g : Catalog) (l : Limits) (u : List ℕ) (o : ℕ) (vs : List Value) (
 
     on : (all : List Value) × Going g l r [] all
     on =
-        let m = going_behind g l u vs s r h.ahead A h.b (used g l u o vs h x xs some) x xs some (o ∷ following) (follows g l u o vs h following) v rest t cut w [] (e ∙ sym (append-nil (h.b.front ++ h.b.item))) in
+        let m = going_behind g l u vs s r h.ahead A h.b (used g l u o vs h x xs some) x xs some (o ∷ following) (follows g l u o vs h following) v rest t cut w
+        [] (e ∙ sym (append-nil (h.b.front ++ h.b.item))) in
         (m.0, subst (λ n. Going g l n [] m.0) (waited g l u o vs h x xs some there.0) m.1)
 
     ends : TurnEnds g l (settle g l r) on.0
@@ -66,18 +69,22 @@ module _ (g : Catalog) (l : Limits) (u : List ℕ) (o : ℕ) (vs : List Value) (
 
     -- what waits ended within the limit
     bound : end_of_now r.now 0 ≤ r.start + l.item
-    bound = settled_bound g l r.start (end_of_now r.now 0) r.frames (settle g l r) [] on.0 (ap is_top none_open) (settle_spans g l r.start r.context r.frames r.notes r.now 0 there.0) (inr ends)
+    bound = settled_bound g l r.start (end_of_now r.now 0) r.frames (settle g l r) [] on.0 (ap is_top none_open)
+        (settle_spans g l r.start r.context r.frames r.notes r.now 0 there.0) (inr ends)
 
     shuts_colons : k.colon ≡ true → BlankThen (codes "::") (k.since ++ o ∷ following) → ⊥
-    shuts_colons = no_colons g l u vs s r h.ahead A h.b (used g l u o vs h x xs some) x xs some (o ∷ following) (follows g l u o vs h following) v rest t cut w e
+    shuts_colons = no_colons g l u vs s r h.ahead A h.b (used g l u o vs h x xs some) x xs some (o ∷ following) (follows g l u o vs h following) v rest t cut w
+        e
 
     shuts_quotes : ends_long (h.b.front ++ h.b.item) ≡ true → BlankThen (codes "''") (k.since ++ o ∷ following) → ⊥
-    shuts_quotes = no_quotes g l u vs s r h.ahead A h.b (used g l u o vs h x xs some) x xs some (o ∷ following) (follows g l u o vs h following) v rest t cut w e
+    shuts_quotes = no_quotes g l u vs s r h.ahead A h.b (used g l u o vs h x xs some) x xs some (o ∷ following) (follows g l u o vs h following) v rest t cut w
+        e
 
     -- a symbol waits
     module _ (q : Held) (end : ℕ) (now : r.now ≡ nows.Pending q end) where
       waits_so : (y : Outcome) → feed p s o ≡ y → unsettled s r (feed p s o) ≡ true → waits_now (is_top r.frames) (nows.Pending q end) y ≡ true
-      waits_so y f i = sym (or_none (waits_now (is_top r.frames) (nows.Pending q end) y)) ∙ (sym (ap (λ n. waits_now (is_top r.frames) n y || in_segment n s) now) ∙ (sym (ap (unsettled s r) f) ∙ i))
+      waits_so y f i = sym (or_none (waits_now (is_top r.frames) (nows.Pending q end) y))
+          ∙ (sym (ap (λ n. waits_now (is_top r.frames) n y || in_segment n s) now) ∙ (sym (ap (unsettled s r) f) ∙ i))
         where
           or_none : (b : Bool) → (b || false) ≡ b
           or_none true = refl
@@ -107,7 +114,8 @@ module _ (g : Catalog) (l : Limits) (u : List ℕ) (o : ℕ) (vs : List Value) (
           go true j = shuts_quotes long_there (next_segment p k.colon k.end s k.since o k.holds n f j following)
           go false j = long_fits l r n none_open q end now (subst (λ n. end_of_now n 0 ≤ r.start + l.item) now bound) j z m
       waiting (Given y n) f i m = shuts_quotes long_there (given_segment p k.colon k.end s k.since o k.holds y n f i following)
-      waiting (Left y n) f i m = shuts_quotes long_there (left_quotes p k.colon k.end s k.since o k.holds y n h.b.fine f (quoted (is_top r.frames) (is_quoted y.kind) i) following)
+      waiting (Left y n) f i m = shuts_quotes long_there (left_quotes p k.colon k.end s k.since o k.holds y n h.b.fine f
+          (quoted (is_top r.frames) (is_quoted y.kind) i) following)
       waiting (Refused n z) f i m = absurd cc
 
       long_stops : unsettled s r (feed p s o) ≡ true → ScanRefused g l r (feed p s o) → ⊥
@@ -115,7 +123,8 @@ module _ (g : Catalog) (l : Limits) (u : List ℕ) (o : ℕ) (vs : List Value) (
         where
           go : (b : Bool) → waits r (feed p s o) ≡ b → (y : Bool) → in_segment r.now s ≡ y → (b || y) ≡ true → ⊥
           go true f y j n = waiting (feed p s o) refl (sym (ap (λ m. waits_now (is_top r.frames) m (feed p s o)) now) ∙ f) m
-          go false f true j n = shuts_quotes long_there (text_quotes p k.colon k.end s k.since (o ∷ following) k.holds (in_text s q end (ap (λ m. in_segment m s) (sym now) ∙ j)))
+          go false f true j n = shuts_quotes long_there (text_quotes p k.colon k.end s k.since (o ∷ following) k.holds
+              (in_text s q end (ap (λ m. in_segment m s) (sym now) ∙ j)))
           go false f false j n = absurd cc
 
     ends_not : (y : Turn) → TurnEnds g l y on.0 → TurnRefuses g l y → ⊥

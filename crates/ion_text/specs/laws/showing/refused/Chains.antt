@@ -43,7 +43,9 @@ module _ (g : Catalog) (l : Limits) where
   module _ (u : List ℕ) (o : ℕ) where
     module _ (vs : List Value) where
       -- where it was settled before the octet
-      module _ (n : ℕ) (again : ChainsAgain g l u o vs n) (s : Known) (r : Reading) (ahead : List ℕ) (next : Continues (o ∷ []) ahead) (b : Before g l u o vs s r ahead) (kept : Kept g l u o vs s r ahead b) (enough : Enough (suc n) s o) (shut : unsettled s r (feed (place r) s o) ≡ false) where
+      module _ (n : ℕ) (again : ChainsAgain g l u o vs n) (s : Known) (r : Reading) (ahead : List ℕ) (next : Continues (o ∷ []) ahead)
+          (b : Before g l u o vs s r ahead) (kept : Kept g l u o vs s r ahead b) (enough : Enough (suc n) s o)
+          (shut : unsettled s r (feed (place r) s o) ≡ false) where
         abbrev not_waiting : waits r (feed (place r) s o) ≡ false
         not_waiting = (or_parts (waits r (feed (place r) s o)) (in_segment r.now s) shut).0
 
@@ -53,12 +55,15 @@ module _ (g : Catalog) (l : Limits) where
           bare : is_top r.frames ≡ true → is_long_text s.mode ≡ false
           colon : is_top r.frames ≡ true → (y : Lexeme) (t : Known) → feed (place r) s o ≡ Left y t → y.kind ≡ kinds.Mark marks.Colon
 
-        settled : ShownAtTop → (z : Turn) → settle g l r ≡ z → Reads g l Scanned u vs s ahead (λ n. ApartAt o s n) z → Leading g l (λ n. (place n ≡ place r) × (is_top n.frames ≡ is_top r.frames)) z
-            → Leading g l (λ n. IsFree g l n.now) z → Leading g l (λ n. settle g l n ≡ goes n) z → Chain g l u o vs (on_settled g l (λ k. takes g l n k o) s (feed (place r) s o) z)
+        settled : ShownAtTop → (z : Turn) → settle g l r ≡ z → Reads g l Scanned u vs s ahead (λ n. ApartAt o s n) z
+            → Leading g l (λ n. (place n ≡ place r) × (is_top n.frames ≡ is_top r.frames)) z
+            → Leading g l (λ n. IsFree g l n.now) z → Leading g l (λ n. settle g l n ≡ goes n) z
+            → Chain g l u o vs (on_settled g l (λ k. takes g l n k o) s (feed (place r) s o) z)
         settled sh (goes m) f h i j q =
             subst (λ p. Chain g l u o vs (on_scan g l (λ k. takes g l n k o) m (feed p s o))) i.0
             (scan_chain g l u o vs n again s m ahead next h (record {
-              colons = λ a d. subst (λ p. NotColons (feed p s o)) (sym i.0) (sh.colons (sym i.1 ∙ ap is_top (fresh_parts m.start m.context m.frames m.notes m.now a).0) d);
+              colons = λ a d. subst (λ p. NotColons (feed p s o)) (sym i.0)
+                  (sh.colons (sym i.1 ∙ ap is_top (fresh_parts m.start m.context m.frames m.notes m.now a).0) d);
               waits = λ a. free_waits g l s m.now j;
               bare = λ a d. sh.bare (sym i.1 ∙ ap is_top (fresh_parts m.start m.context m.frames m.notes m.now a).0);
             }) enough (inr q) (feed (place m) s o) refl)
@@ -76,17 +81,29 @@ module _ (g : Catalog) (l : Limits) where
               fresh = h.1;
               colon = λ y t e. sh.colon top y t (ap (λ p. feed p s o) (sym i.0) ∙ e);
             }
-        settled sh (refuses z) f h i j q = record { s = s; r = r; ahead = ahead; next = next; b = b; kept = kept; stops = inr (shut, subst (TurnRefuses g l) (sym f) tt) }
+        settled sh (refuses z) f h i j q = record {
+          s = s;
+          r = r;
+          ahead = ahead;
+          next = next;
+          b = b;
+          kept = kept;
+          stops =
+              inr (shut, subst (TurnRefuses g l) (sym f) tt);
+        }
         settled sh (late z m) f h i j q =
-            worse_chain g l u o vs z (on_scan g l (λ k. takes g l n k o) m (feed (place r) s o)) (record { s = s; r = r; ahead = ahead; next = next; b = b; kept = kept; stops = inr (shut, subst (TurnRefuses g l) (sym f) tt) })
+            worse_chain g l u o vs z (on_scan g l (λ k. takes g l n k o) m (feed (place r) s o))
+            (record { s = s; r = r; ahead = ahead; next = next; b = b; kept = kept; stops = inr (shut, subst (TurnRefuses g l) (sym f) tt) })
 
         waited : ShownAtTop → Chain g l u o vs (on_settled g l (λ k. takes g l n k o) s (feed (place r) s o) (settle g l r))
         waited sh =
-            settled sh (settle g l r) refl (settled_read g l Scanned u vs s ahead o r.start r.context r.frames r.notes r.now b not_waiting) (settle_same g l r.start r.context r.frames r.notes r.now)
+            settled sh (settle g l r) refl (settled_read g l Scanned u vs s ahead o r.start r.context r.frames r.notes r.now b not_waiting)
+            (settle_same g l r.start r.context r.frames r.notes r.now)
             (settle_free g l r.start r.context r.frames r.notes r.now) (settle_still g l r.start r.context r.frames r.notes r.now)
 
         still : settle g l r ≡ goes r → Chain g l u o vs (on_settled g l (λ k. takes g l n k o) s (feed (place r) s o) (settle g l r))
-        still q = subst (λ z. Chain g l u o vs (on_settled g l (λ k. takes g l n k o) s (feed (place r) s o) z)) (sym q) (scan_chain g l u o vs n again s r ahead next b kept enough (inr q) (feed (place r) s o) refl)
+        still q = subst (λ z. Chain g l u o vs (on_settled g l (λ k. takes g l n k o) s (feed (place r) s o) z)) (sym q)
+            (scan_chain g l u o vs n again s r ahead next b kept enough (inr q) (feed (place r) s o) refl)
 
         not_sexp : is_top r.frames ≡ true → is_sexp (place r) ≡ false
         not_sexp top = ap is_sexp (top_place r.frames r.now top)
@@ -100,18 +117,21 @@ module _ (g : Catalog) (l : Limits) where
         quoted true false a b h = cc
         quoted false q a b h = cc
 
-        long_shows : (w : List ℕ) (end : ℕ) → r.now ≡ nows.Long w end → (i q : Bool) → is_idle s.mode ≡ i → is_quoting s.mode ≡ q → (i || q) ≡ true → is_top r.frames ≡ true → (y : Lexeme) (t : Known) → feed (place r) s o ≡ Left y t → y.kind ≡ kinds.Mark marks.Colon
+        long_shows : (w : List ℕ) (end : ℕ) → r.now ≡ nows.Long w end → (i q : Bool) → is_idle s.mode ≡ i → is_quoting s.mode ≡ q → (i || q) ≡ true
+            → is_top r.frames ≡ true → (y : Lexeme) (t : Known) → feed (place r) s o ≡ Left y t → y.kind ≡ kinds.Mark marks.Colon
         long_shows w end e true q f h k top y t x = idle_colon g l u o vs (place r) s f (not_sexp top) y t x
         long_shows w end e false true f h k top y t x =
             let d = behind_tokens (place r) s u (b.front ++ b.item) ahead b.scanned in
             let z = quoting_left (place r) s t o y (exact_at (place r) d.colon d.end s d.since d.holds) h x in
-            absurd (quoted (is_top r.frames) (is_quoted y.kind) top (ap is_quoted z.0) (sym (ap (λ m. waits_now (is_top r.frames) m (Left y t)) e) ∙ (sym (ap (waits r) x) ∙ not_waiting)))
+            absurd (quoted (is_top r.frames) (is_quoted y.kind) top (ap is_quoted z.0) (sym (ap (λ m. waits_now (is_top r.frames) m (Left y t)) e)
+            ∙ (sym (ap (waits r) x) ∙ not_waiting)))
         long_shows w end e false false f h k top y t x = absurd cc
 
         settle_chain : Chain g l u o vs (on_settled g l (λ k. takes g l n k o) s (feed (place r) s o) (settle g l r))
         settle_chain = go r.now refl
           where
-            same : (m : Now) → r.now ≡ m → settle g l (at r.start r.context r.frames r.notes m) ≡ goes (at r.start r.context r.frames r.notes m) → settle g l r ≡ goes r
+            same : (m : Now) → r.now ≡ m → settle g l (at r.start r.context r.frames r.notes m) ≡ goes (at r.start r.context r.frames r.notes m)
+                → settle g l r ≡ goes r
             same m e f = subst (λ m. settle g l (at r.start r.context r.frames r.notes m) ≡ goes (at r.start r.context r.frames r.notes m)) (sym e) f
 
             go : (m : Now) → r.now ≡ m → Chain g l u o vs (on_settled g l (λ k. takes g l n k o) s (feed (place r) s o) (settle g l r))
@@ -123,22 +143,32 @@ module _ (g : Catalog) (l : Limits) where
                 })
             go (nows.Long w end) e =
                 waited (record {
-                  colons = λ top c. absurd (never s.colon (long_colon g l u vs s r ahead (ApartAt o s r) b (behind_used g l u vs s r ahead (ApartAt o s r) b) w end e (top_none r.frames top)) c);
+                  colons = λ top c. absurd (never s.colon (long_colon g l u vs s r ahead (ApartAt o s r) b (behind_used g l u vs s r ahead (ApartAt o s r) b) w
+                      end e (top_none r.frames top)) c);
                   bare = λ top. no_text s w end (subst (λ m. in_segment m s ≡ false) e (or_parts (waits r (feed (place r) s o)) (in_segment r.now s) shut).1);
                   colon = λ top. long_shows w end e (is_idle s.mode) (is_quoting s.mode) refl refl (subst (Waits g l s) e (kept.waits top)) top;
                 })
             go (nows.LongName w) e =
                 let d = (subst (λ m. NowStands r.context r.frames r.notes b.item m) e b.stands).struct in
-                waited (record { colons = λ top c. absurd (inside r.frames d top); bare = λ top. absurd (inside r.frames d top); colon = λ top. absurd (inside r.frames d top) })
+                waited (record {
+                  colons = λ top c. absurd (inside r.frames d top);
+                  bare = λ top. absurd (inside r.frames d top);
+                  colon =
+                      λ top. absurd (inside r.frames d top);
+                })
             go nows.Ready e = still (same nows.Ready e refl)
             go nows.After e = still (same nows.After e refl)
             go nows.Name e = still (same nows.Name e refl)
             go (nows.Keyed k) e = still (same (nows.Keyed k) e refl)
 
-      octet_chain : (n : ℕ) → ChainsAgain g l u o vs n → (s : Known) (r : Reading) (ahead : List ℕ) → Continues (o ∷ []) ahead → (b : Before g l u o vs s r ahead) → Kept g l u o vs s r ahead b → Enough (suc n) s o → Chain g l u o vs (on_octet g l (λ k. takes g l n k o) (with_scan s r) (feed (place r) s o))
+      octet_chain : (n : ℕ) → ChainsAgain g l u o vs n → (s : Known) (r : Reading) (ahead : List ℕ) → Continues (o ∷ []) ahead
+          → (b : Before g l u o vs s r ahead) → Kept g l u o vs s r ahead b → Enough (suc n) s o
+          → Chain g l u o vs (on_octet g l (λ k. takes g l n k o) (with_scan s r) (feed (place r) s o))
       octet_chain n again s r ahead next b kept enough = go (unsettled s r (feed (place r) s o)) refl
         where
-          go : (w : Bool) → unsettled s r (feed (place r) s o) ≡ w → Chain g l u o vs (if w then on_scan g l (λ k. takes g l n k o) r (feed (place r) s o) else on_settled g l (λ k. takes g l n k o) s (feed (place r) s o) (settle g l r))
+          go : (w : Bool) → unsettled s r (feed (place r) s o) ≡ w
+              → Chain g l u o vs (if w then on_scan g l (λ k. takes g l n k o) r (feed (place r) s o) else on_settled g l (λ k. takes g l n k o) s
+              (feed (place r) s o) (settle g l r))
           go true e = scan_chain g l u o vs n again s r ahead next b kept enough (inl e) (feed (place r) s o) refl
           go false e = settle_chain n again s r ahead next b kept enough e
 
@@ -147,9 +177,11 @@ module _ (g : Catalog) (l : Limits) where
       takes_chain (suc n) s r ahead next b kept enough = octet_chain n (takes_chain n) s r ahead next b kept enough
 
     -- What an octet does behind octets of which none is refused.
-    pub eats_chain : (vs : List Value) (m : State) → Stood g l u vs m → HasBegun g l m.scan m.reading → Waits g l m.scan m.reading.now → Chain g l u o vs (takes g l 3 m o)
+    pub eats_chain : (vs : List Value) (m : State) → Stood g l u vs m → HasBegun g l m.scan m.reading → Waits g l m.scan m.reading.now
+        → Chain g l u o vs (takes g l 3 m o)
     unfolding open_at
-    eats_chain vs m b begun_still wait = takes_chain vs 3 m.scan m.reading [] (o ∷ [], refl) (open_at g l u vs o m.scan m.reading b) (record { colons = colons; waits = λ top. wait; bare = bare }) tt
+    eats_chain vs m b begun_still wait = takes_chain vs 3 m.scan m.reading [] (o ∷ [], refl) (open_at g l u vs o m.scan m.reading b)
+        (record { colons = colons; waits = λ top. wait; bare = bare }) tt
       where
         colons : is_fresh m.reading ≡ true → m.scan.colon ≡ true → NotColons (feed (place m.reading) m.scan o)
         colons f c = go (feed (place m.reading) m.scan o) (feed_follows (place m.reading) m.scan o b.sane)
@@ -164,7 +196,8 @@ module _ (g : Catalog) (l : Limits) where
             go (Refused n e) k = tt
 
         bare : is_fresh m.reading ≡ true → ends_long b.front ≡ true → is_long_text m.scan.mode ≡ false
-        bare f h = by (b.apart (ap ends_long (ap (λ y. b.front ++ y) (no_item g l Scanned u vs m.scan m.reading [] (NoLongText m.scan.mode) b f) ∙ append-nil b.front) ∙ h))
+        bare f h = by (b.apart (ap ends_long (ap (λ y. b.front ++ y) (no_item g l Scanned u vs m.scan m.reading [] (NoLongText m.scan.mode) b f)
+            ∙ append-nil b.front) ∙ h))
           where
             by : IsLongNow m.reading.now ⊎ NoLongText m.scan.mode → is_long_text m.scan.mode ≡ false
             by (inl i) = absurd (subst IsLongNow (fresh_parts m.reading.start m.reading.context m.reading.frames m.reading.notes m.reading.now f).2 i)
@@ -182,27 +215,35 @@ module _ (g : Catalog) (l : Limits) where
         parts = fresh_parts m.reading.start m.reading.context m.reading.frames m.reading.notes m.reading.now h.fresh
 
         ready : settle g l m.reading ≡ goes m.reading
-        ready = subst (λ n. settle g l (at m.reading.start m.reading.context m.reading.frames m.reading.notes n) ≡ goes (at m.reading.start m.reading.context m.reading.frames m.reading.notes n)) (sym parts.2) refl
+        ready = subst (λ n. settle g l (at m.reading.start m.reading.context m.reading.frames m.reading.notes n)
+            ≡ goes (at m.reading.start m.reading.context m.reading.frames m.reading.notes n)) (sym parts.2) refl
 
         again : State → Effect
         again = λ k. takes g l 2 k o
 
-        colon : (y : Lexeme) (t : Known) (c : Content) → c ≡ Mark' marks.Colon → (now : Now) → m.reading.now ≡ now → now ≡ nows.Ready → NotLeaves g l (behind_left again t (turn g l m.reading (token_of y c)))
+        colon : (y : Lexeme) (t : Known) (c : Content) → c ≡ Mark' marks.Colon → (now : Now) → m.reading.now ≡ now → now ≡ nows.Ready
+            → NotLeaves g l (behind_left again t (turn g l m.reading (token_of y c)))
         colon y t c e nows.Ready f k =
-            subst (λ n. NotLeaves g l (behind_left again t (turn g l (at m.reading.start m.reading.context m.reading.frames m.reading.notes n) (token_of y c)))) (sym f)
-            (subst (λ z. NotLeaves g l (behind_left again t (turn g l (at m.reading.start m.reading.context m.reading.frames m.reading.notes nows.Ready) (token_of y z)))) (sym e) tt)
+            subst (λ n. NotLeaves g l (behind_left again t (turn g l (at m.reading.start m.reading.context m.reading.frames m.reading.notes n) (token_of y c))))
+            (sym f)
+            (subst (λ z. NotLeaves g l (behind_left again t (turn g l (at m.reading.start m.reading.context m.reading.frames m.reading.notes nows.Ready)
+            (token_of y z)))) (sym e) tt)
         colon y t c e _ f k = absurd cc
 
-        left : (y : Lexeme) (t : Known) → y.kind ≡ kinds.Mark marks.Colon → (c : Result Content Reason) → said y.kind y.octets ≡ c → NotLeaves g l (on_said c (λ c. behind_left again t (turn g l m.reading (token_of y c))))
+        left : (y : Lexeme) (t : Known) → y.kind ≡ kinds.Mark marks.Colon → (c : Result Content Reason) → said y.kind y.octets ≡ c
+            → NotLeaves g l (on_said c (λ c. behind_left again t (turn g l m.reading (token_of y c))))
         left y t k (Ok c) e = colon y t c (mark_said y.kind y.octets marks.Colon c k (said_body y.kind y.octets c e)) m.reading.now refl parts.2
         left y t k (Err z) e = tt
 
         scanned : (x : Outcome) → feed (place m.reading) m.scan o ≡ x → NotLeaves g l (on_scan g l again m.reading x)
         scanned (Next t) e = noticed_stays g l m.reading t
-        scanned (Given y t) e = said_stays g l (said y.kind y.octets) (λ c. behind_given l t (turn g l m.reading (token_of y c))) (λ c. given_stays g l t (turn g l m.reading (token_of y c)))
+        scanned (Given y t) e = said_stays g l (said y.kind y.octets) (λ c. behind_given l t (turn g l m.reading (token_of y c)))
+            (λ c. given_stays g l t (turn g l m.reading (token_of y c)))
         scanned (Left y t) e = left y t (h.colon y t e) (said y.kind y.octets) refl
         scanned (Refused n z) e = tt
 
-        octet : (w : Bool) → NotLeaves g l (if w then on_scan g l again m.reading (feed (place m.reading) m.scan o) else on_settled g l again m.scan (feed (place m.reading) m.scan o) (settle g l m.reading))
+        octet : (w : Bool) → NotLeaves g l (if w then on_scan g l again m.reading (feed (place m.reading) m.scan o) else on_settled g l again m.scan
+            (feed (place m.reading) m.scan o) (settle g l m.reading))
         octet true = scanned (feed (place m.reading) m.scan o) refl
-        octet false = subst (λ z. NotLeaves g l (on_settled g l again m.scan (feed (place m.reading) m.scan o) z)) (sym ready) (scanned (feed (place m.reading) m.scan o) refl)
+        octet false = subst (λ z. NotLeaves g l (on_settled g l again m.scan (feed (place m.reading) m.scan o) z)) (sym ready)
+            (scanned (feed (place m.reading) m.scan o) refl)

@@ -42,10 +42,12 @@ module _ (g : Catalog) (l : Limits) (u : List ℕ) (o : ℕ) (vs : List Value) (
 
   no_colons : NoColonsFollow g l u vs s r h.ahead (o ∷ []) (ApartAt o s r) h.b h.next
   no_colons fresh c following b =
-      octet_colons p k.end k.since s o h.b.sane (subst (λ (x : Bool). run p k.since (at modes.Blank [] x k.end k.end) ≡ Next s) c k.reached) (h.kept.colons fresh (k.holds.flag ∙ c)) following b
+      octet_colons p k.end k.since s o h.b.sane (subst (λ (x : Bool). run p k.since (at modes.Blank [] x k.end k.end) ≡ Next s) c k.reached)
+      (h.kept.colons fresh (k.holds.flag ∙ c)) following b
 
   no_quotes : NoQuotesFollow g l u vs s r h.ahead (o ∷ []) (ApartAt o s r) h.b h.next
-  no_quotes fresh c following b = by (h.b.apart (ap ends_long (ap (λ x. h.b.front ++ x) (no_item g l Scanned u vs s r h.ahead (ApartAt o s r) h.b fresh) ∙ append-nil h.b.front) ∙ c))
+  no_quotes fresh c following b = by (h.b.apart (ap ends_long (ap (λ x. h.b.front ++ x) (no_item g l Scanned u vs s r h.ahead (ApartAt o s r) h.b fresh)
+      ∙ append-nil h.b.front) ∙ c))
     where
       by : IsLongNow r.now ⊎ ApartAt o s r → ⊥
       by (inl i) = subst IsLongNow (fresh_parts r.start r.context r.frames r.notes r.now fresh).2 i
@@ -72,12 +74,14 @@ module _ (g : Catalog) (l : Limits) (u : List ℕ) (o : ℕ) (vs : List Value) (
     where
       go : (x : Outcome) → feed p s o ≡ x → Chosen
       go (Next t) e =
-          let f = escape p k.colon k.end t (k.since ++ o ∷ []) (subst (λ y. Sound p k.colon k.end k.since o y) e (feed_sound p k.colon k.end s k.since o k.holds)) in
+          let f = escape p k.colon k.end t (k.since ++ o ∷ []) (subst (λ y. Sound p k.colon k.end k.since o y) e
+          (feed_sound p k.colon k.end s k.since o k.holds)) in
           record {
             octets = f.octets;
             are = f.are;
             ends = λ z i n.
-                absurd (escaped p t f.octets z f.escapes (subst (λ y. Is p z (follow y (λ t. run p f.octets t))) e i) (let used = feed_used p s t o e in omega (arith, n, used)));
+                absurd (escaped p t f.octets z f.escapes (subst (λ y. Is p z (follow y (λ t. run p f.octets t))) e i) (let used = feed_used p s t o e in
+                omega (arith, n, used)));
           }
       go (Given y t) e = record {
         octets = [];

@@ -142,7 +142,8 @@ module _ (g : Catalog) (l : Limits) where
       worse_chain e (leaves v m) h = h
 
       -- where a token is left, none is open behind it at the top level
-      pub left_idle : (s t : Known) (r : Reading) (x : Lexeme) (c : Content) → is_sane s.mode ≡ true → Fine s → feed (place r) s o ≡ Left x t → said x.kind x.octets ≡ Ok c → Leading g l (λ n. is_top n.frames ≡ true → is_idle t.mode ≡ true) (turn g l r (token_of x c))
+      pub left_idle : (s t : Known) (r : Reading) (x : Lexeme) (c : Content) → is_sane s.mode ≡ true → Fine s → feed (place r) s o ≡ Left x t
+          → said x.kind x.octets ≡ Ok c → Leading g l (λ n. is_top n.frames ≡ true → is_idle t.mode ≡ true) (turn g l r (token_of x c))
       left_idle s t r x c sane fine e k = by (is_top r.frames) refl
         where
           P : Reading → Type 0
@@ -170,10 +171,12 @@ module _ (g : Catalog) (l : Limits) where
 
           by : (b : Bool) → is_top r.frames ≡ b → Leading g l P (turn g l r (token_of x c))
           by true top = any (turn g l r (token_of x c)) ((follows_as (place r) s o (Left x t) sane e).0 (ap is_sexp (top_place r.frames r.now top)))
-          by false top = inside (turn g l r (token_of x c)) (subst (λ b. Spans b c l.item start x.end (turn g l r (token_of x c))) top (turn_spans g l r (token_of x c) (never_top g l r top)))
+          by false top = inside (turn g l r (token_of x c)) (subst (λ b. Spans b c l.item start x.end (turn g l r (token_of x c))) top
+              (turn_spans g l r (token_of x c) (never_top g l r top)))
 
       -- no token is open at the top level behind what was left, and what was left before a colon's octet is a colon
-      pub idle_colon : (p : Place) (t : Known) → is_idle t.mode ≡ true → is_sexp p ≡ false → (y : Lexeme) (w : Known) → feed p t o ≡ Left y w → y.kind ≡ kinds.Mark marks.Colon
+      pub idle_colon : (p : Place) (t : Known) → is_idle t.mode ≡ true → is_sexp p ≡ false → (y : Lexeme) (w : Known) → feed p t o ≡ Left y w
+          → y.kind ≡ kinds.Mark marks.Colon
       idle_colon p t i top y w e = by (subst (IdleLeft p t.used) e (idle_left p t o i))
         where
           by : IdleLeft p t.used (Left y w) → y.kind ≡ kinds.Mark marks.Colon
@@ -182,25 +185,35 @@ module _ (g : Catalog) (l : Limits) where
 
       -- where the octet comes again with fewer tries
       abbrev pub ChainsAgain : ℕ → Type 0
-      ChainsAgain n = (s : Known) (r : Reading) (ahead : List ℕ) → Continues (o ∷ []) ahead → (b : Before vs s r ahead) → Kept vs s r ahead b → Enough n s o → Chain (takes g l n (with_scan s r) o)
+      ChainsAgain n = (s : Known) (r : Reading) (ahead : List ℕ) → Continues (o ∷ []) ahead → (b : Before vs s r ahead) → Kept vs s r ahead b → Enough n s o
+          → Chain (takes g l n (with_scan s r) o)
 
-      module _ (n : ℕ) (again : ChainsAgain n) (s : Known) (r : Reading) (ahead : List ℕ) (next : Continues (o ∷ []) ahead) (b : Before vs s r ahead) (kept : Kept vs s r ahead b) (enough : Enough (suc n) s o) where
+      module _ (n : ℕ) (again : ChainsAgain n) (s : Known) (r : Reading) (ahead : List ℕ) (next : Continues (o ∷ []) ahead) (b : Before vs s r ahead)
+          (kept : Kept vs s r ahead b) (enough : Enough (suc n) s o) where
         halted : StopsAt s r (feed (place r) s o) → Halted vs
         halted h = record { s = s; r = r; ahead = ahead; next = next; b = b; kept = kept; stops = h }
 
         -- a token was left
-        module _ (y : Lexeme) (t : Known) (e : feed (place r) s o ≡ Left y t) (direct : (unsettled s r (feed (place r) s o) ≡ true) ⊎ (settle g l r ≡ goes r)) where
+        module _ (y : Lexeme) (t : Known) (e : feed (place r) s o ≡ Left y t) (direct : (unsettled s r (feed (place r) s o) ≡ true)
+            ⊎ (settle g l r ≡ goes r)) where
           stopped : ScanRefused r (Left y t) → Halted vs
           stopped h = halted (inl (direct, subst (ScanRefused r) (sym e) h))
 
           fine : Finely s.mode (Left y t)
           fine = finely_as (place r) s o (Left y t) b.fine e
 
-          turned : (c : Content) → said y.kind y.octets ≡ Ok c → (z : Turn) → turn g l r (token_of y c) ≡ z → Reads g l Scanned u vs t (o ∷ []) (λ n. ApartAt o t n) z
-              → Leading g l (λ n. is_fresh n ≡ true → t.colon ≡ false) z → Leading g l (λ n. is_top n.frames ≡ true → is_idle t.mode ≡ true) z → Chain (behind_left (λ k. takes g l n k o) t z)
+          turned : (c : Content) → said y.kind y.octets ≡ Ok c → (z : Turn) → turn g l r (token_of y c) ≡ z
+              → Reads g l Scanned u vs t (o ∷ []) (λ n. ApartAt o t n) z
+              → Leading g l (λ n. is_fresh n ≡ true → t.colon ≡ false) z → Leading g l (λ n. is_top n.frames ≡ true → is_idle t.mode ≡ true) z
+              → Chain (behind_left (λ k. takes g l n k o) t z)
           turned c k (goes m) f h i j =
               again t m (o ∷ []) ([], refl) h
-              (record { colons = λ a d. absurd (never t.colon (i a) d); waits = λ a. idle_waits g l t m.now (j a); bare = λ a d. idle_no_text t.mode (j (ap is_top (fresh_parts m.start m.context m.frames m.notes m.now a).0)) })
+              (record {
+                colons = λ a d. absurd (never t.colon (i a) d);
+                waits = λ a. idle_waits g l t m.now (j a);
+                bare =
+                    λ a d. idle_no_text t.mode (j (ap is_top (fresh_parts m.start m.context m.frames m.notes m.now a).0));
+              })
               (less_enough n (place r) s t o y b.fine enough e)
           turned c k (gives v m) f h i j =
               let parts = fresh_parts m.start m.context m.frames m.notes m.now h.1 in
@@ -209,15 +222,24 @@ module _ (g : Catalog) (l : Limits) where
                 ahead = o ∷ [];
                 next = ([], refl);
                 b = h.0;
-                kept = record { colons = λ a d. absurd (never t.colon (i a) d); waits = λ a. idle_waits g l t m.now idle; bare = λ a d. idle_no_text t.mode idle };
+                kept = record {
+                  colons = λ a d. absurd (never t.colon (i a) d);
+                  waits =
+                      λ a. idle_waits g l t m.now idle;
+                  bare = λ a d. idle_no_text t.mode idle;
+                };
                 fresh = h.1;
                 colon = idle_colon (place m) t idle (ap is_sexp (top_place m.frames m.now (ap is_top parts.0)));
               }
-          turned c k (refuses z) f h i j = stopped (λ c' k'. subst TurnRefuses (sym (ap (λ a. turn g l r (token_of y a)) (let q : Ok c' ≡ Ok c = sym k' ∙ k in let q' : c' ≡ c = cc in q') ∙ f)) tt)
+          turned c k (refuses z) f h i j = stopped (λ c' k'. subst TurnRefuses
+              (sym (ap (λ a. turn g l r (token_of y a)) (let q : Ok c' ≡ Ok c = sym k' ∙ k in let q' : c' ≡ c = cc in q') ∙ f)) tt)
           turned c k (late z m) f h i j =
-              worse_chain z (takes g l n (with_scan t m) o) (stopped (λ c' k'. subst TurnRefuses (sym (ap (λ a. turn g l r (token_of y a)) (let q : Ok c' ≡ Ok c = sym k' ∙ k in let q' : c' ≡ c = cc in q') ∙ f)) tt))
+              worse_chain z (takes g l n (with_scan t m) o) (stopped
+              (λ c' k'. subst TurnRefuses (sym (ap (λ a. turn g l r (token_of y a)) (let q : Ok c' ≡ Ok c = sym k' ∙ k in let q' : c' ≡ c = cc in q') ∙ f))
+              tt))
 
-          left_chain : (c : Result Content Reason) → said y.kind y.octets ≡ c → Chain (on_said c (λ c. behind_left (λ k. takes g l n k o) t (turn g l r (token_of y c))))
+          left_chain : (c : Result Content Reason) → said y.kind y.octets ≡ c
+              → Chain (on_said c (λ c. behind_left (λ k. takes g l n k o) t (turn g l r (token_of y c))))
           left_chain (Err z) k = stopped (λ c' k'. absurd (let q : Err z ≡ Ok c' = sym k ∙ k' in cc))
           left_chain (Ok c) k =
               turned c k (turn g l r (token_of y c)) refl (left_reads g l u vs o s t r ahead next b y e fine.3 fine c k)
@@ -227,10 +249,12 @@ module _ (g : Catalog) (l : Limits) where
               told_colon z q = (subst (Keeps (place r) s) q (feed_keeps (place r) s o)).2
 
         -- an octet at the scanner
-        pub scan_chain : (unsettled s r (feed (place r) s o) ≡ true) ⊎ (settle g l r ≡ goes r) → (x : Outcome) → feed (place r) s o ≡ x → Chain (on_scan g l (λ k. takes g l n k o) r x)
+        pub scan_chain : (unsettled s r (feed (place r) s o) ≡ true) ⊎ (settle g l r ≡ goes r) → (x : Outcome) → feed (place r) s o ≡ x
+            → Chain (on_scan g l (λ k. takes g l n k o) r x)
         scan_chain direct (Next t) e = chain_by (noticed l r t) (noticed_stays g l r t) (λ z q. halted (inl (direct, subst (ScanRefused r) (sym e) (z, q))))
         scan_chain direct (Given y t) e =
-            chain_by (on_said (said y.kind y.octets) (λ c. behind_given l t (turn g l r (token_of y c)))) (said_stays g l (said y.kind y.octets) (λ c. behind_given l t (turn g l r (token_of y c))) (λ c. given_stays g l t (turn g l r (token_of y c))))
+            chain_by (on_said (said y.kind y.octets) (λ c. behind_given l t (turn g l r (token_of y c))))
+            (said_stays g l (said y.kind y.octets) (λ c. behind_given l t (turn g l r (token_of y c))) (λ c. given_stays g l t (turn g l r (token_of y c))))
             (λ z q. halted (inl (direct, subst (ScanRefused r) (sym e) tt)))
         scan_chain direct (Refused i z) e = halted (inl (direct, subst (ScanRefused r) (sym e) tt))
         scan_chain direct (Left y t) e = left_chain y t e direct (said y.kind y.octets) refl

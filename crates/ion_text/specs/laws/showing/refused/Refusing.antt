@@ -49,16 +49,20 @@ module _ (g : Catalog) (l : Limits) where
 
       between : h.b.item ≡ [] → length v ≤ length x.front
       between f =
-          let i = longest_before g l u vs h.s h.r h.ahead (ApartAt o h.s h.r) h.b used f (o ∷ ch.octets) (follows g l u o vs h ch.octets) v rest t cut w (λ z zs e q i n. let k = ch.ends z.lexeme i n in fresh_left g l u o vs h f v rest (o ∷ ch.octets) t w z zs e k.0 k.1) in
+          let i = longest_before g l u vs h.s h.r h.ahead (ApartAt o h.s h.r) h.b used f (o ∷ ch.octets) (follows g l u o vs h ch.octets) v rest t cut w
+          (λ z zs e q i n. let k = ch.ends z.lexeme i n in fresh_left g l u o vs h f v rest (o ∷ ch.octets) t w z zs e k.0 k.1) in
           let fresh = (no_tokens g l u vs h.s h.r h.ahead (o ∷ []) (ApartAt o h.s h.r) h.b h.next f).0 in
-          let ends : length x.front ≡ start_of h.s.mode h.s.start h.s.used = x.ends ∙ ap (λ (y : Bool). if y then start_of h.s.mode h.s.start h.s.used else h.r.start) fresh in
+          let ends : length x.front ≡ start_of h.s.mode h.s.start h.s.used =
+          x.ends ∙ ap (λ (y : Bool). if y then start_of h.s.mode h.s.start h.s.used else h.r.start) fresh in
           omega (arith, i, ends)
 
       within : (y : Placed) (ys : List Placed) → h.b.item ≡ y ∷ ys → length v ≤ length x.front
-      within y ys f = by (ends_before g l u vs h.s h.r h.ahead (ApartAt o h.s h.r) h.b used y ys f (o ∷ ch.octets) (follows g l u o vs h ch.octets) v rest t cut w (λ z zs e i n. let k = ch.ends z.lexeme i n in item_left g l u o vs h y ys f ch.octets v rest t cut w z zs e k.0 k.1))
+      within y ys f = by (ends_before g l u vs h.s h.r h.ahead (ApartAt o h.s h.r) h.b used y ys f (o ∷ ch.octets) (follows g l u o vs h ch.octets) v rest t cut
+          w (λ z zs e i n. let k = ch.ends z.lexeme i n in item_left g l u o vs h y ys f ch.octets v rest t cut w z zs e k.0 k.1))
         where
           ends : length x.front ≡ h.r.start
-          ends = x.ends ∙ ap (λ (y : Bool). if y then start_of h.s.mode h.s.start h.s.used else h.r.start) (new g l u vs h.s h.r h.ahead (ApartAt o h.s h.r) h.b used y ys f)
+          ends = x.ends ∙ ap (λ (y : Bool). if y then start_of h.s.mode h.s.start h.s.used else h.r.start)
+              (new g l u vs h.s h.r h.ahead (ApartAt o h.s h.r) h.b used y ys f)
 
           by : (length v ≤ h.r.start) ⊎ (w.tokens ≡ h.b.front ++ h.b.item) → length v ≤ length x.front
           by (inl i) = omega (arith, i, ends)
@@ -77,7 +81,8 @@ module _ (g : Catalog) (l : Limits) where
         all : rest ≡ [] → v ≡ u ++ o ∷ [] → ⊥
         all f i =
             none [] t
-            (subst (λ y. Document g l y t) (i ∙ sym (append-nil (u ++ o ∷ []))) (whole_document g l v ([] ++ []) t (subst (λ y. Whole g l v (y ++ []) t) f (whole [] tt))))
+            (subst (λ y. Document g l y t) (i ∙ sym (append-nil (u ++ o ∷ [])))
+            (whole_document g l v ([] ++ []) t (subst (λ y. Whole g l v (y ++ []) t) f (whole [] tt))))
 
         by : ((rest ≡ []) × (v ≡ u ++ o ∷ [])) ⊎ ((front : List ℕ) × (rest ≡ front ++ o ∷ []) × (u ≡ v ++ front)) → length v ≤ length x.front
         by (inl (f, i)) = absurd (all f i)
@@ -92,21 +97,25 @@ module _ (g : Catalog) (l : Limits) where
   plain_parts (x ∷ a) b = ap (λ y. x.0 ∷ y) (plain_parts a b)
 
   -- what one refused octet gave stands before it
-  refused_by : (u : List ℕ) (o : ℕ) (vs : List Value) (to : ℕ) (r : Refusal) (x : Effect) → Chain g l u o vs x → (run_on to (λ n. eats g l n o) (λ n. run g l (to + 1) n []) x).now ≡ Err r
+  refused_by : (u : List ℕ) (o : ℕ) (vs : List Value) (to : ℕ) (r : Refusal) (x : Effect) → Chain g l u o vs x
+      → (run_on to (λ n. eats g l n o) (λ n. run g l (to + 1) n []) x).now ≡ Err r
       → Halted g l u o (vs ++ plain (run_on to (λ n. eats g l n o) (λ n. run g l (to + 1) n []) x).given)
   refused_by u o vs to r (uses m) c e = absurd cc
   refused_by u o vs to r (tells v m) c e = absurd cc
   refused_by u o vs to r (fails y) c e = subst (Halted g l u o) (sym (append-nil vs)) c
   refused_by u o vs to r (leaves v m) c e = go (eats g l m o) (again_chain g l u o (vs ++ v ∷ []) m c) (gives_once g l u o (vs ++ v ∷ []) m c) e
     where
-      go : (x : Effect) → Chain g l u o (vs ++ v ∷ []) x → NotLeaves g l x → (once_more to (λ n. run g l (to + 1) n []) x).now ≡ Err r → Halted g l u o (vs ++ v ∷ plain (once_more to (λ n. run g l (to + 1) n []) x).given)
+      go : (x : Effect) → Chain g l u o (vs ++ v ∷ []) x → NotLeaves g l x → (once_more to (λ n. run g l (to + 1) n []) x).now ≡ Err r
+          → Halted g l u o (vs ++ v ∷ plain (once_more to (λ n. run g l (to + 1) n []) x).given)
       go (uses k) c n e = absurd cc
       go (tells y k) c n e = absurd cc
       go (leaves y k) c n e = absurd n
       go (fails y) c n e = c
 
-  ran_stood : (u : List ℕ) (given : List (Value × ℕ)) (now : Result State Refusal) (n : State) → StoodBehind g l u [] (record { given = given; now = now }) → EndsStill g l now → EndsWaiting g l now → now ≡ Ok n → (o : ℕ) → Chain g l u o (plain given) (eats g l n o)
-  ran_stood u given (Ok m) n b still wait e o = subst (λ k. Chain g l u o (plain given) (eats g l k o)) (let same : m ≡ n = cc in same) (eats_chain g l u o (plain given) m b still wait)
+  ran_stood : (u : List ℕ) (given : List (Value × ℕ)) (now : Result State Refusal) (n : State) → StoodBehind g l u [] (record { given = given; now = now })
+      → EndsStill g l now → EndsWaiting g l now → now ≡ Ok n → (o : ℕ) → Chain g l u o (plain given) (eats g l n o)
+  ran_stood u given (Ok m) n b still wait e o = subst (λ k. Chain g l u o (plain given) (eats g l k o)) (let same : m ≡ n = cc in same)
+      (eats_chain g l u o (plain given) m b still wait)
   ran_stood u given (Err q) n b still wait e o = absurd cc
 
   stop_shown : (u : List ℕ) (r : Refusal) (p : Stop g l u r) → Shown (Whole g l) (p.before ++ p.o ∷ []) (plain (run g l 0 begun u).given)
@@ -128,7 +137,8 @@ module _ (g : Catalog) (l : Limits) where
 
       chain : Chain g l p.before p.o (plain before.given) (eats g l p.n p.o)
       chain =
-          ran_stood p.before before.given before.now p.n (run_ran g l p.before [] [] 0 begun (begun_stood g l)) (run_still g l p.before [] [] 0 begun (begun_stood g l) still)
+          ran_stood p.before before.given before.now p.n (run_ran g l p.before [] [] 0 begun (begun_stood g l))
+          (run_still g l p.before [] [] 0 begun (begun_stood g l) still)
           (run_waits g l p.before [] [] 0 begun (begun_stood g l) tt) p.ran p.o
 
       halted : Halted g l p.before p.o (plain before.given ++ plain last.given)

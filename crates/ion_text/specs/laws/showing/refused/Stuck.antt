@@ -40,7 +40,8 @@ module _ (g : Catalog) (l : Limits) where
   ends_goes (late z r) ts all e d = d
 
   -- what settles to a fresh reading goes on from there
-  settled_fresh : (x : Turn) (later : List Value) (c : List Slot) (ts : List Placed) (all : List Value) → on_turn x done ≡ walked later (fresh c) → TurnGoes g l x ts all → (rest : List Value) × Going g l (fresh c) ts rest
+  settled_fresh : (x : Turn) (later : List Value) (c : List Slot) (ts : List Placed) (all : List Value) → on_turn x done ≡ walked later (fresh c)
+      → TurnGoes g l x ts all → (rest : List Value) × Going g l (fresh c) ts rest
   settled_fresh (goes r) later c ts all e d = (all, subst (λ n. Going g l n ts all) (walked_now g l [] later r (fresh c) e).1 d)
   settled_fresh (gives v r) later c ts all e d = (d.0, subst (λ n. Going g l n ts d.0) (walked_now g l (v ∷ []) later r (fresh c) e).1 d.2)
   settled_fresh (refuses z) later c ts all e d = absurd d
@@ -57,15 +58,19 @@ module _ (g : Catalog) (l : Limits) where
     p = place h.r
 
     -- a token that was left goes on with nothing that was settled
-    pub left_plain : (z : Placed) (t : Known) (c : Content) → feed p s o ≡ Left z.lexeme t → said z.lexeme.kind z.lexeme.octets ≡ Ok c → (c ≡ Mark' marks.Colons → ⊥) × ((w : List ℕ) → c ≡ Long w → ⊥)
+    pub left_plain : (z : Placed) (t : Known) (c : Content) → feed p s o ≡ Left z.lexeme t → said z.lexeme.kind z.lexeme.octets ≡ Ok c
+        → (c ≡ Mark' marks.Colons → ⊥) × ((w : List ℕ) → c ≡ Long w → ⊥)
     left_plain z t c e i =
         let body = said_body z.lexeme.kind z.lexeme.octets c i in (
-          λ f. never (is_colons z.lexeme.kind) (left_colons p s t o z.lexeme h.b.sane e) (ap is_colons (mark_kind z.lexeme.kind z.lexeme.octets marks.Colons (subst (λ y. IsBody z.lexeme.kind z.lexeme.octets (Ok y)) f body))),
-          λ w f. never (is_segment z.lexeme.kind) (finely_as p s o (Left z.lexeme t) h.b.fine e).1 (segment_kind z.lexeme.kind z.lexeme.octets w (subst (λ y. IsBody z.lexeme.kind z.lexeme.octets (Ok y)) f body)),
+          λ f. never (is_colons z.lexeme.kind) (left_colons p s t o z.lexeme h.b.sane e)
+              (ap is_colons (mark_kind z.lexeme.kind z.lexeme.octets marks.Colons (subst (λ y. IsBody z.lexeme.kind z.lexeme.octets (Ok y)) f body))),
+          λ w f. never (is_segment z.lexeme.kind) (finely_as p s o (Left z.lexeme t) h.b.fine e).1
+              (segment_kind z.lexeme.kind z.lexeme.octets w (subst (λ y. IsBody z.lexeme.kind z.lexeme.octets (Ok y)) f body)),
         )
 
     -- where nothing is open, a token that is left before the octet is the first of no piece
-    module _ (none : h.b.item ≡ []) (v rest following : List ℕ) (t : List Value) (w : Whole g l v (rest ++ following) t) (z : Placed) (zs : List Placed) (e : w.tokens ≡ h.b.front ++ z ∷ zs) (k : Known) (left : feed p s o ≡ Left z.lexeme k) where
+    module _ (none : h.b.item ≡ []) (v rest following : List ℕ) (t : List Value) (w : Whole g l v (rest ++ following) t) (z : Placed) (zs : List Placed)
+        (e : w.tokens ≡ h.b.front ++ z ∷ zs) (k : Known) (left : feed p s o ≡ Left z.lexeme k) where
       new : is_fresh r ≡ true
       new = (no_tokens g l u vs s r h.ahead (o ∷ []) (ApartAt o s r) h.b h.next none).0
 
@@ -79,7 +84,8 @@ module _ (g : Catalog) (l : Limits) where
       whole = whole_going g l v (rest ++ following) t w
 
       read : (ws : List Value) × (reads g l d.now (z ∷ zs) ≡ walked ws whole.n)
-      read = behind_read g l h.b.front (z ∷ zs) (fresh system_slots) d.now whole.n d.given whole.vs d.read (ap (reads g l (fresh system_slots)) (sym e) ∙ whole.read)
+      read = behind_read g l h.b.front (z ∷ zs) (fresh system_slots) d.now whole.n d.given whole.vs d.read
+          (ap (reads g l (fresh system_slots)) (sym e) ∙ whole.read)
 
       abbrev all : List Value
       all = read.0 ++ whole.later
@@ -101,7 +107,8 @@ module _ (g : Catalog) (l : Limits) where
       unquoted long x f = by (h.b.apart (ap ends_long (ap (λ y. h.b.front ++ y) none ∙ append-nil h.b.front) ∙ long))
         where
           kind : is_quoted z.lexeme.kind ≡ true
-          kind = ap is_quoted (quoted_kind z.lexeme.kind z.lexeme.octets x (subst (λ y. IsBody z.lexeme.kind z.lexeme.octets (Ok y)) f (said_body z.lexeme.kind z.lexeme.octets c says)))
+          kind = ap is_quoted (quoted_kind z.lexeme.kind z.lexeme.octets x
+              (subst (λ y. IsBody z.lexeme.kind z.lexeme.octets (Ok y)) f (said_body z.lexeme.kind z.lexeme.octets c says)))
 
           both : (a b : Bool) → a ≡ true → b ≡ true → (a && b) ≡ false → ⊥
           both true true i j q = cc
@@ -131,7 +138,8 @@ module _ (g : Catalog) (l : Limits) where
       turned = going_turn g l (fresh r.context) z zs on.0 c on.1 says (inr refl)
 
       whole_reading : r ≡ at r.start r.context [] [] nows.Ready
-      whole_reading = ap (λ x. at r.start r.context x r.notes r.now) parts.0 ∙ (ap (λ x. at r.start r.context [] x r.now) parts.1 ∙ ap (λ x. at r.start r.context [] [] x) parts.2)
+      whole_reading = ap (λ x. at r.start r.context x r.notes r.now) parts.0
+          ∙ (ap (λ x. at r.start r.context [] x r.now) parts.1 ∙ ap (λ x. at r.start r.context [] [] x) parts.2)
 
       same : turn g l r (token_of z.lexeme c) ≡ turn g l (fresh r.context) (token_of z.lexeme c)
       same = ap (λ x. turn g l x (token_of z.lexeme c)) whole_reading
@@ -142,6 +150,8 @@ module _ (g : Catalog) (l : Limits) where
       pub fresh_left : ⊥
       fresh_left = by h.stops
         where
-          by : (((unsettled s r (feed p s o) ≡ true) ⊎ (settle g l r ≡ goes r)) × ScanRefused g l r (feed p s o)) ⊎ ((unsettled s r (feed p s o) ≡ false) × TurnRefuses g l (settle g l r)) → ⊥
-          by (inl (direct, i)) = ends_goes (turn g l (fresh r.context) (token_of z.lexeme c)) zs on.0 (subst (TurnRefuses g l) same (subst (ScanRefused g l r) left i c says)) turned
+          by : (((unsettled s r (feed p s o) ≡ true) ⊎ (settle g l r ≡ goes r)) × ScanRefused g l r (feed p s o))
+              ⊎ ((unsettled s r (feed p s o) ≡ false) × TurnRefuses g l (settle g l r)) → ⊥
+          by (inl (direct, i)) = ends_goes (turn g l (fresh r.context) (token_of z.lexeme c)) zs on.0
+              (subst (TurnRefuses g l) same (subst (ScanRefused g l r) left i c says)) turned
           by (inr (shut, i)) = subst (TurnRefuses g l) still i

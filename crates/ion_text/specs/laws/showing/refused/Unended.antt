@@ -46,7 +46,8 @@ use Rattle.ion_text.specs.laws.showing.refused.Halting.{follows}
 use Rattle.ion_text.specs.laws.showing.refused.Halts.{Halted, TurnRefuses, ScanRefused, StopsAt}
 use Rattle.ion_text.specs.laws.showing.refused.Stuck.{ends_goes, left_plain}
 
-module _ (g : Catalog) (l : Limits) (u : List ℕ) (o : ℕ) (vs : List Value) (h : Halted g l u o vs) (x : Placed) (xs : List Placed) (some : h.b.item ≡ x ∷ xs) where
+module _ (g : Catalog) (l : Limits) (u : List ℕ) (o : ℕ) (vs : List Value) (h : Halted g l u o vs) (x : Placed) (xs : List Placed)
+    (some : h.b.item ≡ x ∷ xs) where
   abbrev s : Known
   s = h.s
 
@@ -88,7 +89,8 @@ module _ (g : Catalog) (l : Limits) (u : List ℕ) (o : ℕ) (vs : List Value) (
   top_now top = go r.now refl
     where
       stands : (n : Now) → r.now ≡ n → NowStands r.context [] r.notes h.b.item n
-      stands n e = subst (λ m. NowStands r.context [] r.notes h.b.item m) e (subst (λ fs. NowStands r.context fs r.notes h.b.item r.now) (top_none r.frames top) h.b.stands)
+      stands n e = subst (λ m. NowStands r.context [] r.notes h.b.item m) e
+          (subst (λ fs. NowStands r.context fs r.notes h.b.item r.now) (top_none r.frames top) h.b.stands)
 
       go : (n : Now) → r.now ≡ n → (r.now ≡ nows.Ready) ⊎ IsWaiting g l r.now
       go nows.Ready e = inl e
@@ -173,7 +175,8 @@ module _ (g : Catalog) (l : Limits) (u : List ℕ) (o : ℕ) (vs : List Value) (
 
           named : (y : List ℕ) → (a.r).now ≡ nows.LongName y → ⊥
           named y i =
-              let settles : settle g l a.r ≡ goes (at (a.r).start (a.r).context (a.r).frames (a.r).notes (nows.Keyed (Some y))) = ap (λ m. settle g l (at (a.r).start (a.r).context (a.r).frames (a.r).notes m)) i in
+              let settles : settle g l a.r ≡ goes (at (a.r).start (a.r).context (a.r).frames (a.r).notes (nows.Keyed (Some y))) =
+              ap (λ m. settle g l (at (a.r).start (a.r).context (a.r).frames (a.r).notes m)) i in
               let same : goes r ≡ goes (at (a.r).start (a.r).context (a.r).frames (a.r).notes (nows.Keyed (Some y))) = sym (ready now) ∙ settles in
               let keyed : nows.Ready ≡ nows.Keyed (Some y) = sym now ∙ ap (λ (m : Turn). now_in m) same in
               cc
@@ -217,10 +220,12 @@ module _ (g : Catalog) (l : Limits) (u : List ℕ) (o : ℕ) (vs : List Value) (
           cut' : Parted false 0 (u ++ o ∷ following) (h.b.front ++ h.b.item) (z ∷ zs) w.colon w.end (w.blank ++ (rest ++ o ∷ following))
           cut' =
               parted (h.b.front ++ h.b.item) (z ∷ zs) false 0 (u ++ o ∷ following) w.colon w.end (w.blank ++ (rest ++ o ∷ following))
-              (subst (λ y. LexesTo false 0 (u ++ o ∷ following) y w.colon w.end (w.blank ++ (rest ++ o ∷ following))) e (theirs g l u vs s r h.ahead A h.b used x xs some (o ∷ following) (follows g l u o vs h following) v rest t cut w))
+              (subst (λ y. LexesTo false 0 (u ++ o ∷ following) y w.colon w.end (w.blank ++ (rest ++ o ∷ following))) e
+              (theirs g l u vs s r h.ahead A h.b used x xs some (o ∷ following) (follows g l u o vs h following) v rest t cut w))
 
           one : (cut'.flag ≡ k.colon) × (cut'.mid ≡ k.end) × (cut'.left ≡ k.since ++ o ∷ following)
-          one = lexes_once (h.b.front ++ h.b.item) false 0 (u ++ o ∷ following) cut'.flag k.colon cut'.mid k.end cut'.left (k.since ++ o ∷ following) cut'.first (ours g l u vs s r h.ahead A h.b used x xs some (o ∷ following) (follows g l u o vs h following) v rest t cut w)
+          one = lexes_once (h.b.front ++ h.b.item) false 0 (u ++ o ∷ following) cut'.flag k.colon cut'.mid k.end cut'.left (k.since ++ o ∷ following) cut'.first
+              (ours g l u vs s r h.ahead A h.b used x xs some (o ∷ following) (follows g l u o vs h following) v rest t cut w)
 
           here : z.place ≡ p
           here = says.0 ∙ a.here
@@ -233,7 +238,16 @@ module _ (g : Catalog) (l : Limits) (u : List ℕ) (o : ℕ) (vs : List Value) (
           token = cut'.second.1
 
           sizes : length (token.blank ++ token.token) ≡ length ((b.1).front ++ (b.1).token)
-          sizes = omega (arith, token.start, token.end, (b.1).start, (b.1).end, one.1, length-append token.blank token.token, length-append (b.1).front (b.1).token)
+          sizes = omega (
+            arith,
+            token.start,
+            token.end,
+            (b.1).start,
+            (b.1).end,
+            one.1,
+            length-append token.blank token.token,
+            length-append (b.1).front (b.1).token,
+          )
 
           after : behind ≡ b.0 ++ o ∷ following
           after =
@@ -244,7 +258,8 @@ module _ (g : Catalog) (l : Limits) (u : List ℕ) (o : ℕ) (vs : List Value) (
           found =
               begins_completes zs (colon_behind z) z.lexeme.end behind b.0 (o ∷ following) n
               (begins_lexed zs (colon_behind z) z.lexeme.end behind w.colon w.end (w.blank ++ (rest ++ o ∷ following)) cut'.second.2) after
-              (λ q. subst (λ y. run q b.0 (scanning modes.Blank [] (takes_colon y z.lexeme.kind) z.lexeme.end z.lexeme.end) ≡ Next n) (sym here) ((b.1).again q))
+              (λ q. subst (λ y. run q b.0 (scanning modes.Blank [] (takes_colon y z.lexeme.kind) z.lexeme.end z.lexeme.end) ≡ Next n) (sym here)
+              ((b.1).again q))
 
           kept : s.used ≤ n.used
           kept = (left_used p (o ∷ []) s n z.lexeme (sym (ap (λ y. follow y (λ t. Next t)) left))).0
@@ -257,13 +272,19 @@ module _ (g : Catalog) (l : Limits) (u : List ℕ) (o : ℕ) (vs : List Value) (
               last_operators (y ∷ ys) z zs i = last_operators ys z zs i.1
 
           bound : w.end ≤ length u
-          bound = omega (arith, size g l u vs s r h.ahead A h.b used x xs some (o ∷ following) (follows g l u o vs h following) v rest t cut w, long g l u vs s r h.ahead A h.b used x xs some (o ∷ following) (follows g l u o vs h following) v rest t cut w)
+          bound = omega (
+            arith,
+            size g l u vs s r h.ahead A h.b used x xs some (o ∷ following) (follows g l u o vs h following) v rest t cut w,
+            long g l u vs s r h.ahead A h.b used x xs some (o ∷ following) (follows g l u o vs h following) v rest t cut w,
+          )
 
           by : InsideNext g l (a.r).start z d zs → ⊥
-          by (closed i j) = never (is_close z.lexeme.kind) fine.5 (closes_kind z.lexeme.kind z.lexeme.octets d j (said_body z.lexeme.kind z.lexeme.octets d says.2))
+          by (closed i j) = never (is_close z.lexeme.kind) fine.5
+              (closes_kind z.lexeme.kind z.lexeme.octets d j (said_body z.lexeme.kind z.lexeme.octets d says.2))
           by (stays m others i j q) =
               never_past (length u) zs (colon_behind z) z.lexeme.end behind w.colon w.end (w.blank ++ (rest ++ o ∷ following)) cut'.second.2 bound
-              (closes_past (λ s octets. Unit {0}) g l (length u) n (o ∷ following) zs found fine.0 operators (omega (arith, kept, used)) (omega (arith, kept, used)) m others i q)
+              (closes_past (λ s octets. Unit {0}) g l (length u) n (o ∷ following) zs found fine.0 operators (omega (arith, kept, used))
+              (omega (arith, kept, used)) m others i q)
 
       pub item_left : ⊥
       item_left = go (is_top r.frames) refl

@@ -30,16 +30,19 @@ module _ (g : Catalog) (l : Limits) (u : List ℕ) (vs : List Value) (m : State)
   between f v rest t e w =
       let x = stood_front g l u vs m b still in
       let none = no_item g l Scanned u vs m.scan m.reading [] (NoLongText m.scan.mode) b f in
-      let ends : length x.front ≡ start_of m.scan.mode m.scan.start m.scan.used = x.ends ∙ ap (λ (y : Bool). if y then start_of m.scan.mode m.scan.start m.scan.used else m.reading.start) f in
+      let ends : length x.front ≡ start_of m.scan.mode m.scan.start m.scan.used =
+      x.ends ∙ ap (λ (y : Bool). if y then start_of m.scan.mode m.scan.start m.scan.used else m.reading.start) f in
       let i = longest_between g l u vs m b none v rest t e w in
       omega (arith, i, ends)
 
   -- in an item, they are too
-  within_item : Waits g l m.scan m.reading.now → is_fresh m.reading ≡ false → (item : List Placed) → b.item ≡ item → NoneLonger (stood_front g l u vs m b still).front
+  within_item : Waits g l m.scan m.reading.now → is_fresh m.reading ≡ false → (item : List Placed) → b.item ≡ item
+      → NoneLonger (stood_front g l u vs m b still).front
   within_item wait f [] e = between (no_tokens g l u vs m.scan m.reading [] [] (NoLongText m.scan.mode) b ([], refl) e).0
   within_item wait f (t ∷ ts) e = λ v rest s i w.
       let x = stood_front g l u vs m b still in
-      let ends : length x.front ≡ m.reading.start = x.ends ∙ ap (λ (y : Bool). if y then start_of m.scan.mode m.scan.start m.scan.used else m.reading.start) f in
+      let ends : length x.front ≡ m.reading.start = x.ends ∙ ap (λ (y : Bool). if y then start_of m.scan.mode m.scan.start m.scan.used else m.reading.start)
+      f in
       let n = longest_open g l u vs m b t ts e wait v rest s i w in
       omega (arith, n, ends)
 

@@ -31,8 +31,10 @@ use Rattle.ion_text.specs.laws.showing.shown.Symbols.{HasBegun}
 abbrev pub front_end : Known → Reading → ℕ
 front_end s r = if is_fresh r then start_of s.mode s.start s.used else r.start
 
-pub fresh_is : (start : ℕ) (c : List Slot) (fs : List Frame) (ss : Symbols) (now : Now) → fs ≡ [] → ss ≡ [] → now ≡ nows.Ready → is_fresh (at start c fs ss now) ≡ true
-fresh_is start c fs ss now a b d = ap (λ x. is_fresh (at start c x ss now)) a ∙ (ap (λ x. is_fresh (at start c [] x now)) b ∙ ap (λ x. is_fresh (at start c [] [] x)) d)
+pub fresh_is : (start : ℕ) (c : List Slot) (fs : List Frame) (ss : Symbols) (now : Now) → fs ≡ [] → ss ≡ [] → now ≡ nows.Ready → is_fresh (at start c fs ss now)
+    ≡ true
+fresh_is start c fs ss now a b d = ap (λ x. is_fresh (at start c x ss now)) a
+    ∙ (ap (λ x. is_fresh (at start c [] x now)) b ∙ ap (λ x. is_fresh (at start c [] [] x)) d)
 
 both_true : (a b : Bool) → a ≡ true → b ≡ true → (a && b) ≡ true
 both_true true b h k = k
@@ -54,7 +56,8 @@ module _ (g : Catalog) (l : Limits) where
     pub whole : (following : List ℕ) → Whole g l front (rest ++ following) vs
 
   -- behind octets, and before `more`
-  module _ (u : List ℕ) (vs : List Value) (s : Known) (r : Reading) (ahead more : List ℕ) (A : Type 0) (b : Behind g l Scanned u vs s r ahead A) (next : Continues more ahead) where
+  module _ (u : List ℕ) (vs : List Value) (s : Known) (r : Reading) (ahead more : List ℕ) (A : Type 0) (b : Behind g l Scanned u vs s r ahead A)
+      (next : Continues more ahead) where
     abbrev p : Place
     p = place r
 
@@ -85,7 +88,8 @@ module _ (g : Catalog) (l : Limits) where
         f = k.fronted
 
         tokens : (following : List ℕ) → LexesTo false 0 (u ++ (more ++ following)) b.front k.colon k.end (k.since ++ (more ++ following))
-        tokens following = subst (λ x. LexesTo false 0 (u ++ (more ++ following)) x k.colon k.end (k.since ++ (more ++ following))) (ap (λ x. b.front ++ x) none ∙ append-nil b.front) (k.lexes (more ++ following) (continues following))
+        tokens following = subst (λ x. LexesTo false 0 (u ++ (more ++ following)) x k.colon k.end (k.since ++ (more ++ following)))
+            (ap (λ x. b.front ++ x) none ∙ append-nil b.front) (k.lexes (more ++ following) (continues following))
 
         cut : (T : List ℕ) × (u ++ (more ++ []) ≡ T ++ (k.since ++ (more ++ []))) × (k.end ≡ 0 + length T)
         cut = lexed_front b.front false 0 (u ++ (more ++ [])) k.colon k.end (k.since ++ (more ++ [])) (tokens [])
@@ -100,7 +104,8 @@ module _ (g : Catalog) (l : Limits) where
             ∙ (ap (λ x. cut.0 ++ (x ++ more)) f.cut ∙ (ap (λ x. cut.0 ++ x) (append_assoc f.blank f.open' more) ∙ sym (append_assoc cut.0 f.blank open_all)))))
 
         left : (following : List ℕ) → k.since ++ (more ++ following) ≡ f.blank ++ (open_all ++ following)
-        left following = ap (λ x. x ++ (more ++ following)) f.cut ∙ (append_assoc f.blank f.open' (more ++ following) ∙ ap (λ x. f.blank ++ x) (sym (append_assoc f.open' more following)))
+        left following = ap (λ x. x ++ (more ++ following)) f.cut
+            ∙ (append_assoc f.blank f.open' (more ++ following) ∙ ap (λ x. f.blank ++ x) (sym (append_assoc f.open' more following)))
 
         all : (following : List ℕ) → u ++ (more ++ following) ≡ (cut.0 ++ f.blank) ++ (open_all ++ following)
         all following = sym (append_assoc u more following) ∙ (ap (λ x. x ++ following) parts ∙ append_assoc (cut.0 ++ f.blank) open_all following)
@@ -110,14 +115,16 @@ module _ (g : Catalog) (l : Limits) where
           front = cut.0 ++ f.blank;
           rest = open_all;
           parts = parts;
-          ends = omega (arith, length-append cut.0 f.blank, f.at, cut.2) ∙ sym (ap (λ (x : Bool). if x then start_of s.mode s.start s.used else r.start) (no_tokens none).0);
+          ends = omega (arith, length-append cut.0 f.blank, f.at, cut.2)
+              ∙ sym (ap (λ (x : Bool). if x then start_of s.mode s.start s.used else r.start) (no_tokens none).0);
           whole = λ following. record {
             tokens = b.front;
             context = r.context;
             colon = k.colon;
             end = k.end;
             blank = f.blank;
-            lexed = subst (λ x. LexesTo false 0 x b.front k.colon k.end (f.blank ++ (open_all ++ following))) (all following) (subst (LexesTo false 0 (u ++ (more ++ following)) b.front k.colon k.end) (left following) (tokens following));
+            lexed = subst (λ x. LexesTo false 0 x b.front k.colon k.end (f.blank ++ (open_all ++ following))) (all following)
+                (subst (LexesTo false 0 (u ++ (more ++ following)) b.front k.colon k.end) (left following) (tokens following));
             is_blank = f.is_blank;
             pieces = b.pieces;
             no_annotation = λ c h. colons (no_tokens none).0 c following (subst (BlankThen (codes "::")) (sym (left following)) h);
@@ -140,7 +147,8 @@ module _ (g : Catalog) (l : Limits) where
         cutting : (following : List ℕ) → Parted false 0 (u ++ (more ++ following)) b.front (t ∷ ts) k.colon k.end (k.since ++ (more ++ following))
         cutting following =
             parted b.front (t ∷ ts) false 0 (u ++ (more ++ following)) k.colon k.end (k.since ++ (more ++ following))
-            (subst (λ x. LexesTo false 0 (u ++ (more ++ following)) (b.front ++ x) k.colon k.end (k.since ++ (more ++ following))) some (k.lexes (more ++ following) (continues following)))
+            (subst (λ x. LexesTo false 0 (u ++ (more ++ following)) (b.front ++ x) k.colon k.end (k.since ++ (more ++ following))) some
+            (k.lexes (more ++ following) (continues following)))
 
         abbrev rest_of : (following : List ℕ) → List ℕ
         rest_of following = (cutting following).second.0
@@ -149,7 +157,8 @@ module _ (g : Catalog) (l : Limits) where
         token_of following = (cutting following).second.1
 
         before : (following : List ℕ) → (T : List ℕ) × (u ++ (more ++ following) ≡ T ++ (cutting following).left) × ((cutting following).mid ≡ 0 + length T)
-        before following = lexed_front b.front false 0 (u ++ (more ++ following)) (cutting following).flag (cutting following).mid (cutting following).left (cutting following).first
+        before following = lexed_front b.front false 0 (u ++ (more ++ following)) (cutting following).flag (cutting following).mid (cutting following).left
+            (cutting following).first
 
         abbrev front_of : List ℕ → List ℕ
         front_of following = (before following).0 ++ (token_of following).blank
@@ -158,7 +167,8 @@ module _ (g : Catalog) (l : Limits) where
         behind_of following = (token_of following).token ++ rest_of following
 
         meets : (following : List ℕ) → u ++ (more ++ following) ≡ front_of following ++ behind_of following
-        meets following = (before following).1 ∙ (ap (λ x. (before following).0 ++ x) (token_of following).cut ∙ regroup (before following).0 (token_of following).blank (token_of following).token (rest_of following))
+        meets following = (before following).1 ∙ (ap (λ x. (before following).0 ++ x) (token_of following).cut
+            ∙ regroup (before following).0 (token_of following).blank (token_of following).token (rest_of following))
 
         size : (following : List ℕ) → length (front_of following) ≡ r.start
         size following = omega (arith, length-append (before following).0 (token_of following).blank, (token_of following).start, (before following).2, starts)
@@ -170,22 +180,35 @@ module _ (g : Catalog) (l : Limits) where
         reaches following = sym (append_assoc u more following) ∙ (ap (λ x. x ++ following) whole_parts ∙ append_assoc (front_of []) (behind_of []) following)
 
         same : (following : List ℕ) → (front_of following ≡ front_of []) × (behind_of following ≡ behind_of [] ++ following)
-        same following = parts_same (front_of following) (behind_of following) (front_of []) (behind_of [] ++ following) (sym (meets following) ∙ reaches following) (size following ∙ sym (size []))
+        same following = parts_same (front_of following) (behind_of following) (front_of []) (behind_of [] ++ following)
+            (sym (meets following) ∙ reaches following) (size following ∙ sym (size []))
 
         left_is : (following : List ℕ) → (cutting following).left ≡ (token_of following).blank ++ (behind_of [] ++ following)
-        left_is following = (token_of following).cut ∙ (append_assoc (token_of following).blank (token_of following).token (rest_of following) ∙ ap (λ x. (token_of following).blank ++ x) (same following).1)
+        left_is following = (token_of following).cut ∙ (append_assoc (token_of following).blank (token_of following).token (rest_of following)
+            ∙ ap (λ x. (token_of following).blank ++ x) (same following).1)
 
-        open_colons : (following : List ℕ) → (cutting following).flag ≡ true → BlankThen (codes "::") ((token_of following).blank ++ (behind_of [] ++ following)) → ⊥
+        open_colons : (following : List ℕ) → (cutting following).flag ≡ true
+            → BlankThen (codes "::") ((token_of following).blank ++ (behind_of [] ++ following)) → ⊥
         open_colons following c (w, rest, is, e) =
-            let found : Lexeme = record { start = (cutting following).mid + length w; end = ((cutting following).mid + length w) + 2; kind = kinds.Mark marks.Colons; octets = [] } in
-            let x = begins_once (cutting following).flag (cutting following).mid (cutting following).left t (record { place = t.place; lexeme = found }) (rest_of following) rest (token_of following)
-            (record { blank = w; token = codes "::"; is_blank = is; cut = left_is following ∙ e; start = refl; end = refl; is = (refl, refl, c, tt) }) refl (λ i. cc) in
+            let found : Lexeme = record {
+              start = (cutting following).mid + length w;
+              end = ((cutting following).mid + length w) + 2;
+              kind =
+                  kinds.Mark marks.Colons;
+              octets = [];
+            } in
+            let x = begins_once (cutting following).flag (cutting following).mid (cutting following).left t (record { place = t.place; lexeme = found })
+            (rest_of following) rest (token_of following)
+            (record { blank = w; token = codes "::"; is_blank = is; cut = left_is following ∙ e; start = refl; end = refl; is = (refl, refl, c, tt) }) refl
+            (λ i. cc) in
             let n : true ≡ false = sym opens ∙ ap (λ (y : Lexeme). opens_item y.kind) x in cc
 
         open_quotes : (following : List ℕ) → ends_long b.front ≡ true → BlankThen (codes "''") ((token_of following).blank ++ (behind_of [] ++ following)) → ⊥
         open_quotes following h (w, rest, is, e) =
-            let x = quotes_first (cutting following).flag (cutting following).mid (cutting following).left w rest t (rest_of following) (token_of following) (λ i. let n : true ≡ false = sym opens ∙ ap opens_item i in cc) is (left_is following ∙ (e ∙ append_assoc w (codes "''") rest)) in
-            let n : true ≡ false = sym (both_true (ends_long b.front) (begins_as_long (t ∷ ts)) h (first_as_long t ts x)) ∙ subst (λ y. (ends_long b.front && begins_as_long y) ≡ false) some b.first in cc
+            let x = quotes_first (cutting following).flag (cutting following).mid (cutting following).left w rest t (rest_of following) (token_of following)
+            (λ i. let n : true ≡ false = sym opens ∙ ap opens_item i in cc) is (left_is following ∙ (e ∙ append_assoc w (codes "''") rest)) in
+            let n : true ≡ false = sym (both_true (ends_long b.front) (begins_as_long (t ∷ ts)) h (first_as_long t ts x))
+            ∙ subst (λ y. (ends_long b.front && begins_as_long y) ≡ false) some b.first in cc
 
         open_front : Fronted (u ++ more) vs s r
         open_front = record {
@@ -200,8 +223,10 @@ module _ (g : Catalog) (l : Limits) where
             end = (cutting following).mid;
             blank = (token_of following).blank;
             lexed =
-                subst (λ x. LexesTo false 0 x b.front (cutting following).flag (cutting following).mid ((token_of following).blank ++ (behind_of [] ++ following))) (reaches following)
-                (subst (LexesTo false 0 (u ++ (more ++ following)) b.front (cutting following).flag (cutting following).mid) (left_is following) (cutting following).first);
+                subst (λ x. LexesTo false 0 x b.front (cutting following).flag (cutting following).mid
+                ((token_of following).blank ++ (behind_of [] ++ following))) (reaches following)
+                (subst (LexesTo false 0 (u ++ (more ++ following)) b.front (cutting following).flag (cutting following).mid) (left_is following)
+                (cutting following).first);
             is_blank = (token_of following).is_blank;
             pieces = b.pieces;
             no_annotation = open_colons following;
@@ -228,8 +253,10 @@ module _ (g : Catalog) (l : Limits) where
     begun_colons : NoColonsFollow u vs m.scan m.reading [] [] open' b ([], refl)
     begun_colons fresh c following (w, more, is, e) =
         let begun = still fresh (shut.holds.flag ∙ c) in
-        let x = past_blank (place m.reading) shut.colon shut.end shut.since following w (codes "::" ++ more) m.scan shut.reached b.sane begun is (e ∙ append_assoc w (codes "::") more) in
-        colons_never (place m.reading) x.now (shut.end + length w) x.token following more m.scan x.same (subst (λ y. run (place m.reading) x.token (blank y x.now (shut.end + length w)) ≡ Next m.scan) c x.ran) begun
+        let x = past_blank (place m.reading) shut.colon shut.end shut.since following w (codes "::" ++ more) m.scan shut.reached b.sane begun is
+        (e ∙ append_assoc w (codes "::") more) in
+        colons_never (place m.reading) x.now (shut.end + length w) x.token following more m.scan x.same
+        (subst (λ y. run (place m.reading) x.token (blank y x.now (shut.end + length w)) ≡ Next m.scan) c x.ran) begun
 
     begun_quotes : NoQuotesFollow u vs m.scan m.reading [] [] open' b ([], refl)
     begun_quotes fresh h following (w, more, is, e) = by (b.apart (ap ends_long (ap (λ x. b.front ++ x) none ∙ append-nil b.front) ∙ h))
@@ -240,8 +267,10 @@ module _ (g : Catalog) (l : Limits) where
         by : IsLongNow m.reading.now ⊎ NoLongText m.scan.mode → ⊥
         by (inl i) = (no_tokens u vs m.scan m.reading [] [] open' b ([], refl) none).1 i
         by (inr i) =
-            let x = past_blank (place m.reading) shut.colon shut.end shut.since following w (codes "''" ++ more) m.scan shut.reached b.sane i.0 is (e ∙ append_assoc w (codes "''") more) in
+            let x = past_blank (place m.reading) shut.colon shut.end shut.since following w (codes "''" ++ more) m.scan shut.reached b.sane i.0 is
+            (e ∙ append_assoc w (codes "''") more) in
             quotes_never (place m.reading) shut.colon x.now (shut.end + length w) x.token following more m.scan x.same x.ran i.0 i.1
 
     pub stood_front : Fronted u vs m.scan m.reading
-    stood_front = subst (λ x. Fronted x vs m.scan m.reading) (append-nil u) (front_before u vs m.scan m.reading [] [] open' b ([], refl) begun_colons begun_quotes)
+    stood_front = subst (λ x. Fronted x vs m.scan m.reading) (append-nil u)
+        (front_before u vs m.scan m.reading [] [] open' b ([], refl) begun_colons begun_quotes)

@@ -49,7 +49,8 @@ no_octets : (z : List ℕ) → length z ≤ 0 → z ≡ []
 no_octets [] h = refl
 no_octets (o ∷ os) h = absurd (omega arith)
 
-module _ (g : Catalog) (l : Limits) (u : List ℕ) (vs : List Value) (s : Known) (r : Reading) (ahead : List ℕ) (A : Type 0) (b : Behind g l Scanned u vs s r ahead A) (used : s.used ≡ length u) where
+module _ (g : Catalog) (l : Limits) (u : List ℕ) (vs : List Value) (s : Known) (r : Reading) (ahead : List ℕ) (A : Type 0)
+    (b : Behind g l Scanned u vs s r ahead A) (used : s.used ≡ length u) where
   abbrev p : Place
   p = place r
 
@@ -60,7 +61,8 @@ module _ (g : Catalog) (l : Limits) (u : List ℕ) (vs : List Value) (s : Known)
   covers = sym k.holds.used ∙ used
 
   pieces_going : Going g l (fresh system_slots) b.front vs
-  pieces_going = let x = pieces_read g l b.front vs r.context b.pieces in record { vs = x.given; later = x.later; n = x.now; c = r.context; read = x.read; ends = x.settles; whole = x.all }
+  pieces_going = let x = pieces_read g l b.front vs r.context b.pieces in
+      record { vs = x.given; later = x.later; n = x.now; c = r.context; read = x.read; ends = x.settles; whole = x.all }
 
   -- whole pieces at the front of the octets, before octets that follow
   module _ (v rest following : List ℕ) (t : List Value) (cut : u ≡ v ++ rest) (w : Whole g l v (rest ++ following) t) where
@@ -74,7 +76,8 @@ module _ (g : Catalog) (l : Limits) (u : List ℕ) (vs : List Value) (s : Known)
     compared : (c : Bool) (e : ℕ) (left : List ℕ) → LexesTo false 0 (u ++ following) b.front c e left → Compared b.front w.tokens
     compared c e left ours =
         compare (λ s octets. Unit {0}) g l initial (u ++ following) b.front
-        (begins_completes b.front false 0 (u ++ following) [] (u ++ following) initial (begins_lexed b.front false 0 (u ++ following) c e left ours) refl (λ p. refl))
+        (begins_completes b.front false 0 (u ++ following) [] (u ++ following) initial (begins_lexed b.front false 0 (u ++ following) c e left ours) refl
+        (λ p. refl))
         w.tokens (subst (λ x. Found' (λ s octets. Unit {0}) initial x w.tokens) octets (whole_found g l v (rest ++ following) t w))
         (lexes_operators (λ a b' o. (a ≡ c) × (b' ≡ e) × (o ≡ left)) b.front false 0 (u ++ following) ours) (whole_operators g l v (rest ++ following) t w)
         (fresh system_slots) vs t pieces_going (whole_going g l v (rest ++ following) t w)
@@ -86,7 +89,8 @@ module _ (g : Catalog) (l : Limits) (u : List ℕ) (vs : List Value) (s : Known)
     long = omega (arith, ap length cut, length-append v rest)
 
     -- where they are the fewer, they end before the next token
-    fewer : (c : Bool) (e : ℕ) (left : List ℕ) → LexesTo false 0 (u ++ following) b.front c e left → (x : Placed) (more : List Placed) → b.front ≡ w.tokens ++ x ∷ more → TopFirst (x ∷ more) → length v ≤ e
+    fewer : (c : Bool) (e : ℕ) (left : List ℕ) → LexesTo false 0 (u ++ following) b.front c e left → (x : Placed) (more : List Placed)
+        → b.front ≡ w.tokens ++ x ∷ more → TopFirst (x ∷ more) → length v ≤ e
     fewer c e left ours x more h top =
         let d = parted w.tokens (x ∷ more) false 0 (u ++ following) c e left (subst (λ z. LexesTo false 0 (u ++ following) z c e left) h ours) in
         let same = lexes_once w.tokens false 0 (u ++ following) d.flag w.colon d.mid w.end d.left (w.blank ++ (rest ++ following)) d.first theirs in
@@ -120,11 +124,14 @@ module _ (g : Catalog) (l : Limits) (u : List ℕ) (vs : List Value) (s : Known)
           from : (y : List ℕ) → k.since ≡ w.blank ++ y → length v ≤ start_of s.mode s.start s.used
           from y f =
               let x = passes_blank p k.colon w.blank w.is_blank k.end k.end in
-              let ran : run p y (blank k.colon x.0 (k.end + length w.blank)) ≡ Next s = sym (ap (λ z. run p z (at modes.Blank [] k.colon k.end k.end)) f ∙ x.1 y) ∙ k.reached in
-              let i = subst (TokenFrom (k.end + length w.blank)) ran (run_from p y (k.end + length w.blank) (blank k.colon x.0 (k.end + length w.blank)) (record { enough = omega arith }) (omega arith)) in
+              let ran : run p y (blank k.colon x.0 (k.end + length w.blank)) ≡ Next s =
+              sym (ap (λ z. run p z (at modes.Blank [] k.colon k.end k.end)) f ∙ x.1 y) ∙ k.reached in
+              let i = subst (TokenFrom (k.end + length w.blank)) ran
+              (run_from p y (k.end + length w.blank) (blank k.colon x.0 (k.end + length w.blank)) (record { enough = omega arith }) (omega arith)) in
               omega (arith, i, one.1, size v rest more t cut w)
 
-          by : ((y : List ℕ) × (k.since ≡ w.blank ++ y) × (y ++ more ≡ rest ++ more)) ⊎ ((z : List ℕ) × (w.blank ≡ k.since ++ z) × (z ++ (rest ++ more) ≡ more)) → length v ≤ start_of s.mode s.start s.used
+          by : ((y : List ℕ) × (k.since ≡ w.blank ++ y) × (y ++ more ≡ rest ++ more)) ⊎ ((z : List ℕ) × (w.blank ≡ k.since ++ z) × (z ++ (rest ++ more) ≡ more))
+              → length v ≤ start_of s.mode s.start s.used
           by (inl (y, f, i)) = from y f
           by (inr (z, f, i)) =
               let n : length z ≤ 0 = omega (arith, covers, long v rest more t cut w, one.1, size v rest more t cut w, ap length f, length-append k.since z) in
@@ -136,13 +143,16 @@ module _ (g : Catalog) (l : Limits) (u : List ℕ) (vs : List Value) (s : Known)
 
       never_more : NoneHasEnded → (x : Placed) (xs : List Placed) → w.tokens ≡ b.front ++ x ∷ xs → TopFirst (x ∷ xs) → ⊥
       never_more ended x xs e at_top =
-          let d = parted b.front (x ∷ xs) false 0 (u ++ more) w.colon w.end (w.blank ++ (rest ++ more)) (subst (λ z. LexesTo false 0 (u ++ more) z w.colon w.end (w.blank ++ (rest ++ more))) e (theirs v rest more t cut w)) in
+          let d = parted b.front (x ∷ xs) false 0 (u ++ more) w.colon w.end (w.blank ++ (rest ++ more))
+          (subst (λ z. LexesTo false 0 (u ++ more) z w.colon w.end (w.blank ++ (rest ++ more))) e (theirs v rest more t cut w)) in
           let one = lexes_once b.front false 0 (u ++ more) d.flag k.colon d.mid k.end d.left (k.since ++ more) d.first tokens in
           let found = one_found d.flag d.mid d.left x d.second.0 d.second.1 in
           let here : Is x.place x.lexeme (run x.place (k.since ++ more) (at modes.Blank [] k.colon k.end k.end)) =
           subst (λ z. Is x.place x.lexeme (run x.place z (at modes.Blank [] k.colon k.end k.end))) one.2
-          (subst (λ (z : ℕ). Is x.place x.lexeme (run x.place d.left (at modes.Blank [] k.colon z z))) one.1 (subst (λ z. Is x.place x.lexeme (run x.place d.left (at modes.Blank [] z d.mid d.mid))) one.0 found)) in
-          let placed : Is p x.lexeme (run p (k.since ++ more) (at modes.Blank [] k.colon k.end k.end)) = subst (λ q. Is q x.lexeme (run q (k.since ++ more) (at modes.Blank [] k.colon k.end k.end))) (at_top ∙ sym top) here in
+          (subst (λ (z : ℕ). Is x.place x.lexeme (run x.place d.left (at modes.Blank [] k.colon z z))) one.1
+          (subst (λ z. Is x.place x.lexeme (run x.place d.left (at modes.Blank [] z d.mid d.mid))) one.0 found)) in
+          let placed : Is p x.lexeme (run p (k.since ++ more) (at modes.Blank [] k.colon k.end k.end)) =
+          subst (λ q. Is q x.lexeme (run q (k.since ++ more) (at modes.Blank [] k.colon k.end k.end))) (at_top ∙ sym top) here in
           let at_end' = subst (Is p x.lexeme) (run_behind p k.since more (at modes.Blank [] k.colon k.end k.end) s k.reached) placed in
           let last = lexed_front xs (colon_behind x) x.lexeme.end d.second.0 w.colon w.end (w.blank ++ (rest ++ more)) d.second.2 in
           ended x xs e (at_top ∙ sym top) at_end' (omega (arith, last.2, long v rest more t cut w, size v rest more t cut w, used))
@@ -158,8 +168,10 @@ module _ (g : Catalog) (l : Limits) (u : List ℕ) (vs : List Value) (s : Known)
           by (inr (x ∷ xs, e, h)) = let i = fewer v rest more t cut w k.colon k.end (k.since ++ more) tokens x xs e h in omega (arith, i, k.fronted.at)
 
 -- where no octet is refused
-pub longest_between : (g : Catalog) (l : Limits) (u : List ℕ) (vs : List Value) (m : State) (b : Stood g l u vs m) → b.item ≡ [] → (v rest : List ℕ) (t : List Value) → u ≡ v ++ rest → ArePieces (Whole g l) v rest t → length v ≤ start_of m.scan.mode m.scan.start m.scan.used
+pub longest_between : (g : Catalog) (l : Limits) (u : List ℕ) (vs : List Value) (m : State) (b : Stood g l u vs m) → b.item ≡ []
+    → (v rest : List ℕ) (t : List Value) → u ≡ v ++ rest → ArePieces (Whole g l) v rest t → length v ≤ start_of m.scan.mode m.scan.start m.scan.used
 longest_between g l u vs m b none v rest t cut whole =
     let h = behind_tokens (place m.reading) m.scan u (b.front ++ b.item) [] b.scanned in
     let f = escape (place m.reading) h.colon h.end m.scan h.since h.holds in
-    longest_before g l u vs m.scan m.reading [] (NoLongText m.scan.mode) b (stood_used g l u vs m b) none f.octets (f.octets, refl) v rest t cut (whole f.octets f.are) (λ x xs e q i n. escaped (place m.reading) m.scan f.octets x.lexeme f.escapes i n)
+    longest_before g l u vs m.scan m.reading [] (NoLongText m.scan.mode) b (stood_used g l u vs m b) none f.octets (f.octets, refl) v rest t cut
+    (whole f.octets f.are) (λ x xs e q i n. escaped (place m.reading) m.scan f.octets x.lexeme f.escapes i n)

@@ -44,18 +44,21 @@ pub blank_follows : (w x : List ℕ) → IsBlank w → IsBlank (w ++ x) → IsBl
 blank_follows w x a b =
     let f = passes_blank places.Top false w a 0 0 in
     let h = passes_blank places.Top false (w ++ x) b 0 0 in
-    let ran : run places.Top x (blank false f.0 (0 + length w)) ≡ Next (blank false h.0 (0 + length (w ++ x))) = sym (f.1 x) ∙ (ap (λ y. run places.Top y (blank false 0 0)) (sym (append-nil (w ++ x))) ∙ h.1 []) in
+    let ran : run places.Top x (blank false f.0 (0 + length w)) ≡ Next (blank false h.0 (0 + length (w ++ x))) =
+    sym (f.1 x) ∙ (ap (λ y. run places.Top y (blank false 0 0)) (sym (append-nil (w ++ x))) ∙ h.1 []) in
     let k = subst (λ y. RunSound places.Top false (0 + length w) [] x y) ran
     (run_sound places.Top false (0 + length w) x [] (blank false f.0 (0 + length w)) (record { flag = refl; used = omega arith; mode = (refl, blank_none) })) in
     k.mode.1
 
 -- tokens end where the last one does
-lexed_end : (ts : List Placed) (colon : Bool) (before : ℕ) (octets : List ℕ) (after : Bool) (end : ℕ) (rest : List ℕ) → LexesTo colon before octets ts after end rest → end ≡ end_of before ts
+lexed_end : (ts : List Placed) (colon : Bool) (before : ℕ) (octets : List ℕ) (after : Bool) (end : ℕ) (rest : List ℕ)
+    → LexesTo colon before octets ts after end rest → end ≡ end_of before ts
 lexed_end [] colon before octets after end rest (c, b, o) = sym b
 lexed_end (t ∷ ts) colon before octets after end rest (q, b, h) = lexed_end ts (colon_behind t) t.lexeme.end q after end rest h
 
 -- and none begins behind that
-pub start_before : (front : List Placed) (t : Placed) (ts : List Placed) (colon : Bool) (before : ℕ) (octets : List ℕ) (after : Bool) (end : ℕ) (rest : List ℕ) → LexesTo colon before octets (front ++ t ∷ ts) after end rest → t.lexeme.start ≤ end
+pub start_before : (front : List Placed) (t : Placed) (ts : List Placed) (colon : Bool) (before : ℕ) (octets : List ℕ) (after : Bool) (end : ℕ) (rest : List ℕ)
+    → LexesTo colon before octets (front ++ t ∷ ts) after end rest → t.lexeme.start ≤ end
 start_before [] t ts colon before octets after end rest (q, b, h) =
     let p = lexed_front ts (colon_behind t) t.lexeme.end q after end rest h in omega (arith, p.2, b.end, b.start)
 start_before (x ∷ xs) t ts colon before octets after end rest (q, b, h) = start_before xs t ts (colon_behind x) x.lexeme.end q after end rest h
@@ -67,14 +70,36 @@ nothing_left (o ∷ z) rest e = absurd cc
 module _ (l : Limits) where
   -- octets of an item alone
   item_rest : (rest : List ℕ) → length rest ≤ l.item → OpenRest l rest
-  item_rest rest h = record { before = []; item = rest; blank = []; behind = []; parts = sym (append-nil rest); is_before = blank_none; fits = h; is_blank = ([], blank_none); shut = inl refl }
+  item_rest rest h = record {
+    before = [];
+    item = rest;
+    blank = [];
+    behind = [];
+    parts = sym (append-nil rest);
+    is_before = blank_none;
+    fits =
+        h;
+    is_blank = ([], blank_none);
+    shut = inl refl;
+  }
 
   empty_rest : (rest : List ℕ) → rest ≡ [] → OpenRest l rest
   empty_rest rest e = item_rest rest (omega (arith, ap length e))
 
   -- an item's octets, and a blank's prefix or a blank and a colon
   blank_rest : (colon : Bool) (y x : List ℕ) → length y ≤ l.item → ((more : List ℕ) × IsBlank (x ++ more)) ⊎ IsFirstColon colon x → OpenRest l (y ++ x)
-  blank_rest colon y x h (inl (more, b)) = record { before = []; item = y; blank = x; behind = []; parts = ap (λ z. y ++ z) (sym (append-nil x)); is_before = blank_none; fits = h; is_blank = (more, b); shut = inl refl }
+  blank_rest colon y x h (inl (more, b)) = record {
+    before = [];
+    item = y;
+    blank = x;
+    behind = [];
+    parts = ap (λ z. y ++ z) (sym (append-nil x));
+    is_before =
+        blank_none;
+    fits = h;
+    is_blank = (more, b);
+    shut = inl refl;
+  }
   blank_rest colon y x h (inr (flag, w, b, e)) = record {
     before = [];
     item = y;
@@ -103,7 +128,8 @@ module _ (l : Limits) where
 
   -- an item's octets, and a `/` that may begin a comment
   slash_rest : (y rest : List ℕ) → length y ≤ l.item → y ++ codes "/" ≡ rest → OpenRest l rest
-  slash_rest y rest h e = subst (OpenRest l) e (blank_rest false y (codes "/") h (inl (codes "/\n", record { pieces = LineComment [] 10 ∷ []; each = ((tt, refl), tt); spelled = refl })))
+  slash_rest y rest h e = subst (OpenRest l) e (blank_rest false y (codes "/") h
+      (inl (codes "/\n", record { pieces = LineComment [] 10 ∷ []; each = ((tt, refl), tt); spelled = refl })))
 
   last_slash : (z rest : List ℕ) → z ++ rest ≡ codes "/" → OpenRest l rest
   last_slash [] rest e = slash_rest [] rest (omega arith) (sym e)
@@ -114,7 +140,8 @@ module _ (l : Limits) where
   last_colon (o ∷ z) rest e = empty_rest rest (nothing_left z rest (let n : z ++ rest ≡ [] = cc in n))
 
   -- a token has begun, and its octets are counted
-  counted : (p : Place) (u front rest token octets : List ℕ) (ts : List Placed) (colon : Bool) (end : ℕ) (b : Begun) → u ≡ front ++ rest → u ≡ token ++ octets → end ≡ 0 + length token → HasBegun p u ts colon end octets b → b.end - length front ≤ l.item → OpenRest l rest
+  counted : (p : Place) (u front rest token octets : List ℕ) (ts : List Placed) (colon : Bool) (end : ℕ) (b : Begun) → u ≡ front ++ rest → u ≡ token ++ octets
+      → end ≡ 0 + length token → HasBegun p u ts colon end octets b → b.end - length front ≤ l.item → OpenRest l rest
   counted p u front rest T octets ts colon end b parts cut at' h fits = by h.reaches
     where
       sizes : (length front + length rest ≡ length u) × (length T + length octets ≡ length u)
@@ -124,13 +151,16 @@ module _ (l : Limits) where
       slashed x last e = meets (parts_meet ((T ++ h.blank) ++ x) (codes "/") front rest (sym whole ∙ parts))
         where
           whole : u ≡ ((T ++ h.blank) ++ x) ++ codes "/"
-          whole = cut ∙ (ap (λ z. T ++ z) (h.cut ∙ ap (λ z. h.blank ++ z) e) ∙ (sym (append_assoc T h.blank (x ++ codes "/")) ∙ sym (append_assoc (T ++ h.blank) x (codes "/"))))
+          whole = cut ∙ (ap (λ z. T ++ z) (h.cut ∙ ap (λ z. h.blank ++ z) e)
+              ∙ (sym (append_assoc T h.blank (x ++ codes "/")) ∙ sym (append_assoc (T ++ h.blank) x (codes "/"))))
 
-          meets : ((y : List ℕ) × ((T ++ h.blank) ++ x ≡ front ++ y) × (y ++ codes "/" ≡ rest)) ⊎ ((z : List ℕ) × (front ≡ ((T ++ h.blank) ++ x) ++ z) × (z ++ rest ≡ codes "/")) → OpenRest l rest
+          meets : ((y : List ℕ) × ((T ++ h.blank) ++ x ≡ front ++ y) × (y ++ codes "/" ≡ rest))
+              ⊎ ((z : List ℕ) × (front ≡ ((T ++ h.blank) ++ x) ++ z) × (z ++ rest ≡ codes "/")) → OpenRest l rest
           meets (inl (y, f, k)) = slash_rest y rest (omega (arith, fits, last, at', sizes.0, sizes.1, ap length k, length-append y (codes "/"))) k
           meets (inr (z, f, k)) = last_slash z rest k
 
-      by : (b.end ≡ end + length octets) ⊎ ((b.end + 1 ≡ end + length octets) × (x : List ℕ) × (h.token ≡ x ++ codes "/") × MayComment p u ts b) → OpenRest l rest
+      by : (b.end ≡ end + length octets) ⊎ ((b.end + 1 ≡ end + length octets) × (x : List ℕ) × (h.token ≡ x ++ codes "/") × MayComment p u ts b)
+          → OpenRest l rest
       by (inl last) = item_rest rest (omega (arith, fits, last, at', sizes.0, sizes.1))
       by (inr (last, x, e, m)) = slashed x last e
 
@@ -148,7 +178,8 @@ module _ (l : Limits) where
       by (inr ([], f, k)) = record { item = []; fits = omega arith; same = sym k }
       by (inr (o ∷ z, f, k)) = absurd (let n = ap length f ∙ length-append T (o ∷ z) in omega (arith, n, before))
 
-module _ (g : Catalog) (l : Limits) (u : List ℕ) (vs : List Value) (m : State) (b : Stood g l u vs m) (within : Within g l m) (front rest : List ℕ) (parts : u ≡ front ++ rest) (ends : length front ≡ front_end m.scan m.reading) where
+module _ (g : Catalog) (l : Limits) (u : List ℕ) (vs : List Value) (m : State) (b : Stood g l u vs m) (within : Within g l m) (front rest : List ℕ)
+    (parts : u ≡ front ++ rest) (ends : length front ≡ front_end m.scan m.reading) where
   abbrev s : Known
   s = m.scan
 
@@ -210,8 +241,10 @@ module _ (g : Catalog) (l : Limits) (u : List ℕ) (vs : List Value) (m : State)
 
     token_open : is_idle s.mode ≡ false → OpenRest l rest
     token_open i =
-        let h = subst (λ k. longest_top r.start s.used nows.Ready [] (if k then None else Some (token (form_of s.mode))) (is_long_begun (begun_in s)) ≤ l.item) i reach in
-        counted l p u front rest T octets ts colon end (token (form_of s.mode)) parts cut.1 cut.2 (so_begun i) (omega (arith, h, size, begun_stays s.mode s.start s.used i))
+        let h = subst (λ k. longest_top r.start s.used nows.Ready [] (if k then None else Some (token (form_of s.mode))) (is_long_begun (begun_in s)) ≤ l.item)
+        i reach in
+        counted l p u front rest T octets ts colon end (token (form_of s.mode)) parts cut.1 cut.2 (so_begun i)
+        (omega (arith, h, size, begun_stays s.mode s.start s.used i))
 
     k : OpenBehind p s u ts []
     k = behind_tokens p s u ts [] b.scanned
@@ -227,7 +260,8 @@ module _ (g : Catalog) (l : Limits) (u : List ℕ) (vs : List Value) (m : State)
 
     -- both are what stands behind the last token
     same : k.since ≡ octets
-    same = (parts_same (cut'.0) k.since T octets (ap (λ x. cut'.0 ++ x) (sym (append-nil k.since)) ∙ (sym cut'.1 ∙ (append-nil u ∙ cut.1))) (omega (arith, cut'.2, cut.2, same_end))).1
+    same = (parts_same (cut'.0) k.since T octets (ap (λ x. cut'.0 ++ x) (sym (append-nil k.since)) ∙ (sym cut'.1 ∙ (append-nil u ∙ cut.1)))
+        (omega (arith, cut'.2, cut.2, same_end))).1
 
     blank_open : rest ≡ f.open'
     blank_open =
@@ -240,7 +274,8 @@ module _ (g : Catalog) (l : Limits) (u : List ℕ) (vs : List Value) (m : State)
     idle_open : is_idle s.mode ≡ true → OpenRest l rest
     idle_open i = by (so_idle i)
       where
-        colons : (w : List ℕ) → IsBlank w → ((y : List ℕ) × (f.blank ≡ w ++ y) × (y ++ rest ≡ codes ":")) ⊎ ((z : List ℕ) × (w ≡ f.blank ++ z) × (z ++ codes ":" ≡ rest)) → OpenRest l rest
+        colons : (w : List ℕ) → IsBlank w → ((y : List ℕ) × (f.blank ≡ w ++ y) × (y ++ rest ≡ codes ":"))
+            ⊎ ((z : List ℕ) × (w ≡ f.blank ++ z) × (z ++ codes ":" ≡ rest)) → OpenRest l rest
         colons w is (inl (y, e, h)) = last_colon l y rest h
         colons w is (inr (z, e, h)) = blank_rest l true [] rest (omega arith) (inr (refl, z, blank_follows f.blank z f.is_blank (subst IsBlank e is), sym h))
 
@@ -271,11 +306,13 @@ module _ (g : Catalog) (l : Limits) (u : List ℕ) (vs : List Value) (m : State)
 
     -- the item begins before its last token ends
     begins : length front ≤ length T
-    begins = let n = start_before b.front t us false 0 u colon end octets lexes in omega (arith, n, open_size, subst (λ x. IsFirst x r.start) some b.begins, cut.2)
+    begins = let n = start_before b.front t us false 0 u colon end octets lexes in
+        omega (arith, n, open_size, subst (λ x. IsFirst x r.start) some b.begins, cut.2)
 
     item_end : end_of 0 b.item ≡ length T
     item_end =
-        let e = ap (end_of 0) some ∙ (sym (last_end b.front t us 0 0) ∙ (sym (lexed_end (b.front ++ t ∷ us) false 0 u colon end octets lexes) ∙ cut.2)) in omega (arith, e)
+        let e = ap (end_of 0) some ∙ (sym (last_end b.front t us 0 0) ∙ (sym (lexed_end (b.front ++ t ∷ us) false 0 u colon end octets lexes) ∙ cut.2)) in
+        omega (arith, e)
 
     all_counted : s.used - r.start ≤ l.item → OpenRest l rest
     all_counted h = item_rest l rest (omega (arith, h, used, open_size))
@@ -309,8 +346,10 @@ module _ (g : Catalog) (l : Limits) (u : List ℕ) (vs : List Value) (m : State)
       abbrev seen : Bool → Option Begun
       seen i = if i then None else Some (token (form_of s.mode))
 
-      ready_rest : (ss : Symbols) → r.notes ≡ ss → r.now ≡ nows.Ready → (i : Bool) → is_idle s.mode ≡ i → longest_top r.start s.used nows.Ready ss (seen i) (is_long_begun (seen i)) ≤ l.item → OpenRest l rest
-      ready_rest [] e n i j h = absurd (let k : false ≡ true = sym (unfresh (is_fresh r) refl) ∙ fresh_is r.start r.context r.frames r.notes r.now top e n in cc)
+      ready_rest : (ss : Symbols) → r.notes ≡ ss → r.now ≡ nows.Ready → (i : Bool) → is_idle s.mode ≡ i
+          → longest_top r.start s.used nows.Ready ss (seen i) (is_long_begun (seen i)) ≤ l.item → OpenRest l rest
+      ready_rest [] e n i j h = absurd (let k : false ≡ true = sym (unfresh (is_fresh r) refl) ∙ fresh_is r.start r.context r.frames r.notes r.now top e n in
+          cc)
       ready_rest (x ∷ ss) e n true j h = all_counted h
       ready_rest (x ∷ ss) e n false j h = token_counted j h
 
@@ -319,7 +358,8 @@ module _ (g : Catalog) (l : Limits) (u : List ℕ) (vs : List Value) (m : State)
       long_rest v last e c true j h = wait_idle last e h j
       long_rest v last e c false j h = wait_begun v last e j (form_of s.mode) refl (sym (ap (λ k. k || is_long_form (form_of s.mode)) j) ∙ c) h
 
-      top_rest : (n : Now) → r.now ≡ n → EndsAt n (end_of 0 b.item) → CalmNow n s.mode → longest_top r.start s.used n r.notes (begun_in s) (is_long_begun (begun_in s)) ≤ l.item → OpenRest l rest
+      top_rest : (n : Now) → r.now ≡ n → EndsAt n (end_of 0 b.item) → CalmNow n s.mode
+          → longest_top r.start s.used n r.notes (begun_in s) (is_long_begun (begun_in s)) ≤ l.item → OpenRest l rest
       top_rest nows.Ready e at' c h = ready_rest r.notes refl e (is_idle s.mode) refl h
       top_rest (nows.Pending k last) e at' c h = wait_idle last at' h c
       top_rest (nows.Long v last) e at' c h = long_rest v last at' c (is_idle s.mode) refl h

@@ -57,9 +57,11 @@ use Rattle.ion_text.specs.laws.showing.tokens.Froms.{fresh_parts, From, AllFrom,
 use Rattle.ion_text.specs.laws.showing.tokens.Closing.{Closing, colons_close, quotes_close}
 
 -- tokens in a row begin one behind the other
-lexed_from : (n : ℕ) (ts : List Placed) (colon : Bool) (before : ℕ) (octets : List ℕ) (after : Bool) (end : ℕ) (rest : List ℕ) (g : Catalog) (l : Limits) → n ≤ before → LexesTo colon before octets ts after end rest → AllFrom g l n ts
+lexed_from : (n : ℕ) (ts : List Placed) (colon : Bool) (before : ℕ) (octets : List ℕ) (after : Bool) (end : ℕ) (rest : List ℕ) (g : Catalog) (l : Limits)
+    → n ≤ before → LexesTo colon before octets ts after end rest → AllFrom g l n ts
 lexed_from n [] colon before octets after end rest g l k h = tt
-lexed_from n (t ∷ ts) colon before octets after end rest g l k (q, b, h) = (omega (arith, k, b.start), lexed_from n ts (colon_behind t) t.lexeme.end q after end rest g l (omega (arith, k, b.end)) h)
+lexed_from n (t ∷ ts) colon before octets after end rest g l k (q, b, h) =
+    (omega (arith, k, b.start), lexed_from n ts (colon_behind t) t.lexeme.end q after end rest g l (omega (arith, k, b.end)) h)
 
 pub segment_is : (k : TokenKind) → is_segment k ≡ true → k ≡ kinds.LongString
 segment_is kinds.LongString h = refl
@@ -74,7 +76,8 @@ segment_is kinds.Blob h = absurd cc
 segment_is (kinds.Mark m) h = absurd cc
 
 -- a token behind a blank that begins with these octets
-pub blank_token : (more x octets left rest : List ℕ) (colon : Bool) (n : ℕ) (t : Placed) (b : BeginsWith colon n octets t rest) → b.token ≡ more ++ x → octets ≡ left → BlankThen more left
+pub blank_token : (more x octets left rest : List ℕ) (colon : Bool) (n : ℕ) (t : Placed) (b : BeginsWith colon n octets t rest) → b.token ≡ more ++ x
+    → octets ≡ left → BlankThen more left
 blank_token more x octets left rest colon n t b e f = (
   b.blank,
   x ++ rest,
@@ -83,13 +86,16 @@ blank_token more x octets left rest colon n t b e f = (
 )
 
 -- what stands behind a symbol, or a string
-pub colons_token : (p : Place) (colon : Bool) (w r : List ℕ) (k : TokenKind) (kept : List ℕ) → IsLexeme p colon w r k kept → k ≡ kinds.Mark marks.Colons → (w ≡ codes "::") × (colon ≡ true)
+pub colons_token : (p : Place) (colon : Bool) (w r : List ℕ) (k : TokenKind) (kept : List ℕ) → IsLexeme p colon w r k kept → k ≡ kinds.Mark marks.Colons
+    → (w ≡ codes "::") × (colon ≡ true)
 colons_token p colon w r k kept h e = let i = subst (λ x. IsLexeme p colon w r x kept) e h in (i.1, i.2)
 
-pub long_token : (p : Place) (colon : Bool) (w r : List ℕ) (k : TokenKind) (kept : List ℕ) → IsLexeme p colon w r k kept → k ≡ kinds.LongString → (x : List ℕ) × (w ≡ codes "''" ++ x)
+pub long_token : (p : Place) (colon : Bool) (w r : List ℕ) (k : TokenKind) (kept : List ℕ) → IsLexeme p colon w r k kept → k ≡ kinds.LongString → (x : List ℕ)
+    × (w ≡ codes "''" ++ x)
 long_token p colon w r k kept h e = let i = subst (λ x. IsLexeme p colon w r x kept) e h in (39 ∷ (i.0 ++ codes "'''"), i.2)
 
-pub quoted_token : (p : Place) (colon : Bool) (w r : List ℕ) (k : TokenKind) (kept : List ℕ) → IsLexeme p colon w r k kept → k ≡ kinds.QuotedSymbol → length w ≡ 2 → w ≡ codes "''" ++ []
+pub quoted_token : (p : Place) (colon : Bool) (w r : List ℕ) (k : TokenKind) (kept : List ℕ) → IsLexeme p colon w r k kept → k ≡ kinds.QuotedSymbol
+    → length w ≡ 2 → w ≡ codes "''" ++ []
 quoted_token p colon w r k kept h e n = let i = subst (λ x. IsLexeme p colon w r x kept) e h in by (i.0) (i.2)
   where
     by : (content : List ℕ) → w ≡ (39 ∷ content) ++ 39 ∷ [] → w ≡ codes "''" ++ []
@@ -113,11 +119,13 @@ symbol_colon p k octets c h e = go k (symbol_kind k octets c h e) h
     go kinds.Blob i h = absurd cc
 
 -- the last of a long string's tokens
-pub segments_last : (p : Place) (ts : List Placed) (w : List ℕ) → Segments p ts w → (front : List Placed) × (z : Placed) × (ts ≡ front ++ z ∷ []) × (z.place ≡ p) × (z.lexeme.kind ≡ kinds.LongString)
+pub segments_last : (p : Place) (ts : List Placed) (w : List ℕ) → Segments p ts w → (front : List Placed) × (z : Placed) × (ts ≡ front ++ z ∷ [])
+    × (z.place ≡ p) × (z.lexeme.kind ≡ kinds.LongString)
 segments_last p _ _ (segment t w h) = ([], t, refl, h.place, segment_is t.lexeme.kind (segment_kind t.lexeme.kind t.lexeme.octets w h.body))
 segments_last p _ _ (joined ts v w t d h) = (ts, t, refl, h.place, segment_is t.lexeme.kind (segment_kind t.lexeme.kind t.lexeme.octets w h.body))
 
-last_colon : (z : Placed) (colon : Bool) (before : ℕ) (octets : List ℕ) (after : Bool) (end : ℕ) (rest : List ℕ) → LexesTo colon before octets (z ∷ []) after end rest → colon_behind z ≡ after
+last_colon : (z : Placed) (colon : Bool) (before : ℕ) (octets : List ℕ) (after : Bool) (end : ℕ) (rest : List ℕ)
+    → LexesTo colon before octets (z ∷ []) after end rest → colon_behind z ≡ after
 last_colon z colon before octets after end rest (q, b, h) = h.0
 
 -- in a container the place isn't the top level
@@ -133,7 +141,8 @@ inside_place (frames.Fields ss ms) fs nows.Name e = cc
 inside_place (frames.Fields ss ms) fs (nows.LongName w) e = cc
 inside_place (frames.Fields ss ms) fs (nows.Keyed s) e = cc
 
-module _ (g : Catalog) (l : Limits) (u : List ℕ) (vs : List Value) (s : Known) (r : Reading) (ahead : List ℕ) (A : Type 0) (b : Behind g l Scanned u vs s r ahead A) (used : s.used ≡ length u) (x : Placed) (xs : List Placed) (some : b.item ≡ x ∷ xs) where
+module _ (g : Catalog) (l : Limits) (u : List ℕ) (vs : List Value) (s : Known) (r : Reading) (ahead : List ℕ) (A : Type 0)
+    (b : Behind g l Scanned u vs s r ahead A) (used : s.used ≡ length u) (x : Placed) (xs : List Placed) (some : b.item ≡ x ∷ xs) where
   abbrev p : Place
   p = place r
 
@@ -163,7 +172,8 @@ module _ (g : Catalog) (l : Limits) (u : List ℕ) (vs : List Value) (s : Known)
         cut = some;
         says = says_so g l (fresh r.context) x q.1 q.0 q.2;
         no_colons = λ e.
-            let kind = mark_kind x.lexeme.kind x.lexeme.octets marks.Colons (subst (λ y. IsBody x.lexeme.kind x.lexeme.octets (Ok y)) e (said_body x.lexeme.kind x.lexeme.octets q.1 q.2)) in
+            let kind = mark_kind x.lexeme.kind x.lexeme.octets marks.Colons
+            (subst (λ y. IsBody x.lexeme.kind x.lexeme.octets (Ok y)) e (said_body x.lexeme.kind x.lexeme.octets q.1 q.2)) in
             let n : false ≡ true = sym (ap opens_item kind) ∙ opens in
             cc;
       }
@@ -187,7 +197,8 @@ module _ (g : Catalog) (l : Limits) (u : List ℕ) (vs : List Value) (s : Known)
       waiting w e (ok, inl i) = absurd (subst (IsWaiting g l) (fresh_parts a.r.start a.r.context a.r.frames a.r.notes a.r.now i).2 w)
       waiting w e (ok, inr i) = omega (arith, i, e, begins)
 
-      by : ((y : Reading) × (settle g l a.r ≡ goes y) × (is_fresh y ≡ false) × (y.start ≡ starts g l 0 [] b.item)) ⊎ (IsWaiting g l r.now × IsWaiting g l a.r.now × (a.r.start ≡ starts g l 0 [] b.item)) → n ≤ r.start
+      by : ((y : Reading) × (settle g l a.r ≡ goes y) × (is_fresh y ≡ false) × (y.start ≡ starts g l 0 [] b.item))
+          ⊎ (IsWaiting g l r.now × IsWaiting g l a.r.now × (a.r.start ≡ starts g l 0 [] b.item)) → n ≤ r.start
       by (inl (y, e, h, i)) = settled y h i (subst (Leading g l (From g l n)) e (settle_from g l n a.r.start a.r.context a.r.frames a.r.notes a.r.now f))
       by (inr (w, w', e)) = waiting w' e f
 
@@ -211,14 +222,17 @@ module _ (g : Catalog) (l : Limits) (u : List ℕ) (vs : List Value) (s : Known)
     met : OneIsFront (b.front ++ b.item) w.tokens
     met =
         meet g l (λ s octets. Unit {0}) initial (u ++ more) (b.front ++ b.item)
-        (begins_completes (b.front ++ b.item) false 0 (u ++ more) [] (u ++ more) initial (begins_lexed (b.front ++ b.item) false 0 (u ++ more) k.colon k.end (k.since ++ more) ours) refl (λ p. refl))
-        w.tokens (subst (λ y. Found' (λ s octets. Unit {0}) initial y w.tokens) (all_octets g l u vs s r ahead A b used v rest more t cut w) (whole_found g l v (rest ++ more) t w))
+        (begins_completes (b.front ++ b.item) false 0 (u ++ more) [] (u ++ more) initial
+        (begins_lexed (b.front ++ b.item) false 0 (u ++ more) k.colon k.end (k.since ++ more) ours) refl (λ p. refl))
+        w.tokens (subst (λ y. Found' (λ s octets. Unit {0}) initial y w.tokens) (all_octets g l u vs s r ahead A b used v rest more t cut w)
+        (whole_found g l v (rest ++ more) t w))
         (whole_operators g l v (rest ++ more) t w) (fresh system_slots) t (record { vs = vs ++ []; n = a.r; read = read }) going
 
     -- where they have more tokens, the reading goes on with those
     pub going_behind : (ws : List Placed) → w.tokens ≡ (b.front ++ b.item) ++ ws → (all : List Value) × Going g l a.r ws all
     going_behind ws e =
-        let more = behind_read g l (b.front ++ b.item) ws (fresh system_slots) a.r going.n (vs ++ []) going.vs read (ap (reads g l (fresh system_slots)) (sym e) ∙ going.read) in
+        let more = behind_read g l (b.front ++ b.item) ws (fresh system_slots) a.r going.n (vs ++ []) going.vs read
+        (ap (reads g l (fresh system_slots)) (sym e) ∙ going.read) in
         (more.0 ++ going.later, record { vs = more.0; later = going.later; n = going.n; c = going.c; read = more.1; ends = going.ends; whole = refl })
 
     -- where they have, the next one ends behind the octets
@@ -227,14 +241,17 @@ module _ (g : Catalog) (l : Limits) (u : List ℕ) (vs : List Value) (s : Known)
 
     never_more : NoneEnds → (z : Placed) (zs : List Placed) → w.tokens ≡ (b.front ++ b.item) ++ z ∷ zs → ⊥
     never_more ended z zs e =
-        let d = parted (b.front ++ b.item) (z ∷ zs) false 0 (u ++ more) w.colon w.end (w.blank ++ (rest ++ more)) (subst (λ y. LexesTo false 0 (u ++ more) y w.colon w.end (w.blank ++ (rest ++ more))) e theirs) in
+        let d = parted (b.front ++ b.item) (z ∷ zs) false 0 (u ++ more) w.colon w.end (w.blank ++ (rest ++ more))
+        (subst (λ y. LexesTo false 0 (u ++ more) y w.colon w.end (w.blank ++ (rest ++ more))) e theirs) in
         let one = lexes_once (b.front ++ b.item) false 0 (u ++ more) d.flag k.colon d.mid k.end d.left (k.since ++ more) d.first ours in
         let found = one_found d.flag d.mid d.left z d.second.0 d.second.1 in
         let here : Is z.place z.lexeme (run z.place (k.since ++ more) (scanning modes.Blank [] k.colon k.end k.end)) =
         subst (λ y. Is z.place z.lexeme (run z.place y (scanning modes.Blank [] k.colon k.end k.end))) one.2
-        (subst (λ (y : ℕ). Is z.place z.lexeme (run z.place d.left (scanning modes.Blank [] k.colon y y))) one.1 (subst (λ y. Is z.place z.lexeme (run z.place d.left (scanning modes.Blank [] y d.mid d.mid))) one.0 found)) in
+        (subst (λ (y : ℕ). Is z.place z.lexeme (run z.place d.left (scanning modes.Blank [] k.colon y y))) one.1
+        (subst (λ y. Is z.place z.lexeme (run z.place d.left (scanning modes.Blank [] y d.mid d.mid))) one.0 found)) in
         let at' = (going_said g l a.r z zs (going_behind (z ∷ zs) e).0 (going_behind (z ∷ zs) e).1).0 ∙ a.here in
-        let placed : Is p z.lexeme (run p (k.since ++ more) (scanning modes.Blank [] k.colon k.end k.end)) = subst (λ q. Is q z.lexeme (run q (k.since ++ more) (scanning modes.Blank [] k.colon k.end k.end))) at' here in
+        let placed : Is p z.lexeme (run p (k.since ++ more) (scanning modes.Blank [] k.colon k.end k.end)) =
+        subst (λ q. Is q z.lexeme (run q (k.since ++ more) (scanning modes.Blank [] k.colon k.end k.end))) at' here in
         let there = subst (Is p z.lexeme) (run_behind p k.since more (scanning modes.Blank [] k.colon k.end k.end) s k.reached) placed in
         let last = lexed_front zs (colon_behind z) z.lexeme.end d.second.0 w.colon w.end (w.blank ++ (rest ++ more)) d.second.2 in
         ended z zs e there (omega (arith, last.2, long, size, used))
@@ -244,7 +261,8 @@ module _ (g : Catalog) (l : Limits) (u : List ℕ) (vs : List Value) (s : Known)
     fewer y ys e top = by (continues d.now (token_of y.lexeme content)) refl
       where
         parts : Parted false 0 (u ++ more) w.tokens (y ∷ ys) k.colon k.end (k.since ++ more)
-        parts = parted w.tokens (y ∷ ys) false 0 (u ++ more) k.colon k.end (k.since ++ more) (subst (λ z. LexesTo false 0 (u ++ more) z k.colon k.end (k.since ++ more)) e ours)
+        parts = parted w.tokens (y ∷ ys) false 0 (u ++ more) k.colon k.end (k.since ++ more)
+            (subst (λ z. LexesTo false 0 (u ++ more) z k.colon k.end (k.since ++ more)) e ours)
 
         one : (parts.flag ≡ w.colon) × (parts.mid ≡ w.end) × (parts.left ≡ w.blank ++ (rest ++ more))
         one = lexes_once w.tokens false 0 (u ++ more) parts.flag w.colon parts.mid w.end parts.left (w.blank ++ (rest ++ more)) parts.first theirs
@@ -278,13 +296,17 @@ module _ (g : Catalog) (l : Limits) (u : List ℕ) (vs : List Value) (s : Known)
 
         goes_on : (content ≡ Mark' marks.Colons) ⊎ ((ends_long w.tokens ≡ true) × GoesOn (token_of y.lexeme content)) → ⊥
         goes_on (inl h) =
-            let i = colons_token y.place parts.flag token.token (parts.second).0 y.lexeme.kind y.lexeme.octets token.is (mark_kind y.lexeme.kind y.lexeme.octets marks.Colons (body (Mark' marks.Colons) h)) in
-            w.no_annotation (sym one.0 ∙ i.1) (blank_token (codes "::") [] parts.left (w.blank ++ (rest ++ more)) (parts.second).0 parts.flag parts.mid y token (i.0 ∙ sym (append-nil (codes "::"))) one.2)
+            let i = colons_token y.place parts.flag token.token (parts.second).0 y.lexeme.kind y.lexeme.octets token.is
+            (mark_kind y.lexeme.kind y.lexeme.octets marks.Colons (body (Mark' marks.Colons) h)) in
+            w.no_annotation (sym one.0 ∙ i.1) (blank_token (codes "::") [] parts.left (w.blank ++ (rest ++ more)) (parts.second).0 parts.flag parts.mid y token
+            (i.0 ∙ sym (append-nil (codes "::"))) one.2)
         goes_on (inr (h, inl (z, i))) =
-            let j = long_token y.place parts.flag token.token (parts.second).0 y.lexeme.kind y.lexeme.octets token.is (segment_is y.lexeme.kind (segment_kind y.lexeme.kind y.lexeme.octets z (body (Long z) i))) in
+            let j = long_token y.place parts.flag token.token (parts.second).0 y.lexeme.kind y.lexeme.octets token.is
+            (segment_is y.lexeme.kind (segment_kind y.lexeme.kind y.lexeme.octets z (body (Long z) i))) in
             quotes h j.0 j.1
         goes_on (inr (h, inr (z, i, n))) =
-            quotes h [] (quoted_token y.place parts.flag token.token (parts.second).0 y.lexeme.kind y.lexeme.octets token.is (quoted_kind y.lexeme.kind y.lexeme.octets z (body (Quoted z) i)) (wide y.lexeme.start y.lexeme.end n (omega (arith, token.start, token.end))))
+            quotes h [] (quoted_token y.place parts.flag token.token (parts.second).0 y.lexeme.kind y.lexeme.octets token.is
+            (quoted_kind y.lexeme.kind y.lexeme.octets z (body (Quoted z) i)) (wide y.lexeme.start y.lexeme.end n (omega (arith, token.start, token.end))))
           where
             wide : (start end : ℕ) → (end == start + 2) ≡ true → end ≡ start + length token.token → length token.token ≡ 2
             wide start end h i = grind (arith, nat_tests)
@@ -292,9 +314,15 @@ module _ (g : Catalog) (l : Limits) (u : List ℕ) (vs : List Value) (s : Known)
         by : (z : Bool) → continues d.now (token_of y.lexeme content) ≡ z → length v ≤ r.start
         by true h = absurd (goes_on (d.shuts (token_of y.lexeme content) h))
         by false h =
-            let there : adds_values d.later (reads g l (fresh w.context) (y ∷ ys)) ≡ walked others.0 a.r = sym (settled_reads g l d.now y ys content is.0 is.2 h ∙ settled_first g l (settle g l d.now) d.later (fresh w.context) (λ z. reads g l z (y ∷ ys)) d.settles) ∙ others.1 in
+            let there : adds_values d.later (reads g l (fresh w.context) (y ∷ ys)) ≡ walked others.0 a.r =
+            sym (settled_reads g l d.now y ys content is.0 is.2 h
+            ∙ settled_first g l (settle g l d.now) d.later (fresh w.context) (λ z. reads g l z (y ∷ ys)) d.settles) ∙ others.1 in
             let walk = adds_is g l d.later others.0 a.r (reads g l (fresh w.context) (y ∷ ys)) there in
-            let all : AllFrom g l y.lexeme.start (y ∷ ys) = (omega arith, lexed_from y.lexeme.start ys (colon_behind y) y.lexeme.end (parts.second).0 k.colon k.end (k.since ++ more) g l (omega (arith, token.start, token.end)) (parts.second).2) in
+            let all : AllFrom g l y.lexeme.start (y ∷ ys) = (
+              omega arith,
+              lexed_from y.lexeme.start ys (colon_behind y) y.lexeme.end (parts.second).0 k.colon
+                  k.end (k.since ++ more) g l (omega (arith, token.start, token.end)) (parts.second).2,
+            ) in
             let from = begins_from y.lexeme.start (walked_from g l y.lexeme.start (y ∷ ys) (fresh w.context) a.r walk.0 all (λ i. tt, inl refl) walk.1) in
             omega (arith, from, behind)
 
@@ -318,8 +346,10 @@ module _ (g : Catalog) (l : Limits) (u : List ℕ) (vs : List Value) (s : Known)
         ends : on_turn (settle g l a.r) done ≡ walked going.later (fresh going.c)
         ends = ap (λ y. on_turn (settle g l y) done) (sym n) ∙ going.ends
 
-        by : ((y : Reading) × (settle g l a.r ≡ goes y) × (is_fresh y ≡ false) × (y.start ≡ starts g l 0 [] b.item)) ⊎ (IsWaiting g l r.now × IsWaiting g l a.r.now × (a.r.start ≡ starts g l 0 [] b.item)) → IsWaiting g l r.now × (places.Top ≡ p)
-        by (inl (y, h, i, j)) = absurd (let q = walked_now g l [] going.later y (fresh going.c) (ap (λ z. on_turn z done) (sym h) ∙ ends) in let never : false ≡ true = sym i ∙ ap is_fresh q.1 in cc)
+        by : ((y : Reading) × (settle g l a.r ≡ goes y) × (is_fresh y ≡ false) × (y.start ≡ starts g l 0 [] b.item))
+            ⊎ (IsWaiting g l r.now × IsWaiting g l a.r.now × (a.r.start ≡ starts g l 0 [] b.item)) → IsWaiting g l r.now × (places.Top ≡ p)
+        by (inl (y, h, i, j)) = absurd (let q = walked_now g l [] going.later y (fresh going.c) (ap (λ z. on_turn z done) (sym h) ∙ ends) in
+            let never : false ≡ true = sym i ∙ ap is_fresh q.1 in cc)
         by (inr (h, h', i)) = (h, top_now g l a.r going.later going.c ends ∙ a.here)
 
     module _ (e : w.tokens ≡ b.front ++ b.item) where
@@ -337,11 +367,13 @@ module _ (g : Catalog) (l : Limits) (u : List ℕ) (vs : List Value) (s : Known)
   -- whether a colon may stand behind the last token
   pub colon_last : (before : List Placed) (z : Placed) → b.front ++ b.item ≡ before ++ z ∷ [] → colon_behind z ≡ k.colon
   colon_last before z e =
-      let d = parted before (z ∷ []) false 0 (u ++ (ahead ++ [])) k.colon k.end (k.since ++ (ahead ++ [])) (subst (λ y. LexesTo false 0 (u ++ (ahead ++ [])) y k.colon k.end (k.since ++ (ahead ++ []))) e (k.lexes (ahead ++ []) ([], refl))) in
+      let d = parted before (z ∷ []) false 0 (u ++ (ahead ++ [])) k.colon k.end (k.since ++ (ahead ++ []))
+      (subst (λ y. LexesTo false 0 (u ++ (ahead ++ [])) y k.colon k.end (k.since ++ (ahead ++ []))) e (k.lexes (ahead ++ []) ([], refl))) in
       last_colon z d.flag d.mid d.left k.colon k.end (k.since ++ (ahead ++ [])) d.second
 
   -- where no octet is refused, whatever follows
-  module _ (free : (octets : List ℕ) → Continues octets ahead) (wait : Waits g l s r.now) (v rest : List ℕ) (t : List Value) (cut : u ≡ v ++ rest) (whole : ArePieces (Whole g l) v rest t) where
+  module _ (free : (octets : List ℕ) → Continues octets ahead) (wait : Waits g l s r.now) (v rest : List ℕ) (t : List Value) (cut : u ≡ v ++ rest)
+      (whole : ArePieces (Whole g l) v rest t) where
     bare : Escape p s
     bare = escape p k.colon k.end s k.since k.holds
 
@@ -369,7 +401,8 @@ module _ (g : Catalog) (l : Limits) (u : List ℕ) (vs : List Value) (s : Known)
         by (inr e) = absurd (n (whole c.octets c.are) e)
 
     mode_at : (colon : Bool) → k.colon ≡ colon → p ≡ places.Top → InMode places.Top colon k.end s.mode s.kept s.start k.since
-    mode_at colon e top = subst (λ q. InMode q colon k.end s.mode s.kept s.start k.since) top (subst (λ c. InMode p c k.end s.mode s.kept s.start k.since) e k.holds.mode)
+    mode_at colon e top = subst (λ q. InMode q colon k.end s.mode s.kept s.start k.since) top
+        (subst (λ c. InMode p c k.end s.mode s.kept s.start k.since) e k.holds.mode)
 
     closing_at : (colon : Bool) (more : List ℕ) → k.colon ≡ colon → Closing (scanning s.mode s.kept colon s.start s.used) k.since more → Closing s k.since more
     closing_at colon more e c = subst (λ y. Closing (scanning s.mode s.kept y s.start s.used) k.since more) (sym (k.holds.flag ∙ e)) c
@@ -381,13 +414,15 @@ module _ (g : Catalog) (l : Limits) (u : List ℕ) (vs : List Value) (s : Known)
         (λ w i. no_colons c.octets (free c.octets) v rest t cut w i colon c.shows)
       where
         colon : k.colon ≡ true
-        colon = sym (colon_last (b.front ++ d.before) d.token (ap (λ y. b.front ++ y) d.whole ∙ sym (append_assoc b.front d.before (d.token ∷ [])))) ∙ symbol_colon d.token.place d.token.lexeme.kind d.token.lexeme.octets d.said d.says.body d.named
+        colon = sym (colon_last (b.front ++ d.before) d.token (ap (λ y. b.front ++ y) d.whole ∙ sym (append_assoc b.front d.before (d.token ∷ []))))
+            ∙ symbol_colon d.token.place d.token.lexeme.kind d.token.lexeme.octets d.said d.says.body d.named
 
         c : Closing s k.since (codes "::")
         c = closing_at true (codes "::") colon (colons_close k.end s.kept s.start s.used k.since s.mode idle (mode_at true colon top))
 
     -- behind a long string
-    behind_long : (z : List ℕ) (ss : Symbols) → p ≡ places.Top → LongFor r.context [] ss z b.item → (is_idle s.mode || is_quoting s.mode) ≡ true → length v ≤ r.start
+    behind_long : (z : List ℕ) (ss : Symbols) → p ≡ places.Top → LongFor r.context [] ss z b.item → (is_idle s.mode || is_quoting s.mode) ≡ true
+        → length v ≤ r.start
     behind_long z ss top d waits =
         closed (codes "''") top c
         (λ w i. no_quotes c.octets (free c.octets) v rest t cut w i long_there c.shows)
@@ -399,15 +434,18 @@ module _ (g : Catalog) (l : Limits) (u : List ℕ) (vs : List Value) (s : Known)
         long_there = ends_behind b.front b.item (ap ends_long d.whole ∙ ends_behind d.before d.segments (segments_long places.Top d.segments z d.are))
 
         all : b.front ++ b.item ≡ (b.front ++ (d.before ++ last.0)) ++ last.1 ∷ []
-        all = ap (λ y. b.front ++ y) (d.whole ∙ (ap (λ y. d.before ++ y) last.2 ∙ sym (append_assoc d.before last.0 (last.1 ∷ [])))) ∙ sym (append_assoc b.front (d.before ++ last.0) (last.1 ∷ []))
+        all = ap (λ y. b.front ++ y) (d.whole ∙ (ap (λ y. d.before ++ y) last.2 ∙ sym (append_assoc d.before last.0 (last.1 ∷ []))))
+            ∙ sym (append_assoc b.front (d.before ++ last.0) (last.1 ∷ []))
 
         colon : k.colon ≡ false
-        colon = sym (colon_last (b.front ++ (d.before ++ last.0)) last.1 all) ∙ (ap (λ q. takes_colon q (last.1).lexeme.kind) last.3 ∙ ap (takes_colon places.Top) last.4)
+        colon = sym (colon_last (b.front ++ (d.before ++ last.0)) last.1 all)
+            ∙ (ap (λ q. takes_colon q (last.1).lexeme.kind) last.3 ∙ ap (takes_colon places.Top) last.4)
 
         c : Closing s k.since (codes "''")
         c =
             closing_at false (codes "''") colon (quotes_close k.end s.kept s.start s.used k.since s.mode waits
-            (subst (λ y. Escape places.Top (scanning s.mode s.kept y s.start s.used)) (k.holds.flag ∙ colon) (subst (λ q. Escape q s) top bare)) (mode_at false colon top))
+            (subst (λ y. Escape places.Top (scanning s.mode s.kept y s.start s.used)) (k.holds.flag ∙ colon) (subst (λ q. Escape q s) top bare))
+            (mode_at false colon top))
 
     -- Where an item is open, the pieces in front of it are the longest.
     pub longest_item : length v ≤ r.start
@@ -430,5 +468,8 @@ module _ (g : Catalog) (l : Limits) (u : List ℕ) (vs : List Value) (s : Known)
         choose (nows.Keyed z) e [] i = otherwise (λ w q. subst (IsWaiting g l) e w)
 
 -- where no octet is refused
-pub longest_open : (g : Catalog) (l : Limits) (u : List ℕ) (vs : List Value) (m : State) (b : Stood g l u vs m) (x : Placed) (xs : List Placed) → b.item ≡ x ∷ xs → Waits g l m.scan m.reading.now → (v rest : List ℕ) (t : List Value) → u ≡ v ++ rest → ArePieces (Whole g l) v rest t → length v ≤ m.reading.start
-longest_open g l u vs m b x xs some wait v rest t cut whole = longest_item g l u vs m.scan m.reading [] (NoLongText m.scan.mode) b (stood_used g l u vs m b) x xs some (λ octets. (octets, refl)) wait v rest t cut whole
+pub longest_open : (g : Catalog) (l : Limits) (u : List ℕ) (vs : List Value) (m : State) (b : Stood g l u vs m) (x : Placed) (xs : List Placed)
+    → b.item ≡ x ∷ xs → Waits g l m.scan m.reading.now → (v rest : List ℕ) (t : List Value) → u ≡ v ++ rest → ArePieces (Whole g l) v rest t
+    → length v ≤ m.reading.start
+longest_open g l u vs m b x xs some wait v rest t cut whole =
+    longest_item g l u vs m.scan m.reading [] (NoLongText m.scan.mode) b (stood_used g l u vs m b) x xs some (λ octets. (octets, refl)) wait v rest t cut whole

@@ -77,13 +77,16 @@ module _ (g : Catalog) (l : Limits) where
   resolved_unfresh (Ok s) f h = h s
   resolved_unfresh (Err e) f h = tt
 
-  keyword_unfresh : (start : ℕ) (c : List Slot) (fs : List Frame) (w : List ℕ) (b : Bool) → Unfresh (if b then late reasons.KeywordAsName (keyed start c fs (Some w)) else goes (keyed start c fs (Some w)))
+  keyword_unfresh : (start : ℕ) (c : List Slot) (fs : List Frame) (w : List ℕ) (b : Bool)
+      → Unfresh (if b then late reasons.KeywordAsName (keyed start c fs (Some w)) else goes (keyed start c fs (Some w)))
   keyword_unfresh start c fs w true = tt
   keyword_unfresh start c fs w false = keyed_unfresh start c fs [] (Some w)
 
-  symbol_unfresh : (begin end start : ℕ) (c : List Slot) (fs : List Frame) (ss : Symbols) (said : Content) (now : Now) → symbol_said said ≡ true → Unfresh (turn_now (under g l) (at start c fs ss now) (token_at begin end said) now)
+  symbol_unfresh : (begin end start : ℕ) (c : List Slot) (fs : List Frame) (ss : Symbols) (said : Content) (now : Now) → symbol_said said ≡ true
+      → Unfresh (turn_now (under g l) (at start c fs ss now) (token_at begin end said) now)
   symbol_unfresh begin end start c fs ss (Word w) nows.Ready h = pending_unfresh (begun_at start begin fs ss) c fs ss (held_word w) end
-  symbol_unfresh begin end start c fs ss (Id id) nows.Ready h = resolved_unfresh (resolve c id) _ (λ s. pending_unfresh (begun_at start begin fs ss) c fs ss (helds.Symbol s) end)
+  symbol_unfresh begin end start c fs ss (Id id) nows.Ready h =
+      resolved_unfresh (resolve c id) _ (λ s. pending_unfresh (begun_at start begin fs ss) c fs ss (helds.Symbol s) end)
   symbol_unfresh begin end start c fs ss (Quoted w) nows.Ready h = pending_unfresh (begun_at start begin fs ss) c fs ss (helds.Symbol (Some w)) end
   symbol_unfresh begin end start c fs ss (TypedNull k) nows.Ready h = pending_unfresh (begun_at start begin fs ss) c fs ss (helds.Null k) end
   symbol_unfresh begin end start c fs ss (Word w) nows.Name h = keyword_unfresh start c fs w (is_keyword w)
@@ -144,7 +147,8 @@ module _ (g : Catalog) (l : Limits) where
       t = turn g l r (token_of x c)
 
       none : Unfresh t → NoColon (place r) x t
-      none h = map_turn g l (λ n. is_fresh n ≡ false) (λ n. is_fresh n ≡ true → takes_colon (place r) x.kind ≡ false) (λ n e f. absurd (never (is_fresh n) e f)) t h
+      none h = map_turn g l (λ n. is_fresh n ≡ false) (λ n. is_fresh n ≡ true → takes_colon (place r) x.kind ≡ false) (λ n e f. absurd (never (is_fresh n) e f))
+          t h
 
       symbol : symbol_said c ≡ true → NoColon (place r) x t
       symbol h = none (symbol_unfresh x.start x.end r.start r.context r.frames r.notes c r.now h)
@@ -156,7 +160,9 @@ module _ (g : Catalog) (l : Limits) where
       name k false e f = free f
       name k true e f =
           let i = name_inside r.frames r.now e in
-          none (inside_open c l.item (start_now r.now r.start x.start r.frames r.notes) x.end t k (subst (λ b. Spans b c l.item (start_now r.now r.start x.start r.frames r.notes) x.end t) i (turn_spans g l r (token_of x c) (λ h. absurd (never (is_top r.frames) i h)))))
+          none (inside_open c l.item (start_now r.now r.start x.start r.frames r.notes) x.end t k
+          (subst (λ b. Spans b c l.item (start_now r.now r.start x.start r.frames r.notes) x.end t) i
+          (turn_spans g l r (token_of x c) (λ h. absurd (never (is_top r.frames) i h)))))
 
       go : (k : TokenKind) → x.kind ≡ k → IsBody k x.octets (Ok c) → NoColon (place r) x t
       go kinds.Word e h = symbol (word_symbol x.octets (id_of x.octets) c h)
@@ -202,7 +208,8 @@ module _ (g : Catalog) (l : Limits) where
     noticed_still : (r : Reading) (s : Known) → HasBegun s r → StillBehind o (noticed l r s)
     noticed_still r s h = go (shut r.now && not (is_idle s.mode)) (nat_le (reaches r.frames r s) l.item)
       where
-        go : (x y : Bool) → StillBehind o (if x then fails reasons.Unexpected else (if y then uses (record { scan = s; reading = r }) else fails reasons.ItemTooLong))
+        go : (x y : Bool) → StillBehind o (if x then fails reasons.Unexpected else
+            (if y then uses (record { scan = s; reading = r }) else fails reasons.ItemTooLong))
         go true y = tt
         go false true = h
         go false false = tt
@@ -222,7 +229,8 @@ module _ (g : Catalog) (l : Limits) where
     abbrev AgainStill : (State → Effect) → Type 0
     AgainStill again = (k : State) → StillAt o k.scan k.reading → StillBehind o (again k)
 
-    left_still : (again : State → Effect) (s : Known) (t : Turn) → AgainStill again → Leading g l (λ n. is_fresh n ≡ true → s.colon ≡ false) t → StillBehind o (behind_left again s t)
+    left_still : (again : State → Effect) (s : Known) (t : Turn) → AgainStill again → Leading g l (λ n. is_fresh n ≡ true → s.colon ≡ false) t
+        → StillBehind o (behind_left again s t)
     left_still again s (goes r) f h = f (with_scan s r) (λ x c. absurd (never s.colon (h x) c))
     left_still again s (gives v r) f h = λ x c. absurd (never s.colon (h x) c)
     left_still again s (refuses e) f h = tt
@@ -233,20 +241,28 @@ module _ (g : Catalog) (l : Limits) where
     said_still (Err e) f h = tt
 
     -- behind a token that is told where nothing is open no colon may stand
-    pub colon_free : (r : Reading) (x : Lexeme) (t : Known) (c : Content) → t.colon ≡ takes_colon (place r) x.kind → said x.kind x.octets ≡ Ok c → Leading g l (λ n. is_fresh n ≡ true → t.colon ≡ false) (turn g l r (token_of x c))
-    colon_free r x t c e f = map_turn g l (λ n. is_fresh n ≡ true → takes_colon (place r) x.kind ≡ false) (λ n. is_fresh n ≡ true → t.colon ≡ false) (λ n h i. e ∙ h i) (turn g l r (token_of x c)) (turn_colon r x c (said_body x.kind x.octets c f))
+    pub colon_free : (r : Reading) (x : Lexeme) (t : Known) (c : Content) → t.colon ≡ takes_colon (place r) x.kind → said x.kind x.octets ≡ Ok c
+        → Leading g l (λ n. is_fresh n ≡ true → t.colon ≡ false) (turn g l r (token_of x c))
+    colon_free r x t c e f = map_turn g l (λ n. is_fresh n ≡ true → takes_colon (place r) x.kind ≡ false) (λ n. is_fresh n ≡ true → t.colon ≡ false)
+        (λ n h i. e ∙ h i) (turn g l r (token_of x c)) (turn_colon r x c (said_body x.kind x.octets c f))
 
-    scan_still : (s : Known) (r : Reading) (again : State → Effect) → AgainStill again → StillAt o s r → (x : Outcome) → feed (place r) s o ≡ x → Keeps (place r) s x → StillBehind o (on_scan g l again r x)
+    scan_still : (s : Known) (r : Reading) (again : State → Effect) → AgainStill again → StillAt o s r → (x : Outcome) → feed (place r) s o ≡ x
+        → Keeps (place r) s x → StillBehind o (on_scan g l again r x)
     scan_still s r again f h (Next t) e k = noticed_still r t (λ i c. subst BeginsOne e (h i (sym k.1 ∙ c)))
-    scan_still s r again f h (Given x t) e k = said_still (said x.kind x.octets) (λ c. behind_given l t (turn g l r (token_of x c))) (λ c i. given_still t (turn g l r (token_of x c)) (colon_free r x t c k.2 i))
-    scan_still s r again f h (Left x t) e k = said_still (said x.kind x.octets) (λ c. behind_left again t (turn g l r (token_of x c))) (λ c i. left_still again t (turn g l r (token_of x c)) f (colon_free r x t c k.2 i))
+    scan_still s r again f h (Given x t) e k = said_still (said x.kind x.octets) (λ c. behind_given l t (turn g l r (token_of x c)))
+        (λ c i. given_still t (turn g l r (token_of x c)) (colon_free r x t c k.2 i))
+    scan_still s r again f h (Left x t) e k = said_still (said x.kind x.octets) (λ c. behind_left again t (turn g l r (token_of x c)))
+        (λ c i. left_still again t (turn g l r (token_of x c)) f (colon_free r x t c k.2 i))
     scan_still s r again f h (Refused n y) e k = tt
 
-    octet_scanned : (s : Known) (r : Reading) (again : State → Effect) → AgainStill again → StillAt o s r → StillBehind o (on_scan g l again r (feed (place r) s o))
+    octet_scanned : (s : Known) (r : Reading) (again : State → Effect) → AgainStill again → StillAt o s r
+        → StillBehind o (on_scan g l again r (feed (place r) s o))
     octet_scanned s r again f h = scan_still s r again f h (feed (place r) s o) refl (feed_keeps (place r) s o)
 
     -- what waited is settled by an octet that begins a token, or ends one
-    settled_still : (s : Known) (again : State → Effect) (p : Place) → AgainStill again → (t : Turn) → Leading g l (λ n. (place n ≡ p) × (is_fresh n ≡ true → s.colon ≡ true → BeginsOne (feed p s o))) t → StillBehind o (on_settled g l again s (feed p s o) t)
+    settled_still : (s : Known) (again : State → Effect) (p : Place) → AgainStill again → (t : Turn)
+        → Leading g l (λ n. (place n ≡ p) × (is_fresh n ≡ true → s.colon ≡ true → BeginsOne (feed p s o))) t
+        → StillBehind o (on_settled g l again s (feed p s o) t)
     settled_still s again p f (goes r) h =
         subst (λ q. StillBehind o (on_scan g l again r (feed q s o))) h.0
         (octet_scanned s r again f (subst (λ q. is_fresh r ≡ true → s.colon ≡ true → BeginsOne (feed q s o)) (sym h.0) h.1))
@@ -269,7 +285,8 @@ module _ (g : Catalog) (l : Limits) where
     abbrev SettledIn : Place → Known → Reading → Type 0
     SettledIn p s n = (place n ≡ p) × (is_fresh n ≡ true → s.colon ≡ true → BeginsOne (feed p s o))
 
-    settling : (start : ℕ) (c : List Slot) (fs : List Frame) (ss : Symbols) (now : Now) (s : Known) → StillAt o s (at start c fs ss now) → waits_now (is_top fs) now (feed (place_in fs now) s o) ≡ false
+    settling : (start : ℕ) (c : List Slot) (fs : List Frame) (ss : Symbols) (now : Now) (s : Known) → StillAt o s (at start c fs ss now)
+        → waits_now (is_top fs) now (feed (place_in fs now) s o) ≡ false
         → Leading g l (SettledIn (place_in fs now) s) (settle g l (at start c fs ss now))
     settling start c fs ss now s h w = go now refl
       where
@@ -277,10 +294,13 @@ module _ (g : Catalog) (l : Limits) where
         p = place_in fs now
 
         by : BeginsOne (feed p s o) → Leading g l (SettledIn p s) (settle g l (at start c fs ss now))
-        by b = map_turn g l (λ n. (place n ≡ p) × (is_top n.frames ≡ is_top fs)) (SettledIn p s) (λ n e. (e.0, λ f i. b)) (settle g l (at start c fs ss now)) (settle_same g l start c fs ss now)
+        by b = map_turn g l (λ n. (place n ≡ p) × (is_top n.frames ≡ is_top fs)) (SettledIn p s) (λ n e. (e.0, λ f i. b)) (settle g l (at start c fs ss now))
+            (settle_same g l start c fs ss now)
 
-        same : (n : Now) → now ≡ n → settle g l (at start c fs ss n) ≡ goes (at start c fs ss n) → Leading g l (SettledIn p s) (settle g l (at start c fs ss now))
-        same n e f = subst (Leading g l (SettledIn p s)) (sym (ap (λ m. settle g l (at start c fs ss m)) e ∙ f)) (ap (place_in fs) (sym e), λ i k. h (ap (λ m. is_fresh (at start c fs ss m)) e ∙ i) k)
+        same : (n : Now) → now ≡ n → settle g l (at start c fs ss n) ≡ goes (at start c fs ss n)
+            → Leading g l (SettledIn p s) (settle g l (at start c fs ss now))
+        same n e f = subst (Leading g l (SettledIn p s)) (sym (ap (λ m. settle g l (at start c fs ss m)) e ∙ f))
+            (ap (place_in fs) (sym e), λ i k. h (ap (λ m. is_fresh (at start c fs ss m)) e ∙ i) k)
 
         go : (n : Now) → now ≡ n → Leading g l (SettledIn p s) (settle g l (at start c fs ss now))
         go (nows.Pending k end) e = by (symbol_begins (feed p s o) (sym (ap (λ m. waits_now (is_top fs) m (feed p s o)) e) ∙ w))
@@ -291,12 +311,15 @@ module _ (g : Catalog) (l : Limits) where
         go nows.Name e = same nows.Name e refl
         go (nows.Keyed x) e = same (nows.Keyed x) e refl
 
-    octet_still : (s : Known) (r : Reading) (again : State → Effect) → AgainStill again → StillAt o s r → StillBehind o (on_octet g l again (with_scan s r) (feed (place r) s o))
+    octet_still : (s : Known) (r : Reading) (again : State → Effect) → AgainStill again → StillAt o s r
+        → StillBehind o (on_octet g l again (with_scan s r) (feed (place r) s o))
     octet_still s r again f h = go (unsettled s r (feed (place r) s o)) refl
       where
-        go : (w : Bool) → unsettled s r (feed (place r) s o) ≡ w → StillBehind o (if w then on_scan g l again r (feed (place r) s o) else on_settled g l again s (feed (place r) s o) (settle g l r))
+        go : (w : Bool) → unsettled s r (feed (place r) s o) ≡ w
+            → StillBehind o (if w then on_scan g l again r (feed (place r) s o) else on_settled g l again s (feed (place r) s o) (settle g l r))
         go true e = octet_scanned s r again f h
-        go false e = settled_still s again (place r) f (settle g l r) (settling r.start r.context r.frames r.notes r.now s h (or_parts (waits r (feed (place r) s o)) (in_segment r.now s) e).0)
+        go false e = settled_still s again (place r) f (settle g l r)
+            (settling r.start r.context r.frames r.notes r.now s h (or_parts (waits r (feed (place r) s o)) (in_segment r.now s) e).0)
 
     pub takes_still : (n : ℕ) (m : State) → StillAt o m.scan m.reading → StillBehind o (takes g l n m o)
     takes_still zero m h = tt
@@ -312,7 +335,8 @@ module _ (g : Catalog) (l : Limits) where
 
   pub run_still : (os u : List ℕ) (vs : List Value) (to : ℕ) (m : State) → Stood g l u vs m → HasBegun m.scan m.reading → EndsStill (run g l to m os).now
   run_still [] u vs to m b h = h
-  run_still (o ∷ os) u vs to m b h = step (λ xs n c i. run_still os (u ++ o ∷ []) xs (to + 1) n c i) (eats g l m o) (eats_after g l u vs m o b) (eats_still o m b.sane h)
+  run_still (o ∷ os) u vs to m b h = step (λ xs n c i. run_still os (u ++ o ∷ []) xs (to + 1) n c i) (eats g l m o) (eats_after g l u vs m o b)
+      (eats_still o m b.sane h)
     where
       Rest : Type 0
       Rest = (xs : List Value) (n : State) → Stood g l (u ++ o ∷ []) xs n → HasBegun n.scan n.reading → EndsStill (run g l (to + 1) n os).now
@@ -326,5 +350,6 @@ module _ (g : Catalog) (l : Limits) where
       step : Rest → (x : Effect) → After g l u vs o x → StillBehind o x → EndsStill (run_on to (λ n. eats g l n o) (λ n. run g l (to + 1) n os) x).now
       step rest (uses n) a i = rest vs n a i
       step rest (tells v n) a i = rest (vs ++ v ∷ []) n a i
-      step rest (leaves v n) a i = once rest (vs ++ v ∷ []) (eats g l n o) (takes_after g l u (vs ++ v ∷ []) o 3 n.scan n.reading a.0 a.1 a.2) (takes_still o 3 n i)
+      step rest (leaves v n) a i = once rest (vs ++ v ∷ []) (eats g l n o) (takes_after g l u (vs ++ v ∷ []) o 3 n.scan n.reading a.0 a.1 a.2)
+          (takes_still o 3 n i)
       step rest (fails e) a i = tt

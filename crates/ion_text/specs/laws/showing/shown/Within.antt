@@ -40,7 +40,8 @@ blob_idle : (s : Known) (b : Option (List ℕ)) → IdleBehind (blob_ends s b)
 blob_idle s None = tt
 blob_idle s (Some b) = tt
 
-word_idle : (p : Place) (s : Known) (b : Bool) → IdleBehind (if b then Next (go_to s modes.KindName []) else Left (cut s kinds.Word s.kept s.used) (past p kinds.Word modes.Blank [] s.used s.used))
+word_idle : (p : Place) (s : Known) (b : Bool) → IdleBehind
+    (if b then Next (go_to s modes.KindName []) else Left (cut s kinds.Word s.kept s.used) (past p kinds.Word modes.Blank [] s.used s.used))
 word_idle p s true = tt
 word_idle p s false = tt
 
@@ -71,7 +72,8 @@ module _ (g : Catalog) (l : Limits) where
   noticed_within : (r : Reading) (s : Known) → (is_top r.frames ≡ true → CalmNow r.now s.mode) → WithinBehind (noticed l r s)
   noticed_within r s c = go (shut r.now && not (is_idle s.mode)) (nat_le (reaches r.frames r s) l.item) refl
     where
-      go : (x y : Bool) → nat_le (reaches r.frames r s) l.item ≡ y → WithinBehind (if x then fails reasons.Unexpected else (if y then uses (record { scan = s; reading = r }) else fails reasons.ItemTooLong))
+      go : (x y : Bool) → nat_le (reaches r.frames r s) l.item ≡ y
+          → WithinBehind (if x then fails reasons.Unexpected else (if y then uses (record { scan = s; reading = r }) else fails reasons.ItemTooLong))
       go true y e = tt
       go false true e = (le_of (reaches r.frames r s) l.item e, c)
       go false false e = tt
@@ -87,9 +89,12 @@ module _ (g : Catalog) (l : Limits) where
   fresh_within s r h idle = go r.frames r.notes r.now h
     where
       none : longest_top r.start s.used nows.Ready [] (begun_in s) (is_long_begun (begun_in s)) ≤ l.item
-      none = subst (λ i. longest_top r.start s.used nows.Ready [] (if i then None else Some (record { start = s.start; end = s.used - behind s.mode; form = form_of s.mode })) (is_long_begun (begun_in s)) ≤ l.item) (sym idle) (omega arith)
+      none = subst (λ i. longest_top r.start s.used nows.Ready []
+          (if i then None else Some (record { start = s.start; end = s.used - behind s.mode; form = form_of s.mode })) (is_long_begun (begun_in s)) ≤ l.item)
+          (sym idle) (omega arith)
 
-      go : (fs : List Frame) (ss : Symbols) (n : Now) → is_fresh (at r.start r.context fs ss n) ≡ true → (reaches fs (at r.start r.context fs ss n) s ≤ l.item) × (is_top fs ≡ true → CalmNow n s.mode)
+      go : (fs : List Frame) (ss : Symbols) (n : Now) → is_fresh (at r.start r.context fs ss n) ≡ true → (reaches fs (at r.start r.context fs ss n) s ≤ l.item)
+          × (is_top fs ≡ true → CalmNow n s.mode)
       go [] [] nows.Ready h = (none, λ k. tt)
       go [] [] (nows.Pending k e) h = absurd cc
       go [] [] (nows.Long w e) h = absurd cc
@@ -103,13 +108,15 @@ module _ (g : Catalog) (l : Limits) where
   abbrev AgainWithin : (State → Effect) → Type 0
   AgainWithin again = (k : State) → TopOk g l k.reading → WithinBehind (again k)
 
-  given_within : (s : Known) (r : Reading) (c : Content) (start end : ℕ) (t : Turn) → is_idle s.mode ≡ true → Spans (is_top r.frames) c l.item start end t → WithinBehind (behind_given l s t)
+  given_within : (s : Known) (r : Reading) (c : Content) (start end : ℕ) (t : Turn) → is_idle s.mode ≡ true → Spans (is_top r.frames) c l.item start end t
+      → WithinBehind (behind_given l s t)
   given_within s r c start end (goes n) idle h = noticed_within n s (λ k. idle_calm n.now s.mode (turn_ok g l r c l.item start end (goes n) h k).0 idle)
   given_within s r c start end (gives v n) idle h = fresh_within s n h.2 idle
   given_within s r c start end (refuses e) idle h = tt
   given_within s r c start end (late e n) idle h = worse_within e (noticed l n s)
 
-  left_within : (again : State → Effect) (s : Known) (r : Reading) (c : Content) (start end : ℕ) (t : Turn) → AgainWithin again → Spans (is_top r.frames) c l.item start end t → WithinBehind (behind_left again s t)
+  left_within : (again : State → Effect) (s : Known) (r : Reading) (c : Content) (start end : ℕ) (t : Turn) → AgainWithin again
+      → Spans (is_top r.frames) c l.item start end t → WithinBehind (behind_left again s t)
   left_within again s r c start end (goes n) f h = f (with_scan s n) (λ k. (turn_ok g l r c l.item start end (goes n) h k).0)
   left_within again s r c start end (gives v n) f h = λ k. (turn_ok g l r c l.item start end (gives v n) h k).0
   left_within again s r c start end (refuses e) f h = tt
@@ -119,7 +126,8 @@ module _ (g : Catalog) (l : Limits) where
   said_within (Ok c) f h = h c
   said_within (Err e) f h = tt
 
-  scan_within : (r : Reading) (again : State → Effect) → AgainWithin again → TopOk g l r → (x : Outcome) → IdleBehind x → ((t : Known) → x ≡ Next t → is_top r.frames ≡ true → CalmNow r.now t.mode) → WithinBehind (on_scan g l again r x)
+  scan_within : (r : Reading) (again : State → Effect) → AgainWithin again → TopOk g l r → (x : Outcome) → IdleBehind x
+      → ((t : Known) → x ≡ Next t → is_top r.frames ≡ true → CalmNow r.now t.mode) → WithinBehind (on_scan g l again r x)
   scan_within r again f ok (Next t) i c = noticed_within r t (c t refl)
   scan_within r again f ok (Given x t) i c =
       said_within (said x.kind x.octets) (λ k. behind_given l t (turn g l r (token_of x k)))
@@ -129,18 +137,23 @@ module _ (g : Catalog) (l : Limits) where
       (λ k. left_within again t r k (start_now r.now r.start x.start r.frames r.notes) x.end (turn g l r (token_of x k)) f (turn_spans g l r (token_of x k) ok))
   scan_within r again f ok (Refused n e) i c = tt
 
-  settled_within : (s : Known) (again : State → Effect) → AgainWithin again → (x : Outcome) → IdleBehind x → (t : Turn) → SettledCalm g l t → WithinBehind (on_settled g l again s x t)
+  settled_within : (s : Known) (again : State → Effect) → AgainWithin again → (x : Outcome) → IdleBehind x → (t : Turn) → SettledCalm g l t
+      → WithinBehind (on_settled g l again s x t)
   settled_within s again f x i (goes n) c = scan_within n again f (λ k. calm_now n.now modes.Blank (c modes.Blank k)) x i (λ t e k. c t.mode k)
   settled_within s again f x i (gives v n) c = λ k. calm_now n.now modes.Blank (c modes.Blank k)
   settled_within s again f x i (refuses e) c = tt
   settled_within s again f x i (late e n) c = worse_within e (on_scan g l again n x)
 
-  octet_within : (s : Known) (r : Reading) (o : ℕ) (again : State → Effect) → AgainWithin again → TopOk g l r → WithinBehind (on_octet g l again (with_scan s r) (feed (place r) s o))
+  octet_within : (s : Known) (r : Reading) (o : ℕ) (again : State → Effect) → AgainWithin again → TopOk g l r
+      → WithinBehind (on_octet g l again (with_scan s r) (feed (place r) s o))
   octet_within s r o again f ok = go (unsettled s r (feed (place r) s o)) refl
     where
-      go : (w : Bool) → unsettled s r (feed (place r) s o) ≡ w → WithinBehind (if w then on_scan g l again r (feed (place r) s o) else on_settled g l again s (feed (place r) s o) (settle g l r))
-      go true e = scan_within r again f ok (feed (place r) s o) (feed_idle (place r) s o) (λ t h k. waits_calm g l r.frames r.now t ok (subst (λ y. waits r y ≡ true) h (unsettled_waits (place r) s r o (subst NotRefused (sym h) tt) e)) k)
-      go false e = settled_within s again f (feed (place r) s o) (feed_idle (place r) s o) (settle g l r) (settle_settled g l r.start r.context r.frames r.notes r.now ok)
+      go : (w : Bool) → unsettled s r (feed (place r) s o) ≡ w
+          → WithinBehind (if w then on_scan g l again r (feed (place r) s o) else on_settled g l again s (feed (place r) s o) (settle g l r))
+      go true e = scan_within r again f ok (feed (place r) s o) (feed_idle (place r) s o)
+          (λ t h k. waits_calm g l r.frames r.now t ok (subst (λ y. waits r y ≡ true) h (unsettled_waits (place r) s r o (subst NotRefused (sym h) tt) e)) k)
+      go false e = settled_within s again f (feed (place r) s o) (feed_idle (place r) s o) (settle g l r)
+          (settle_settled g l r.start r.context r.frames r.notes r.now ok)
 
   takes_within : (n : ℕ) (m : State) (o : ℕ) → TopOk g l m.reading → WithinBehind (takes g l n m o)
   takes_within zero m o ok = tt

@@ -61,7 +61,8 @@ NoInfinity x f = begins_infinity (x ++ f) ≡ false → begins_infinity x ≡ fa
 numeric_front : (w x f : List ℕ) → MayComment x f → IsNumeric w (x ++ f) → IsNumeric w x
 numeric_front w x f may n = record { begun = n.begun; each = n.each; longest = go x may n.longest }
   where
-    go : (x : List ℕ) → MayComment x f → (x ++ f ≡ []) ⊎ ((begins is_stop (x ++ f) ≡ true) ⊎ (begins_comment (x ++ f) ≡ true)) → (x ≡ []) ⊎ ((begins is_stop x ≡ true) ⊎ (begins_comment x ≡ true))
+    go : (x : List ℕ) → MayComment x f → (x ++ f ≡ []) ⊎ ((begins is_stop (x ++ f) ≡ true) ⊎ (begins_comment (x ++ f) ≡ true)) → (x ≡ [])
+        ⊎ ((begins is_stop x ≡ true) ⊎ (begins_comment x ≡ true))
     go x may (inl e) = inl (nothing_before x f e)
     go [] may (inr (inl h)) = inl refl
     go (o ∷ x) may (inr (inl h)) = inr (inl h)
@@ -86,7 +87,8 @@ mark_front marks.FieldsOpen x f h = begins_front _ x f h
 mark_front marks.Colon x f h = begins_front _ x f h
 mark_front _ x f h = tt
 
-lexeme_front : (p : Place) (colon : Bool) (w x f : List ℕ) (k : TokenKind) (kept : List ℕ) → MayComment x f → NoInfinity x f → IsLexeme p colon w (x ++ f) k kept → IsLexeme p colon w x k kept
+lexeme_front : (p : Place) (colon : Bool) (w x f : List ℕ) (k : TokenKind) (kept : List ℕ) → MayComment x f → NoInfinity x f
+    → IsLexeme p colon w (x ++ f) k kept → IsLexeme p colon w x k kept
 lexeme_front p colon w x f kinds.Word kept may none h = (h.0, h.1, begins_front is_word_octet x f h.2, λ e. begins_front _ x f (h.3 e))
 lexeme_front p colon w x f kinds.KindName kept may none h = (h.0, h.1, begins_front is_word_octet x f h.2)
 lexeme_front p colon w x f kinds.Number kept may none h = (h.0, h.1, numeric_front w x f may h.2)
@@ -187,12 +189,14 @@ record FirstToken (colon : Bool) (x f : List ℕ) (t : Placed) : Type 0 where
   some : 0 < length token
   is : IsLexeme t.place colon token (left ++ f) t.lexeme.kind t.lexeme.octets
 
-first_token : (colon : Bool) (before : ℕ) (x f : List ℕ) (t : Placed) (ts : List Placed) (after : Bool) (end : ℕ) (blank : List ℕ) → Fronts colon before x f (t ∷ ts) after end blank → FirstToken colon x f t
+first_token : (colon : Bool) (before : ℕ) (x f : List ℕ) (t : Placed) (ts : List Placed) (after : Bool) (end : ℕ) (blank : List ℕ)
+    → Fronts colon before x f (t ∷ ts) after end blank → FirstToken colon x f t
 first_token colon before x f t ts after end blank ((q, b, h), k) =
     let p = lexed_front ts (colon_behind t) t.lexeme.end q after end (blank ++ f) h in
     let left = p.0 ++ blank in
     let is : q ≡ left ++ f = p.1 ∙ sym (append_assoc p.0 blank f) in
-    let whole : x ++ f ≡ ((b.blank ++ b.token) ++ left) ++ f = b.cut ∙ (ap (λ y. (b.blank ++ b.token) ++ y) is ∙ sym (append_assoc (b.blank ++ b.token) left f)) in
+    let whole : x ++ f ≡ ((b.blank ++ b.token) ++ left) ++ f =
+    b.cut ∙ (ap (λ y. (b.blank ++ b.token) ++ y) is ∙ sym (append_assoc (b.blank ++ b.token) left f)) in
     record {
       blank = b.blank;
       token = b.token;
@@ -207,23 +211,28 @@ slash_is : (o : ℕ) (f : List ℕ) → begins_comment (o ∷ f) ≡ true → o 
 slash_is o f c = eqb-true o 47 (and_parts (o == 47) (begins (λ p. (p == 47) || (p == 42)) f) c).0
 
 -- no comment begins with the last of the octets
-slash_last : (colon : Bool) (before : ℕ) (o : ℕ) (f : List ℕ) (ts : List Placed) (after : Bool) (end : ℕ) (blank : List ℕ) → Fronts colon before (o ∷ []) f ts after end blank → begins_comment (o ∷ f) ≡ true → ⊥
-slash_last colon before o f [] after end blank (h, k) c = lone_slash (subst (λ x. IsBlank x) (sym (same_front (o ∷ []) blank f h.2) ∙ ap (λ y. y ∷ []) (slash_is o f c)) k)
+slash_last : (colon : Bool) (before : ℕ) (o : ℕ) (f : List ℕ) (ts : List Placed) (after : Bool) (end : ℕ) (blank : List ℕ)
+    → Fronts colon before (o ∷ []) f ts after end blank → begins_comment (o ∷ f) ≡ true → ⊥
+slash_last colon before o f [] after end blank (h, k) c =
+    lone_slash (subst (λ x. IsBlank x) (sym (same_front (o ∷ []) blank f h.2) ∙ ap (λ y. y ∷ []) (slash_is o f c)) k)
 slash_last colon before o f (t ∷ ts) after end blank h c = go n.blank n.token n.left n.cut n.some n.is
   where
     n : FirstToken colon (o ∷ []) f t
     n = first_token colon before (o ∷ []) f t ts after end blank h
 
-    go : (front token left : List ℕ) → o ∷ [] ≡ front ++ (token ++ left) → 0 < length token → IsLexeme t.place colon token (left ++ f) t.lexeme.kind t.lexeme.octets → ⊥
+    go : (front token left : List ℕ) → o ∷ [] ≡ front ++ (token ++ left) → 0 < length token
+        → IsLexeme t.place colon token (left ++ f) t.lexeme.kind t.lexeme.octets → ⊥
     go (x ∷ front) token left e s i = absurd (omega (arith, ap length e, s, length-append front (token ++ left), length-append token left))
     go [] [] left e s i = absurd (omega (arith, s))
     go [] (x ∷ y ∷ token) left e s i = absurd (omega (arith, ap length e))
     go [] (x ∷ []) (y ∷ left) e s i = absurd (omega (arith, ap length e))
     go [] (x ∷ []) [] e s i =
         let same : x ≡ 47 = sym (heads o x [] [] e) ∙ slash_is o f c in
-        slash_token t.place colon f t.lexeme.kind t.lexeme.octets (subst (λ y. IsLexeme t.place colon (y ∷ []) f t.lexeme.kind t.lexeme.octets) same i) (ap (λ y. begins_comment (y ∷ f)) (sym (slash_is o f c)) ∙ c)
+        slash_token t.place colon f t.lexeme.kind t.lexeme.octets (subst (λ y. IsLexeme t.place colon (y ∷ []) f t.lexeme.kind t.lexeme.octets) same i)
+        (ap (λ y. begins_comment (y ∷ f)) (sym (slash_is o f c)) ∙ c)
 
-may_comment : (colon : Bool) (before : ℕ) (x f : List ℕ) (ts : List Placed) (after : Bool) (end : ℕ) (blank : List ℕ) → Fronts colon before x f ts after end blank → MayComment x f
+may_comment : (colon : Bool) (before : ℕ) (x f : List ℕ) (ts : List Placed) (after : Bool) (end : ℕ) (blank : List ℕ)
+    → Fronts colon before x f ts after end blank → MayComment x f
 may_comment colon before [] f ts after end blank h c = inl refl
 may_comment colon before (o ∷ []) f ts after end blank h c = absurd (slash_last colon before o f ts after end blank h c)
 may_comment colon before (o ∷ p ∷ x) f ts after end blank h c = inr c
@@ -235,14 +244,16 @@ no_blank i w is b = elim (blank_first i w b) [
   | inr e ↦ absurd (omega (arith, is, e))
 ]
 
-word_behind : (n p : ℕ) (f w left : List ℕ) → is_word_octet n ≡ true → is_word_octet p ≡ true → begins is_word_octet f ≡ true → n ∷ p ∷ [] ≡ w ++ left → begins is_word_octet (left ++ f) ≡ true
+word_behind : (n p : ℕ) (f w left : List ℕ) → is_word_octet n ≡ true → is_word_octet p ≡ true → begins is_word_octet f ≡ true → n ∷ p ∷ [] ≡ w ++ left
+    → begins is_word_octet (left ++ f) ≡ true
 word_behind n p f [] left hn hp c e = subst (λ y. begins is_word_octet (y ++ f) ≡ true) e hn
 word_behind n p f (x ∷ []) left hn hp c e = subst (λ y. begins is_word_octet (y ++ f) ≡ true) (tails n x (p ∷ []) left e) hp
 word_behind n p f (x ∷ y ∷ []) left hn hp c e = subst (λ y. begins is_word_octet (y ++ f) ≡ true) (tails p y [] left (tails n x (p ∷ []) (y ∷ left) e)) c
 word_behind n p f (x ∷ y ∷ z ∷ w) left hn hp c e = absurd (omega (arith, ap length e, length-append w left))
 
 module _ (i n p : ℕ) (f : List ℕ) (hi : i ≡ 105) (hn : is_word_octet n ≡ true) (hp : is_word_octet p ≡ true) (c : begins is_word_octet f ≡ true) where
-  infinity_token : (q : Place) (colon : Bool) (k : TokenKind) (kept front token left : List ℕ) → IsBlank front → i ∷ n ∷ p ∷ [] ≡ front ++ (token ++ left) → 0 < length token → IsLexeme q colon token (left ++ f) k kept → ⊥
+  infinity_token : (q : Place) (colon : Bool) (k : TokenKind) (kept front token left : List ℕ) → IsBlank front → i ∷ n ∷ p ∷ [] ≡ front ++ (token ++ left)
+      → 0 < length token → IsLexeme q colon token (left ++ f) k kept → ⊥
   infinity_token q colon k kept (x ∷ front) token left b e s h = no_blank x front (sym (heads i x (n ∷ p ∷ []) (front ++ (token ++ left)) e) ∙ hi) b
   infinity_token q colon k kept [] [] left b e s h = absurd (omega (arith, s))
   infinity_token q colon k kept [] (x ∷ w) left b e s h =
@@ -252,7 +263,8 @@ module _ (i n p : ℕ) (f : List ℕ) (hi : i ≡ 105) (hn : is_word_octet n ≡
       let never : true ≡ false = sym (word_behind n p f w left hn hp c more) ∙ ends in
       cc
 
-  infinity_last : (colon : Bool) (before : ℕ) (ts : List Placed) (after : Bool) (end : ℕ) (blank : List ℕ) → Fronts colon before (i ∷ n ∷ p ∷ []) f ts after end blank → ⊥
+  infinity_last : (colon : Bool) (before : ℕ) (ts : List Placed) (after : Bool) (end : ℕ) (blank : List ℕ)
+      → Fronts colon before (i ∷ n ∷ p ∷ []) f ts after end blank → ⊥
   infinity_last colon before [] after end blank (h, k) = no_blank i (n ∷ p ∷ []) hi (subst (λ x. IsBlank x) (sym (same_front (i ∷ n ∷ p ∷ []) blank f h.2)) k)
   infinity_last colon before (t ∷ ts) after end blank h =
       let k = first_token colon before (i ∷ n ∷ p ∷ []) f t ts after end blank h in
@@ -261,7 +273,8 @@ module _ (i n p : ℕ) (f : List ℕ) (hi : i ≡ 105) (hn : is_word_octet n ≡
 abbrev spelled : ℕ → ℕ → ℕ → Bool → Bool
 spelled i n p goes_on = (i == 105) && ((n == 110) && ((p == 102) && not goes_on))
 
-no_infinity : (colon : Bool) (before : ℕ) (x f : List ℕ) (ts : List Placed) (after : Bool) (end : ℕ) (blank : List ℕ) → Fronts colon before x f ts after end blank → NoInfinity x f
+no_infinity : (colon : Bool) (before : ℕ) (x f : List ℕ) (ts : List Placed) (after : Bool) (end : ℕ) (blank : List ℕ)
+    → Fronts colon before x f ts after end blank → NoInfinity x f
 no_infinity colon before [] f ts after end blank h e = refl
 no_infinity colon before (i ∷ []) f ts after end blank h e = refl
 no_infinity colon before (i ∷ n ∷ []) f ts after end blank h e = refl
@@ -275,19 +288,23 @@ no_infinity colon before (i ∷ n ∷ p ∷ []) f ts after end blank h e = by (b
         let a = and_parts (i == 105) ((n == 110) && ((p == 102) && not (begins is_word_octet []))) g in
         let b = and_parts (n == 110) ((p == 102) && not (begins is_word_octet [])) a.1 in
         let d = and_parts (p == 102) (not (begins is_word_octet [])) b.1 in
-        absurd (infinity_last i n p f (eqb-true i 105 a.0) (subst (λ x. is_word_octet x ≡ true) (sym (eqb-true n 110 b.0)) refl) (subst (λ x. is_word_octet x ≡ true) (sym (eqb-true p 102 d.0)) refl) w colon before ts after end blank h)
+        absurd (infinity_last i n p f (eqb-true i 105 a.0) (subst (λ x. is_word_octet x ≡ true) (sym (eqb-true n 110 b.0)) refl)
+        (subst (λ x. is_word_octet x ≡ true) (sym (eqb-true p 102 d.0)) refl) w colon before ts after end blank h)
 
 -- 3. Whole pieces by themselves.
 
 -- tokens before a blank and further octets are tokens before the blank alone
-lexes_alone : (ts : List Placed) (colon : Bool) (before : ℕ) (x f : List ℕ) (after : Bool) (end : ℕ) (blank : List ℕ) → Fronts colon before x f ts after end blank → LexesTo colon before x ts after end blank
+lexes_alone : (ts : List Placed) (colon : Bool) (before : ℕ) (x f : List ℕ) (after : Bool) (end : ℕ) (blank : List ℕ)
+    → Fronts colon before x f ts after end blank → LexesTo colon before x ts after end blank
 lexes_alone [] colon before x f after end blank ((c, b, o), k) = (c, b, same_front x blank f o)
 lexes_alone (t ∷ ts) colon before x f after end blank ((q, b, h), k) =
     let p = lexed_front ts (colon_behind t) t.lexeme.end q after end (blank ++ f) h in
     let left = p.0 ++ blank in
     let is : q ≡ left ++ f = p.1 ∙ sym (append_assoc p.0 blank f) in
-    let whole : x ++ f ≡ ((b.blank ++ b.token) ++ left) ++ f = b.cut ∙ (ap (λ y. (b.blank ++ b.token) ++ y) is ∙ sym (append_assoc (b.blank ++ b.token) left f)) in
-    let rest : Fronts (colon_behind t) t.lexeme.end left f ts after end blank = (subst (λ y. LexesTo (colon_behind t) t.lexeme.end y ts after end (blank ++ f)) is h, k) in (
+    let whole : x ++ f ≡ ((b.blank ++ b.token) ++ left) ++ f =
+    b.cut ∙ (ap (λ y. (b.blank ++ b.token) ++ y) is ∙ sym (append_assoc (b.blank ++ b.token) left f)) in
+    let rest : Fronts (colon_behind t) t.lexeme.end left f ts after end blank =
+    (subst (λ y. LexesTo (colon_behind t) t.lexeme.end y ts after end (blank ++ f)) is h, k) in (
       left,
       record {
         blank = b.blank;
@@ -297,14 +314,16 @@ lexes_alone (t ∷ ts) colon before x f after end blank ((q, b, h), k) =
         start = b.start;
         end = b.end;
         is =
-            lexeme_front t.place colon b.token left f t.lexeme.kind t.lexeme.octets (may_comment (colon_behind t) t.lexeme.end left f ts after end blank rest) (no_infinity (colon_behind t) t.lexeme.end left f ts after end blank rest)
+            lexeme_front t.place colon b.token left f t.lexeme.kind t.lexeme.octets (may_comment (colon_behind t) t.lexeme.end left f ts after end blank rest)
+            (no_infinity (colon_behind t) t.lexeme.end left f ts after end blank rest)
             (subst (λ y. IsLexeme t.place colon b.token y t.lexeme.kind t.lexeme.octets) is b.is);
       },
       lexes_alone ts (colon_behind t) t.lexeme.end left f after end blank rest,
     )
 
 -- tokens up to a blank are all tokens
-lexes_whole : (ts : List Placed) (colon : Bool) (before : ℕ) (octets : List ℕ) (after : Bool) (end : ℕ) (rest : List ℕ) → LexesTo colon before octets ts after end rest → IsBlank rest → Lexes colon before octets ts
+lexes_whole : (ts : List Placed) (colon : Bool) (before : ℕ) (octets : List ℕ) (after : Bool) (end : ℕ) (rest : List ℕ)
+    → LexesTo colon before octets ts after end rest → IsBlank rest → Lexes colon before octets ts
 lexes_whole [] colon before octets after end rest (c, b, o) k = inl (subst IsBlank (sym o) k)
 lexes_whole (t ∷ ts) colon before octets after end rest (q, b, h) k = (q, b, lexes_whole ts (colon_behind t) t.lexeme.end q after end rest h k)
 
@@ -313,7 +332,8 @@ pub whole_document : (g : Catalog) (l : Limits) (front following : List ℕ) (s 
 whole_document g l front following s w = record {
   tokens = w.tokens;
   context = w.context;
-  lexed = lexes_whole w.tokens false 0 front w.colon w.end w.blank (lexes_alone w.tokens false 0 front following w.colon w.end w.blank (w.lexed, w.is_blank)) w.is_blank;
+  lexed = lexes_whole w.tokens false 0 front w.colon w.end w.blank (lexes_alone w.tokens false 0 front following w.colon w.end w.blank (w.lexed, w.is_blank))
+      w.is_blank;
   pieces = w.pieces;
 }
 
@@ -336,7 +356,8 @@ last_blank (t ∷ ts) colon before octets (q, b, h) =
 -- in what may become a blank nothing else stands behind a blank
 blank_alone : (x more : List ℕ) (o : ℕ) (octets : List ℕ) → IsBlank (x ++ more) → is_white o ≡ false → (o ≡ 47 → ⊥) → BlankThen (o ∷ octets) x → ⊥
 blank_alone x more o octets b white slash (w, after, k, e) =
-    let cut : x ++ more ≡ w ++ (((o ∷ octets) ++ after) ++ more) = ap (λ y. y ++ more) (e ∙ append_assoc w (o ∷ octets) after) ∙ append_assoc w ((o ∷ octets) ++ after) more in
+    let cut : x ++ more ≡ w ++ (((o ∷ octets) ++ after) ++ more) = ap (λ y. y ++ more) (e ∙ append_assoc w (o ∷ octets) after)
+    ∙ append_assoc w ((o ∷ octets) ++ after) more in
     elim (blank_first o ((octets ++ after) ++ more) (blank_follows w (((o ∷ octets) ++ after) ++ more) k (subst IsBlank cut b))) [
       | inl h ↦ let n : true ≡ false = sym h ∙ white in cc
       | inr h ↦ slash h
@@ -344,7 +365,8 @@ blank_alone x more o octets b white slash (w, after, k, e) =
 
 module _ (g : Catalog) (l : Limits) (s : List Value) (ts : List Placed) (c : List Slot) (pieces : Pieces g l ts s c) where
   -- whole pieces, where what is behind the last token may become a blank
-  may_follow : (front open_rest blank more : List ℕ) (after : Bool) (end : ℕ) → LexesTo false 0 (front ++ open_rest) ts after end (blank ++ open_rest) → IsBlank blank → IsBlank ((blank ++ open_rest) ++ more) → Whole g l front open_rest s
+  may_follow : (front open_rest blank more : List ℕ) (after : Bool) (end : ℕ) → LexesTo false 0 (front ++ open_rest) ts after end (blank ++ open_rest)
+      → IsBlank blank → IsBlank ((blank ++ open_rest) ++ more) → Whole g l front open_rest s
   may_follow front open_rest blank more after end h b k = record {
     tokens = ts;
     context = c;
@@ -364,21 +386,36 @@ module _ (g : Catalog) (l : Limits) (s : List Value) (ts : List Placed) (c : Lis
     open_rest = [];
     parts = sym (append-nil u);
     whole =
-        may_follow u [] k.rest [] k.after k.end (subst (λ y. LexesTo false 0 y ts k.after k.end (k.rest ++ [])) (sym (append-nil u)) (subst (λ y. LexesTo false 0 u ts k.after k.end y) (sym (append-nil k.rest)) k.lexes)) b
+        may_follow u [] k.rest [] k.after k.end (subst (λ y. LexesTo false 0 y ts k.after k.end (k.rest ++ [])) (sym (append-nil u))
+        (subst (λ y. LexesTo false 0 u ts k.after k.end y) (sym (append-nil k.rest)) k.lexes)) b
         (subst IsBlank (sym (append-nil (k.rest ++ []) ∙ append-nil k.rest)) b);
-    rest = record { before = []; item = []; blank = []; behind = []; parts = refl; is_before = blank_none; fits = omega arith; is_blank = ([], blank_none); shut = inl refl };
+    rest = record {
+      before = [];
+      item = [];
+      blank = [];
+      behind = [];
+      parts = refl;
+      is_before = blank_none;
+      fits =
+          omega arith;
+      is_blank = ([], blank_none);
+      shut = inl refl;
+    };
   }
   by_last u k (inr o) =
       let p = lexed_front ts false 0 u k.after k.end k.rest k.lexes in
       let comment = codes "//" ++ o.octets in
       let cut : k.rest ≡ o.front ++ comment = o.cut ∙ append_assoc o.front (codes "//") o.octets in
       let whole : u ≡ (p.0 ++ o.front) ++ comment = p.1 ∙ (ap (λ y. p.0 ++ y) cut ∙ sym (append_assoc p.0 o.front comment)) in
-      let closed : IsBlank ((o.front ++ comment) ++ 10 ∷ []) = subst IsBlank (sym (append_assoc o.front comment (10 ∷ []))) (blank_more o.front (LineComment o.octets 10) o.blank (o.one_line, refl)) in
+      let closed : IsBlank ((o.front ++ comment) ++ 10 ∷ []) =
+      subst IsBlank (sym (append_assoc o.front comment (10 ∷ []))) (blank_more o.front (LineComment o.octets 10) o.blank (o.one_line, refl)) in
       record {
         front = p.0 ++ o.front;
         open_rest = comment;
         parts = whole;
-        whole = may_follow (p.0 ++ o.front) comment o.front (10 ∷ []) k.after k.end (subst (λ y. LexesTo false 0 y ts k.after k.end (o.front ++ comment)) whole (subst (λ y. LexesTo false 0 u ts k.after k.end y) cut k.lexes)) o.blank closed;
+        whole = may_follow (p.0 ++ o.front) comment o.front (10 ∷ []) k.after k.end
+            (subst (λ y. LexesTo false 0 y ts k.after k.end (o.front ++ comment)) whole (subst (λ y. LexesTo false 0 u ts k.after k.end y) cut k.lexes)) o.blank
+            closed;
         rest = record {
           before = [];
           item = [];

@@ -22,17 +22,26 @@ pub record Closing (s : Known) (since more : List ℕ) : Type 0 where
   pub shows : BlankThen more (since ++ octets)
 
 -- a piece of a blank ends, and then these octets stand
-then_piece : (since front x octets more : List ℕ) (b : BlankPiece) → IsBlank front → IsBlankPiece b → since ≡ front ++ x → x ++ octets ≡ blank_spelling b ++ more → BlankThen more (since ++ octets)
+then_piece : (since front x octets more : List ℕ) (b : BlankPiece) → IsBlank front → IsBlankPiece b → since ≡ front ++ x → x ++ octets ≡ blank_spelling b
+    ++ more → BlankThen more (since ++ octets)
 then_piece since front x octets more b h i cut e = (
   front ++ blank_spelling b,
   [],
   blank_more front b h i,
-  ap (λ l. l ++ octets) cut ∙ (append_assoc front x octets ∙ (ap (λ l. front ++ l) e ∙ (sym (append_assoc front (blank_spelling b) more) ∙ sym (append-nil ((front ++ blank_spelling b) ++ more))))),
+  ap (λ l. l ++ octets) cut ∙ (append_assoc front x octets
+      ∙ (ap (λ l. front ++ l) e ∙ (sym (append_assoc front (blank_spelling b) more) ∙ sym (append-nil ((front ++ blank_spelling b) ++ more))))),
 )
 
 -- where they begin with what stands behind a blank
-then_front : (since front token octets more rest : List ℕ) → IsBlank front → since ≡ front ++ token → token ++ octets ≡ more ++ rest → BlankThen more (since ++ octets)
-then_front since front token octets more rest h cut e = (front, rest, h, ap (λ l. l ++ octets) cut ∙ (append_assoc front token octets ∙ (ap (λ l. front ++ l) e ∙ sym (append_assoc front more rest))))
+then_front : (since front token octets more rest : List ℕ) → IsBlank front → since ≡ front ++ token → token ++ octets ≡ more ++ rest
+    → BlankThen more (since ++ octets)
+then_front since front token octets more rest h cut e = (
+  front,
+  rest,
+  h,
+  ap (λ l. l ++ octets) cut
+      ∙ (append_assoc front token octets ∙ (ap (λ l. front ++ l) e ∙ sym (append_assoc front more rest))),
+)
 
 line_then : (c more : List ℕ) → (codes "//" ++ c) ++ (10 ∷ more) ≡ blank_spelling (LineComment c 10) ++ more
 line_then c more = ap (λ l. 47 ∷ 47 ∷ l) (sym (append_assoc c (10 ∷ []) more))
@@ -59,19 +68,22 @@ module _ (k : ℕ) (kept : List ℕ) (start used : ℕ) (since : List ℕ) where
     octets = 10 ∷ 58 ∷ 58 ∷ [];
     are = are_octets (10 ∷ 58 ∷ 58 ∷ []) (refl, (refl, (refl, tt)));
     escapes = Grows _ _ refl (omega arith);
-    shows = then_piece since c.front (codes "//" ++ c.octets) (10 ∷ 58 ∷ 58 ∷ []) (codes "::") (LineComment c.octets 10) c.blank (c.one_line, refl) (c.cut ∙ append_assoc c.front (codes "//") c.octets) (line_then c.octets (58 ∷ 58 ∷ []));
+    shows = then_piece since c.front (codes "//" ++ c.octets) (10 ∷ 58 ∷ 58 ∷ []) (codes "::") (LineComment c.octets 10) c.blank (c.one_line, refl)
+        (c.cut ∙ append_assoc c.front (codes "//") c.octets) (line_then c.octets (58 ∷ 58 ∷ []));
   }
   colons_close modes.BlockComment i (e, c) = record {
     octets = 42 ∷ 47 ∷ 58 ∷ 58 ∷ [];
     are = are_octets (42 ∷ 47 ∷ 58 ∷ 58 ∷ []) (refl, (refl, (refl, (refl, tt))));
     escapes = Grows _ _ refl (omega arith);
-    shows = then_piece since c.front (codes "/*" ++ c.octets) (42 ∷ 47 ∷ 58 ∷ 58 ∷ []) (codes "::") (BlockComment c.octets) c.blank c.no_close (c.cut ∙ append_assoc c.front (codes "/*") c.octets) (block_then c.octets (58 ∷ 58 ∷ []));
+    shows = then_piece since c.front (codes "/*" ++ c.octets) (42 ∷ 47 ∷ 58 ∷ 58 ∷ []) (codes "::") (BlockComment c.octets) c.blank c.no_close
+        (c.cut ∙ append_assoc c.front (codes "/*") c.octets) (block_then c.octets (58 ∷ 58 ∷ []));
   }
   colons_close modes.BlockCommentStar i (e, c) = record {
     octets = 42 ∷ 47 ∷ 58 ∷ 58 ∷ [];
     are = are_octets (42 ∷ 47 ∷ 58 ∷ 58 ∷ []) (refl, (refl, (refl, (refl, tt))));
     escapes = Grows _ _ refl (omega arith);
-    shows = then_piece since c.front (codes "/*" ++ c.octets) (42 ∷ 47 ∷ 58 ∷ 58 ∷ []) (codes "::") (BlockComment c.octets) c.blank c.no_close (c.cut ∙ append_assoc c.front (codes "/*") c.octets) (block_then c.octets (58 ∷ 58 ∷ []));
+    shows = then_piece since c.front (codes "/*" ++ c.octets) (42 ∷ 47 ∷ 58 ∷ 58 ∷ []) (codes "::") (BlockComment c.octets) c.blank c.no_close
+        (c.cut ∙ append_assoc c.front (codes "/*") c.octets) (block_then c.octets (58 ∷ 58 ∷ []));
   }
   colons_close modes.Colon i h = record {
     octets = 58 ∷ [];
@@ -93,7 +105,8 @@ module _ (k : ℕ) (kept : List ℕ) (start used : ℕ) (since : List ℕ) where
   colons_close (modes.Lob x) i h = absurd cc
 
   -- where quotes are open already, any octets do that show that no token has ended
-  open_quotes : (m : Mode) (rest : List ℕ) → (e : Escape places.Top (at m kept false start used)) → (front token : List ℕ) → IsBlank front → since ≡ front ++ token → token ≡ 39 ∷ 39 ∷ rest → Closing (at m kept false start used) since (codes "''")
+  open_quotes : (m : Mode) (rest : List ℕ) → (e : Escape places.Top (at m kept false start used)) → (front token : List ℕ) → IsBlank front
+      → since ≡ front ++ token → token ≡ 39 ∷ 39 ∷ rest → Closing (at m kept false start used) since (codes "''")
   open_quotes m rest e front token b cut f = record {
     octets = e.octets;
     are = e.are;
@@ -102,7 +115,8 @@ module _ (k : ℕ) (kept : List ℕ) (start used : ℕ) (since : List ℕ) where
   }
 
   -- Behind a long string `''` comes.
-  pub quotes_close : (m : Mode) → (is_idle m || is_quoting m) ≡ true → Escape places.Top (at m kept false start used) → InMode places.Top false k m kept start since → Closing (at m kept false start used) since (codes "''")
+  pub quotes_close : (m : Mode) → (is_idle m || is_quoting m) ≡ true → Escape places.Top (at m kept false start used)
+      → InMode places.Top false k m kept start since → Closing (at m kept false start used) since (codes "''")
   quotes_close modes.Blank i e h = record {
     octets = 39 ∷ 39 ∷ [];
     are = are_octets (39 ∷ 39 ∷ []) (refl, (refl, tt));
@@ -119,19 +133,22 @@ module _ (k : ℕ) (kept : List ℕ) (start used : ℕ) (since : List ℕ) where
     octets = 10 ∷ 39 ∷ 39 ∷ [];
     are = are_octets (10 ∷ 39 ∷ 39 ∷ []) (refl, (refl, (refl, tt)));
     escapes = Goes _ refl (omega arith) (λ x. cc);
-    shows = then_piece since c.front (codes "//" ++ c.octets) (10 ∷ 39 ∷ 39 ∷ []) (codes "''") (LineComment c.octets 10) c.blank (c.one_line, refl) (c.cut ∙ append_assoc c.front (codes "//") c.octets) (line_then c.octets (39 ∷ 39 ∷ []));
+    shows = then_piece since c.front (codes "//" ++ c.octets) (10 ∷ 39 ∷ 39 ∷ []) (codes "''") (LineComment c.octets 10) c.blank (c.one_line, refl)
+        (c.cut ∙ append_assoc c.front (codes "//") c.octets) (line_then c.octets (39 ∷ 39 ∷ []));
   }
   quotes_close modes.BlockComment i x (e, c) = record {
     octets = 42 ∷ 47 ∷ 39 ∷ 39 ∷ [];
     are = are_octets (42 ∷ 47 ∷ 39 ∷ 39 ∷ []) (refl, (refl, (refl, (refl, tt))));
     escapes = Goes _ refl (omega arith) (λ x. cc);
-    shows = then_piece since c.front (codes "/*" ++ c.octets) (42 ∷ 47 ∷ 39 ∷ 39 ∷ []) (codes "''") (BlockComment c.octets) c.blank c.no_close (c.cut ∙ append_assoc c.front (codes "/*") c.octets) (block_then c.octets (39 ∷ 39 ∷ []));
+    shows = then_piece since c.front (codes "/*" ++ c.octets) (42 ∷ 47 ∷ 39 ∷ 39 ∷ []) (codes "''") (BlockComment c.octets) c.blank c.no_close
+        (c.cut ∙ append_assoc c.front (codes "/*") c.octets) (block_then c.octets (39 ∷ 39 ∷ []));
   }
   quotes_close modes.BlockCommentStar i x (e, c) = record {
     octets = 42 ∷ 47 ∷ 39 ∷ 39 ∷ [];
     are = are_octets (42 ∷ 47 ∷ 39 ∷ 39 ∷ []) (refl, (refl, (refl, (refl, tt))));
     escapes = Goes _ refl (omega arith) (λ x. cc);
-    shows = then_piece since c.front (codes "/*" ++ c.octets) (42 ∷ 47 ∷ 39 ∷ 39 ∷ []) (codes "''") (BlockComment c.octets) c.blank c.no_close (c.cut ∙ append_assoc c.front (codes "/*") c.octets) (block_then c.octets (39 ∷ 39 ∷ []));
+    shows = then_piece since c.front (codes "/*" ++ c.octets) (42 ∷ 47 ∷ 39 ∷ 39 ∷ []) (codes "''") (BlockComment c.octets) c.blank c.no_close
+        (c.cut ∙ append_assoc c.front (codes "/*") c.octets) (block_then c.octets (39 ∷ 39 ∷ []));
   }
   quotes_close modes.Colon i x h = absurd (let never : false ≡ true = (h.is).2 in cc)
   quotes_close modes.Quote i x h = record {

@@ -49,7 +49,8 @@ pub run_from : (p : Place) (os : List ℕ) (n : ℕ) (s : Known) → Fine s → 
 run_from p [] n s f h = h
 run_from p (o ∷ os) n s f h = go (feed p s o) refl (feed_keeps p s o) (λ t i k. run_from p os n t i k)
   where
-    go : (x : Outcome) → feed p s o ≡ x → Keeps p s x → ((t : Known) → Fine t → n ≤ start_of t.mode t.start t.used → TokenFrom n (run p os t)) → TokenFrom n (follow x (λ t. run p os t))
+    go : (x : Outcome) → feed p s o ≡ x → Keeps p s x → ((t : Known) → Fine t → n ≤ start_of t.mode t.start t.used → TokenFrom n (run p os t))
+        → TokenFrom n (follow x (λ t. run p os t))
     go (Next t) e k more =
         let used = feed_used p s t o e in
         more t (finely_as p s o (Next t) f e) (start_from n t.mode t.start t.used (omega (arith, h, k.0)) (let i = f.enough in omega (arith, h, i, used)))
@@ -80,19 +81,25 @@ one_more t us ws (inl (more, e, h)) = inl (more, ap (λ l. t ∷ l) e, h)
 one_more t us ws (inr (more, e, h)) = inr (more, ap (λ l. t ∷ l) e, h)
 
 -- tokens end in one place alone
-pub lexes_once : (ts : List Placed) (colon : Bool) (k : ℕ) (octets : List ℕ) (c d : Bool) (e f : ℕ) (r s : List ℕ) → LexesTo colon k octets ts c e r → LexesTo colon k octets ts d f s → (c ≡ d) × (e ≡ f) × (r ≡ s)
+pub lexes_once : (ts : List Placed) (colon : Bool) (k : ℕ) (octets : List ℕ) (c d : Bool) (e f : ℕ) (r s : List ℕ) → LexesTo colon k octets ts c e r
+    → LexesTo colon k octets ts d f s → (c ≡ d) × (e ≡ f) × (r ≡ s)
 lexes_once [] colon k octets c d e f r s (a, b, o) (a', b', o') = (sym a ∙ a', sym b ∙ b', sym o ∙ o')
 lexes_once (t ∷ ts) colon k octets c d e f r s (q, b, h) (q', b', h') =
-    let n : length (b.blank ++ b.token) ≡ length (b'.blank ++ b'.token) = omega (arith, b.end, b'.end, b.start, b'.start, length-append b.blank b.token, length-append b'.blank b'.token) in
+    let n : length (b.blank ++ b.token) ≡ length (b'.blank ++ b'.token) =
+    omega (arith, b.end, b'.end, b.start, b'.start, length-append b.blank b.token, length-append b'.blank b'.token) in
     let same = parts_same (b.blank ++ b.token) q (b'.blank ++ b'.token) q' (sym b.cut ∙ b'.cut) n in
     lexes_once ts (colon_behind t) t.lexeme.end q c d e f r s h (subst (λ x. LexesTo (colon_behind t) t.lexeme.end x ts d f s) (sym same.1) h')
 
 -- behind a blank a token begins
-pub begins_after : (colon : Bool) (k : ℕ) (octets : List ℕ) (t : Placed) (r w more : List ℕ) → BeginsWith colon k octets t r → (t.lexeme.kind ≡ kinds.Operator → ⊥) → IsBlank w → octets ≡ w ++ more → k + length w ≤ t.lexeme.start
+pub begins_after : (colon : Bool) (k : ℕ) (octets : List ℕ) (t : Placed) (r w more : List ℕ) → BeginsWith colon k octets t r
+    → (t.lexeme.kind ≡ kinds.Operator → ⊥) → IsBlank w → octets ≡ w ++ more → k + length w ≤ t.lexeme.start
 begins_after colon k octets t r w more b plain is e =
     let x = passes_blank t.place colon w is k k in
-    let ran : run t.place octets (at modes.Blank [] colon k k) ≡ run t.place more (blank colon x.0 (k + length w)) = ap (λ o. run t.place o (at modes.Blank [] colon k k)) e ∙ x.1 more in
-    is_from t.place (k + length w) t.lexeme (run t.place more (blank colon x.0 (k + length w))) (run_from t.place more (k + length w) (blank colon x.0 (k + length w)) (record { enough = omega arith }) (omega arith)) (subst (Is t.place t.lexeme) ran (one_found colon k octets t r b)) plain
+    let ran : run t.place octets (at modes.Blank [] colon k k) ≡ run t.place more (blank colon x.0 (k + length w)) =
+    ap (λ o. run t.place o (at modes.Blank [] colon k k)) e ∙ x.1 more in
+    is_from t.place (k + length w) t.lexeme (run t.place more (blank colon x.0 (k + length w)))
+    (run_from t.place more (k + length w) (blank colon x.0 (k + length w)) (record { enough = omega arith }) (omega arith))
+    (subst (Is t.place t.lexeme) ran (one_found colon k octets t r b)) plain
 
 module _ (R : Known → List ℕ → Type 0) where
   abbrev pub Found' : Known → List ℕ → List Placed → Type 0
@@ -128,7 +135,8 @@ module _ (R : Known → List ℕ → Type 0) where
         is = (going_said g l r t us a d).2
 
         direct : (n : Reading) (a b : List Value) → settle g l n ≡ goes n → Going g l n (t ∷ us) a → Going g l n (t ∷ ws) b → Compared us ws
-        direct n a b s d e = turn_once (turn g l n (token_of t.lexeme c)) us ws a b f (going_turn g l n t us a c d is (inr s)) (going_turn g l n t ws b c e is (inr s))
+        direct n a b s d e = turn_once (turn g l n (token_of t.lexeme c)) us ws a b f (going_turn g l n t us a c d is (inr s))
+            (going_turn g l n t ws b c e is (inr s))
 
         settled : (x : Turn) → Leading g l (λ n. settle g l n ≡ goes n) x → TurnGoes g l x (t ∷ us) a → TurnGoes g l x (t ∷ ws) b → Compared us ws
         settled (goes n) s d e = direct n a b s d e
@@ -138,7 +146,8 @@ module _ (R : Known → List ℕ → Type 0) where
 
         go : (w : Bool) → continues r (token_of t.lexeme c) ≡ w → Compared us ws
         go true w = turn_once (turn g l r (token_of t.lexeme c)) us ws a b f (going_turn g l r t us a c d is (inl w)) (going_turn g l r t ws b c e is (inl w))
-        go false w = settled (settle g l r) (settle_still g l r.start r.context r.frames r.notes r.now) (going_settle g l r t us a c d is w) (going_settle g l r t ws b c e is w)
+        go false w = settled (settle g l r) (settle_still g l r.start r.context r.frames r.notes r.now) (going_settle g l r t us a c d is w)
+            (going_settle g l r t ws b c e is w)
 
     -- an s-expression is closed behind its operators
     one_operator : (t : Placed) (r : Reading) (a : List Value) → Operators (t ∷ []) → t.lexeme.kind ≡ kinds.Operator → Going g l r (t ∷ []) a → ⊥
@@ -149,13 +158,15 @@ module _ (R : Known → List ℕ → Type 0) where
 
         inside : InsideNext g l r.start t c.1 [] → ⊥
         inside (stays m rest i j x) = inside_end g l m rest i x
-        inside (closed i j) = let n : true ≡ false = sym (closes_kind t.lexeme.kind t.lexeme.octets c.1 j (said_body t.lexeme.kind t.lexeme.octets c.1 c.2)) ∙ ap is_close k in cc
+        inside (closed i j) = let n : true ≡ false = sym (closes_kind t.lexeme.kind t.lexeme.octets c.1 j (said_body t.lexeme.kind t.lexeme.octets c.1 c.2))
+            ∙ ap is_close k in cc
 
         by : (b : Bool) → is_top r.frames ≡ b → ⊥
         by true h = no_operator g l r t h c.0 ops.0 k
         by false h = inside (inside_token g l r t c.1 [] a h d c.2)
 
-    pub alone : (letters : List ℕ) (colon : Bool) (start used : ℕ) (ts : List Placed) → Found' (in_word letters colon start used) [] ts → (ts ≡ []) ⊎ ((w : Placed) × (ts ≡ w ∷ []) × (w.lexeme.kind ≡ kinds.Word) × (w.lexeme.end ≡ used))
+    pub alone : (letters : List ℕ) (colon : Bool) (start used : ℕ) (ts : List Placed) → Found' (in_word letters colon start used) [] ts → (ts ≡ [])
+        ⊎ ((w : Placed) × (ts ≡ w ∷ []) × (w.lexeme.kind ≡ kinds.Word) × (w.lexeme.end ≡ used))
     alone letters colon start used _ (Nothing _ _ f) = inl refl
     alone letters colon start used _ (Last _ _ t s' e f) =
         let here = ap (at_end t.place) (next_is (in_word letters colon start used) s' e) ∙ f in
@@ -165,9 +176,11 @@ module _ (R : Known → List ℕ → Type 0) where
         kind_of x h = cc
     alone letters colon start used _ (Gives _ _ t ts s' e f) = absurd cc
     alone letters colon start used _ (Leaves _ _ t ts s' e f) = absurd cc
-    alone letters colon start used _ (Unclosed _ _ t ts s' c more bare e f first operator rest) = absurd (let h = ap (at_end t.place) (next_is (in_word letters colon start used) s' e) ∙ f in cc)
+    alone letters colon start used _ (Unclosed _ _ t ts s' c more bare e f first operator rest) =
+        absurd (let h = ap (at_end t.place) (next_is (in_word letters colon start used) s' e) ∙ f in cc)
 
-    pub unclosed_never : (t : Placed) (ts : List Placed) (letters : List ℕ) (colon : Bool) (start used : ℕ) (r : Reading) (a : List Value) → t.lexeme.kind ≡ kinds.Operator → Found' (in_word letters colon start used) [] ts → Operators (t ∷ ts) → Going g l r (t ∷ ts) a → ⊥
+    pub unclosed_never : (t : Placed) (ts : List Placed) (letters : List ℕ) (colon : Bool) (start used : ℕ) (r : Reading) (a : List Value)
+        → t.lexeme.kind ≡ kinds.Operator → Found' (in_word letters colon start used) [] ts → Operators (t ∷ ts) → Going g l r (t ∷ ts) a → ⊥
     unclosed_never t ts letters colon start used r a k f ops d = by (alone letters colon start used ts f)
       where
         by : (ts ≡ []) ⊎ ((w : Placed) × (ts ≡ w ∷ []) × (w.lexeme.kind ≡ kinds.Word) × (w.lexeme.end ≡ used)) → ⊥
@@ -193,7 +206,8 @@ module _ (R : Known → List ℕ → Type 0) where
     placed_same t u e f = ap (λ p. record { place = p; lexeme = t.lexeme }) e ∙ ap (λ x. record { place = u.place; lexeme = x }) f
 
     -- the other list of tokens, where the first one goes on with a token that was given or left
-    module _ (s s' : Known) (octets : List ℕ) (t : Placed) (ts : List Placed) (r : Reading) (a b : List Value) (ops : Operators (t ∷ ts)) (d : Going g l r (t ∷ ts) a) (x : Outcome) (ran : run t.place octets s ≡ x) where
+    module _ (s s' : Known) (octets : List ℕ) (t : Placed) (ts : List Placed) (r : Reading) (a b : List Value) (ops : Operators (t ∷ ts))
+        (d : Going g l r (t ∷ ts) a) (x : Outcome) (ran : run t.place octets s ≡ x) where
       abbrev RestSame : Type 0
       RestSame = (ws : List Placed) → Found' s' (drop (s'.used - s.used) octets) ws → Operators ws → Same ts ws
 
@@ -203,12 +217,15 @@ module _ (R : Known → List ℕ → Type 0) where
       there : (u : Placed) (us : List Placed) (y : Outcome) → Going g l r (u ∷ us) b → run u.place octets s ≡ y → x ≡ y
       there u us y e f = sym ran ∙ (ap (λ p. run p octets s) (here u us e) ∙ f)
 
-      matched : RestSame → (u : Placed) (us : List Placed) (s'' : Known) → t.lexeme ≡ u.lexeme → s'' ≡ s' → Found' s'' (drop (s''.used - s.used) octets) us → Operators us → Going g l r (u ∷ us) b → Compared (t ∷ ts) (u ∷ us)
+      matched : RestSame → (u : Placed) (us : List Placed) (s'' : Known) → t.lexeme ≡ u.lexeme → s'' ≡ s' → Found' s'' (drop (s''.used - s.used) octets) us
+          → Operators us → Going g l r (u ∷ us) b → Compared (t ∷ ts) (u ∷ us)
       matched rest u us s'' i j f ops' e =
-          subst (λ z. Compared (t ∷ ts) (z ∷ us)) (placed_same t u (here u us e) i) (token_once t ts us (rest us (subst (λ (z : Known). Found' z (drop (z.used - s.used) octets) us) j f) ops') r a b d
+          subst (λ z. Compared (t ∷ ts) (z ∷ us)) (placed_same t u (here u us e) i)
+          (token_once t ts us (rest us (subst (λ (z : Known). Found' z (drop (z.used - s.used) octets) us) j f) ops') r a b d
           (subst (λ z. Going g l r (z ∷ us) b) (sym (placed_same t u (here u us e) i)) e))
 
-    pub compare : (s : Known) (octets : List ℕ) (ts : List Placed) → Found' s octets ts → (ws : List Placed) → Found' s octets ws → Operators ts → Operators ws → Same ts ws
+    pub compare : (s : Known) (octets : List ℕ) (ts : List Placed) → Found' s octets ts → (ws : List Placed) → Found' s octets ws → Operators ts → Operators ws
+        → Same ts ws
     unfolding lexeme_in state_in token_in
     compare _ _ _ (Nothing s octets n) ws f o o' = λ r a b d e. inl (ws, refl, top_first r a ws b d e)
     compare _ _ _ (Last s octets t s' ran at) ws f o o' = λ r a b d e. by ws f o' r a b d e
@@ -223,25 +240,38 @@ module _ (R : Known → List ℕ → Type 0) where
             inl ([], ap (λ z. z ∷ []) (sym (placed_same t u p lexeme)), tt)
         by _ (Gives _ _ u us s'' ran' f) o' r a b d e = absurd (let x = there s s' octets t [] r a b o d (Next s') ran u us (Given u.lexeme s'') e ran' in cc)
         by _ (Leaves _ _ u us s'' ran' f) o' r a b d e = absurd (let x = there s s' octets t [] r a b o d (Next s') ran u us (Left u.lexeme s'') e ran' in cc)
-        by _ (Unclosed _ _ u us s'' colon letters bare ran' at' first operator f) o' r a b d e = absurd (unclosed_never u us letters colon u.lexeme.end s''.used r b operator f o' e)
-    compare _ _ _ (Gives s octets t ts s' ran f) ws f' o o' = λ r a b d e. by (λ ws f' o'. compare s' (drop (s'.used - s.used) octets) ts f ws f' o.1 o') ws f' o' r a b d e
+        by _ (Unclosed _ _ u us s'' colon letters bare ran' at' first operator f) o' r a b d e =
+            absurd (unclosed_never u us letters colon u.lexeme.end s''.used r b operator f o' e)
+    compare _ _ _ (Gives s octets t ts s' ran f) ws f' o o' =
+        λ r a b d e. by (λ ws f' o'. compare s' (drop (s'.used - s.used) octets) ts f ws f' o.1 o') ws f' o' r a b d e
       where
-        by : ((ws : List Placed) → Found' s' (drop (s'.used - s.used) octets) ws → Operators ws → Same ts ws) → (ws : List Placed) → Found' s octets ws → Operators ws → Same (t ∷ ts) ws
+        by : ((ws : List Placed) → Found' s' (drop (s'.used - s.used) octets) ws → Operators ws → Same ts ws) → (ws : List Placed) → Found' s octets ws
+            → Operators ws → Same (t ∷ ts) ws
         by rest _ (Nothing _ _ n) o' r a b d e = inr (t ∷ ts, refl, top_first r b (t ∷ ts) a e d)
-        by rest _ (Last _ _ u s'' ran' at') o' r a b d e = absurd (let x = there s s' octets t ts r a b o d (Given t.lexeme s') ran u [] (Next s'') e ran' in cc)
+        by rest _ (Last _ _ u s'' ran' at') o' r a b d e = absurd (let x = there s s' octets t ts r a b o d (Given t.lexeme s') ran u [] (Next s'') e ran' in
+            cc)
         by rest _ (Gives _ _ u us s'' ran' f') o' r a b d e =
             let x = there s s' octets t ts r a b o d (Given t.lexeme s') ran u us (Given u.lexeme s'') e ran' in
-            matched s s' octets t ts r a b o d (Given t.lexeme s') ran rest u us s'' (ap (λ y. lexeme_in y t.lexeme) x) (sym (ap (λ y. state_in y s') x)) f' o'.1 e
-        by rest _ (Leaves _ _ u us s'' ran' f') o' r a b d e = absurd (let x = there s s' octets t ts r a b o d (Given t.lexeme s') ran u us (Left u.lexeme s'') e ran' in cc)
-        by rest _ (Unclosed _ _ u us s'' colon letters bare ran' at' first operator f') o' r a b d e = absurd (unclosed_never u us letters colon u.lexeme.end s''.used r b operator f' o' e)
-    compare _ _ _ (Leaves s octets t ts s' ran f) ws f' o o' = λ r a b d e. by (λ ws f' o'. compare s' (drop (s'.used - s.used) octets) ts f ws f' o.1 o') ws f' o' r a b d e
+            matched s s' octets t ts r a b o d (Given t.lexeme s') ran rest u us s'' (ap (λ y. lexeme_in y t.lexeme) x) (sym (ap (λ y. state_in y s') x)) f'
+            o'.1 e
+        by rest _ (Leaves _ _ u us s'' ran' f') o' r a b d e =
+            absurd (let x = there s s' octets t ts r a b o d (Given t.lexeme s') ran u us (Left u.lexeme s'') e ran' in cc)
+        by rest _ (Unclosed _ _ u us s'' colon letters bare ran' at' first operator f') o' r a b d e =
+            absurd (unclosed_never u us letters colon u.lexeme.end s''.used r b operator f' o' e)
+    compare _ _ _ (Leaves s octets t ts s' ran f) ws f' o o' =
+        λ r a b d e. by (λ ws f' o'. compare s' (drop (s'.used - s.used) octets) ts f ws f' o.1 o') ws f' o' r a b d e
       where
-        by : ((ws : List Placed) → Found' s' (drop (s'.used - s.used) octets) ws → Operators ws → Same ts ws) → (ws : List Placed) → Found' s octets ws → Operators ws → Same (t ∷ ts) ws
+        by : ((ws : List Placed) → Found' s' (drop (s'.used - s.used) octets) ws → Operators ws → Same ts ws) → (ws : List Placed) → Found' s octets ws
+            → Operators ws → Same (t ∷ ts) ws
         by rest _ (Nothing _ _ n) o' r a b d e = inr (t ∷ ts, refl, top_first r b (t ∷ ts) a e d)
         by rest _ (Last _ _ u s'' ran' at') o' r a b d e = absurd (let x = there s s' octets t ts r a b o d (Left t.lexeme s') ran u [] (Next s'') e ran' in cc)
         by rest _ (Leaves _ _ u us s'' ran' f') o' r a b d e =
             let x = there s s' octets t ts r a b o d (Left t.lexeme s') ran u us (Left u.lexeme s'') e ran' in
-            matched s s' octets t ts r a b o d (Left t.lexeme s') ran rest u us s'' (ap (λ y. lexeme_in y t.lexeme) x) (sym (ap (λ y. state_in y s') x)) f' o'.1 e
-        by rest _ (Gives _ _ u us s'' ran' f') o' r a b d e = absurd (let x = there s s' octets t ts r a b o d (Left t.lexeme s') ran u us (Given u.lexeme s'') e ran' in cc)
-        by rest _ (Unclosed _ _ u us s'' colon letters bare ran' at' first operator f') o' r a b d e = absurd (unclosed_never u us letters colon u.lexeme.end s''.used r b operator f' o' e)
-    compare _ _ _ (Unclosed s octets t ts s' colon letters bare ran at first operator f) ws f' o o' = λ r a b d e. absurd (unclosed_never t ts letters colon t.lexeme.end s'.used r a operator f o d)
+            matched s s' octets t ts r a b o d (Left t.lexeme s') ran rest u us s'' (ap (λ y. lexeme_in y t.lexeme) x) (sym (ap (λ y. state_in y s') x)) f' o'.1
+            e
+        by rest _ (Gives _ _ u us s'' ran' f') o' r a b d e = absurd
+            (let x = there s s' octets t ts r a b o d (Left t.lexeme s') ran u us (Given u.lexeme s'') e ran' in cc)
+        by rest _ (Unclosed _ _ u us s'' colon letters bare ran' at' first operator f') o' r a b d e =
+            absurd (unclosed_never u us letters colon u.lexeme.end s''.used r b operator f' o' e)
+    compare _ _ _ (Unclosed s octets t ts s' colon letters bare ran at first operator f) ws f' o o' =
+        λ r a b d e. absurd (unclosed_never t ts letters colon t.lexeme.end s'.used r a operator f o d)

@@ -38,14 +38,16 @@ pub record Parted (colon : Bool) (before : ℕ) (octets : List ℕ) (ts us : Lis
   pub first : LexesTo colon before octets ts flag mid left
   pub second : LexesTo flag mid left us after end rest
 
-pub parted : (ts us : List Placed) (colon : Bool) (before : ℕ) (octets : List ℕ) (after : Bool) (end : ℕ) (rest : List ℕ) → LexesTo colon before octets (ts ++ us) after end rest → Parted colon before octets ts us after end rest
+pub parted : (ts us : List Placed) (colon : Bool) (before : ℕ) (octets : List ℕ) (after : Bool) (end : ℕ) (rest : List ℕ)
+    → LexesTo colon before octets (ts ++ us) after end rest → Parted colon before octets ts us after end rest
 parted [] us colon before octets after end rest h = record { flag = colon; mid = before; left = octets; first = (refl, refl, refl); second = h }
 parted (t ∷ ts) us colon before octets after end rest (q, b, h) =
     let p = parted ts us (colon_behind t) t.lexeme.end q after end rest h in
     record { flag = p.flag; mid = p.mid; left = p.left; first = (q, b, p.first); second = p.second }
 
 -- the octets up to where tokens end
-pub lexed_front : (ts : List Placed) (colon : Bool) (before : ℕ) (octets : List ℕ) (after : Bool) (end : ℕ) (rest : List ℕ) → LexesTo colon before octets ts after end rest → (front : List ℕ) × (octets ≡ front ++ rest) × (end ≡ before + length front)
+pub lexed_front : (ts : List Placed) (colon : Bool) (before : ℕ) (octets : List ℕ) (after : Bool) (end : ℕ) (rest : List ℕ)
+    → LexesTo colon before octets ts after end rest → (front : List ℕ) × (octets ≡ front ++ rest) × (end ≡ before + length front)
 lexed_front [] colon before octets after end rest (c, b, o) = ([], o, omega (arith, b))
 lexed_front (t ∷ ts) colon before octets after end rest (q, b, h) =
     let p = lexed_front ts (colon_behind t) t.lexeme.end q after end rest h in (
@@ -55,7 +57,8 @@ lexed_front (t ∷ ts) colon before octets after end rest (q, b, h) =
     )
 
 -- two ways to part a list
-pub parts_meet : (xs ys zs ws : List ℕ) → xs ++ ys ≡ zs ++ ws → ((y : List ℕ) × (xs ≡ zs ++ y) × (y ++ ys ≡ ws)) ⊎ ((z : List ℕ) × (zs ≡ xs ++ z) × (z ++ ws ≡ ys))
+pub parts_meet : (xs ys zs ws : List ℕ) → xs ++ ys ≡ zs ++ ws → ((y : List ℕ) × (xs ≡ zs ++ y) × (y ++ ys ≡ ws))
+    ⊎ ((z : List ℕ) × (zs ≡ xs ++ z) × (z ++ ws ≡ ys))
 parts_meet [] ys zs ws e = inr (zs, refl, sym e)
 parts_meet (x ∷ xs) ys [] ws e = inl (x ∷ xs, refl, e)
 parts_meet (x ∷ xs) ys (z ∷ zs) ws e =
@@ -104,7 +107,8 @@ blob_keeps : (p : Place) (s : Known) (b : Option (List ℕ)) → Keeps p s (blob
 blob_keeps p s None = tt
 blob_keeps p s (Some b) = (refl, refl)
 
-word_keeps : (p : Place) (s : Known) (b : Bool) → Keeps p s (if b then Next (go_to s modes.KindName []) else Left (token_cut s kinds.Word s.kept s.used) (past p kinds.Word modes.Blank [] s.used s.used))
+word_keeps : (p : Place) (s : Known) (b : Bool) → Keeps p s
+    (if b then Next (go_to s modes.KindName []) else Left (token_cut s kinds.Word s.kept s.used) (past p kinds.Word modes.Blank [] s.used s.used))
 word_keeps p s true = (refl, refl)
 word_keeps p s false = (refl, refl, refl)
 
@@ -124,14 +128,18 @@ pub next_start : (p : Place) (s t : Known) (o : ℕ) → feed p s o ≡ Next t �
 next_start p s t o e = (subst (Keeps p s) e (feed_keeps p s o)).0
 
 module _ (p : Place) (colon : Bool) (k : ℕ) where
-  fronted_mode : (m : Mode) (kept : List ℕ) (start used : ℕ) (since : List ℕ) → InMode p colon k m kept start since → used ≡ k + length since → FrontedBefore k start since → BlankInFront k m start used since
+  fronted_mode : (m : Mode) (kept : List ℕ) (start used : ℕ) (since : List ℕ) → InMode p colon k m kept start since → used ≡ k + length since
+      → FrontedBefore k start since → BlankInFront k m start used since
   fronted_mode modes.Blank kept start used since (e, b) u d = record { blank = since; open' = []; cut = sym (append-nil since); is_blank = b; at = u }
-  fronted_mode modes.Slash kept start used since (e, front, b, c) u d = record { blank = front; open' = 47 ∷ []; cut = c; is_blank = b; at = omega (arith, u, ap length c, length-append front (47 ∷ [])) }
+  fronted_mode modes.Slash kept start used since (e, front, b, c) u d =
+      record { blank = front; open' = 47 ∷ []; cut = c; is_blank = b; at = omega (arith, u, ap length c, length-append front (47 ∷ [])) }
   fronted_mode _ kept start used since h u d = record { blank = d.blank; open' = d.open'; cut = d.cut; is_blank = d.is_blank; at = d.at }
 
-  pub fronted_run : (os : List ℕ) (s t : Known) (since : List ℕ) → Holds p colon k s since → BlankInFront k s.mode s.start s.used since → run p os s ≡ Next t → BlankInFront k t.mode t.start t.used (since ++ os)
+  pub fronted_run : (os : List ℕ) (s t : Known) (since : List ℕ) → Holds p colon k s since → BlankInFront k s.mode s.start s.used since → run p os s ≡ Next t
+      → BlankInFront k t.mode t.start t.used (since ++ os)
   fronted_run [] s t since h f e =
-      subst (λ (x : Known). BlankInFront k x.mode x.start x.used (since ++ [])) (next_is s t e) (subst (BlankInFront k s.mode s.start s.used) (sym (append-nil since)) f)
+      subst (λ (x : Known). BlankInFront k x.mode x.start x.used (since ++ [])) (next_is s t e)
+      (subst (BlankInFront k s.mode s.start s.used) (sym (append-nil since)) f)
   fronted_run (o ∷ os) s t since h f e =
       let x = followed (feed p s o) (λ n. run p os n) t e in
       let there : Holds p colon k x.0 (since ++ o ∷ []) = subst (λ y. Sound p colon k since o y) x.1 (feed_sound p colon k s since o h) in
@@ -143,7 +151,8 @@ module _ (p : Place) (colon : Bool) (k : ℕ) where
         at = next_start p s x.0 o x.1 ∙ f.at;
       } in
       subst (BlankInFront k t.mode t.start t.used) (append_assoc since (o ∷ []) os)
-      (fronted_run os x.0 t (since ++ o ∷ []) there (fronted_mode (x.0).mode (x.0).kept (x.0).start (x.0).used (since ++ o ∷ []) there.mode there.used kept) x.2)
+      (fronted_run os x.0 t (since ++ o ∷ []) there (fronted_mode (x.0).mode (x.0).kept (x.0).start (x.0).used (since ++ o ∷ []) there.mode there.used kept)
+      x.2)
 
 -- what the scanner holds behind the tokens told, before all that may come next
 pub record OpenBehind (p : Place) (s : Known) (u : List ℕ) (ts : List Placed) (ahead : List ℕ) : Type 0 where
@@ -166,7 +175,8 @@ module _ (p : Place) (s : Known) (u : List ℕ) (ts : List Placed) (ahead : List
   pub behind_tokens : OpenBehind p s u ts ahead
   behind_tokens =
       let tells = stands_tells h.behind h.front ts h.left h.told h.pass in
-      let reached : run p (tells.since ++ h.since) (at modes.Blank [] tells.colon tells.end tells.end) ≡ Next s = run_behind p tells.since h.since (at modes.Blank [] tells.colon tells.end tells.end) h.behind (tells.again p) ∙ h.ran in
+      let reached : run p (tells.since ++ h.since) (at modes.Blank [] tells.colon tells.end tells.end) ≡ Next s =
+      run_behind p tells.since h.since (at modes.Blank [] tells.colon tells.end tells.end) h.behind (tells.again p) ∙ h.ran in
       let none : Holds p tells.colon tells.end (at modes.Blank [] tells.colon tells.end tells.end) [] = blank_behind p tells.colon tells.end in
       record {
         colon = tells.colon;
@@ -174,11 +184,15 @@ module _ (p : Place) (s : Known) (u : List ℕ) (ts : List Placed) (ahead : List
         since = tells.since ++ h.since;
         lexes = λ r c.
             let w = continued r c in
-            subst (λ o. LexesTo false 0 o ts tells.colon tells.end ((tells.since ++ h.since) ++ r)) (sym (ap (λ l. l ++ r) h.cut ∙ append_assoc h.front h.since r))
-            (subst (λ o. LexesTo false 0 (h.front ++ (h.since ++ r)) ts tells.colon tells.end o) (sym (append_assoc tells.since h.since r)) (tells.lexes (h.since ++ r) w.0 w.1));
-        holds = subst (λ x. RunSound p tells.colon tells.end tells.since h.since x) h.ran (run_sound p tells.colon tells.end h.since tells.since h.behind (tells.holds p));
+            subst (λ o. LexesTo false 0 o ts tells.colon tells.end ((tells.since ++ h.since) ++ r))
+            (sym (ap (λ l. l ++ r) h.cut ∙ append_assoc h.front h.since r))
+            (subst (λ o. LexesTo false 0 (h.front ++ (h.since ++ r)) ts tells.colon tells.end o) (sym (append_assoc tells.since h.since r))
+            (tells.lexes (h.since ++ r) w.0 w.1));
+        holds = subst (λ x. RunSound p tells.colon tells.end tells.since h.since x) h.ran
+            (run_sound p tells.colon tells.end h.since tells.since h.behind (tells.holds p));
         reached = reached;
-        fronted = fronted_run p tells.colon tells.end (tells.since ++ h.since) (at modes.Blank [] tells.colon tells.end tells.end) s [] none (record { blank = []; open' = []; cut = refl; is_blank = blank_none; at = omega arith }) reached;
+        fronted = fronted_run p tells.colon tells.end (tells.since ++ h.since) (at modes.Blank [] tells.colon tells.end tells.end) s [] none
+            (record { blank = []; open' = []; cut = refl; is_blank = blank_none; at = omega arith }) reached;
       }
 
 -- what an outcome says of the token that is looked for
@@ -188,7 +202,8 @@ Is p x (Left l s) = l ≡ x
 Is p x (Next s) = (at_end p s ≡ Ok (Some x)) ⊎ ((at_end p s ≡ Err reasons.Incomplete) × (x.kind ≡ kinds.Operator))
 Is p x (Refused n e) = ⊥
 
-pub finds_is : (R : Known → List ℕ → Type 0) (B : Type 0) (s : Known) (octets : List ℕ) (t : Placed) (ts : List Placed) → FindsUpTo R B s octets (t ∷ ts) → Is t.place t.lexeme (run t.place octets s)
+pub finds_is : (R : Known → List ℕ → Type 0) (B : Type 0) (s : Known) (octets : List ℕ) (t : Placed) (ts : List Placed) → FindsUpTo R B s octets (t ∷ ts)
+    → Is t.place t.lexeme (run t.place octets s)
 finds_is R B _ _ _ _ (Last s octets t s' e f) = subst (Is t.place t.lexeme) (sym e) (inl f)
 finds_is R B _ _ _ _ (Gives s octets t ts s' e f) = subst (Is t.place t.lexeme) (sym e) refl
 finds_is R B _ _ _ _ (Leaves s octets t ts s' e f) = subst (Is t.place t.lexeme) (sym e) refl
@@ -207,11 +222,14 @@ is_once p x y (Next s) (inr a) (inl b) n = absurd (let k : Err reasons.Incomplet
 is_once p x y (Next s) a (inr b) n = absurd (n b.1)
 is_once p x y (Refused n e) a b m = absurd a
 
-pub one_found : (colon : Bool) (k : ℕ) (octets : List ℕ) (t : Placed) (r : List ℕ) → BeginsWith colon k octets t r → Is t.place t.lexeme (run t.place octets (at modes.Blank [] colon k k))
-one_found colon k octets t r b = finds_is (λ s octets. Unit {0}) (Unit {0}) (at modes.Blank [] colon k k) octets t [] (begins_completes (t ∷ []) colon k octets [] octets (at modes.Blank [] colon k k) (r, b, tt) refl (λ p. refl))
+pub one_found : (colon : Bool) (k : ℕ) (octets : List ℕ) (t : Placed) (r : List ℕ) → BeginsWith colon k octets t r
+    → Is t.place t.lexeme (run t.place octets (at modes.Blank [] colon k k))
+one_found colon k octets t r b = finds_is (λ s octets. Unit {0}) (Unit {0}) (at modes.Blank [] colon k k) octets t []
+    (begins_completes (t ∷ []) colon k octets [] octets (at modes.Blank [] colon k k) (r, b, tt) refl (λ p. refl))
 
 -- Octets begin with one token that is looked for in a place.
-pub begins_once : (colon : Bool) (k : ℕ) (octets : List ℕ) (t t' : Placed) (r r' : List ℕ) → BeginsWith colon k octets t r → BeginsWith colon k octets t' r' → t.place ≡ t'.place → (t'.lexeme.kind ≡ kinds.Operator → ⊥) → t.lexeme ≡ t'.lexeme
+pub begins_once : (colon : Bool) (k : ℕ) (octets : List ℕ) (t t' : Placed) (r r' : List ℕ) → BeginsWith colon k octets t r → BeginsWith colon k octets t' r'
+    → t.place ≡ t'.place → (t'.lexeme.kind ≡ kinds.Operator → ⊥) → t.lexeme ≡ t'.lexeme
 begins_once colon k octets t t' r r' a b e n =
     is_once t'.place t.lexeme t'.lexeme (run t'.place octets (at modes.Blank [] colon k k))
     (subst (λ p. Is p t.lexeme (run p octets (at modes.Blank [] colon k k))) e (one_found colon k octets t r a)) (one_found colon k octets t' r' b) n
@@ -231,7 +249,8 @@ pub record PastBlank (p : Place) (colon : Bool) (used : ℕ) (s : Known) (r more
   pub same : token ++ r ≡ more
   pub ran : run p token (blank colon now used) ≡ Next s
 
-pub past_blank : (p : Place) (colon : Bool) (k : ℕ) (since r w more : List ℕ) (s : Known) → run p since (at modes.Blank [] colon k k) ≡ Next s → is_sane s.mode ≡ true → is_idle s.mode ≡ false → IsBlank w → since ++ r ≡ w ++ more → PastBlank p colon (k + length w) s r more
+pub past_blank : (p : Place) (colon : Bool) (k : ℕ) (since r w more : List ℕ) (s : Known) → run p since (at modes.Blank [] colon k k) ≡ Next s
+    → is_sane s.mode ≡ true → is_idle s.mode ≡ false → IsBlank w → since ++ r ≡ w ++ more → PastBlank p colon (k + length w) s r more
 past_blank p colon k since r w more s ran sane idle b e = by (parts_meet since r w more e)
   where
     passed : (now : ℕ) × ((r : List ℕ) → run p (w ++ r) (blank colon k k) ≡ run p r (blank colon now (k + length w)))
@@ -241,5 +260,6 @@ past_blank p colon k since r w more s ran sane idle b e = by (parts_meet since r
     by (inl (y, f, g)) = record { now = passed.0; token = y; same = g; ran = sym (ap (λ l. run p l (at modes.Blank [] colon k k)) f ∙ passed.1 y) ∙ ran }
     by (inr (z, f, g)) =
         let t = blank colon passed.0 (k + length w) in
-        let all : run p z s ≡ Next t = sym (run_behind p since z (at modes.Blank [] colon k k) s ran) ∙ (ap (λ l. run p l (at modes.Blank [] colon k k)) (sym f ∙ sym (append-nil w)) ∙ passed.1 []) in
+        let all : run p z s ≡ Next t = sym (run_behind p since z (at modes.Blank [] colon k k) s ran)
+        ∙ (ap (λ l. run p l (at modes.Blank [] colon k k)) (sym f ∙ sym (append-nil w)) ∙ passed.1 []) in
         absurd (let n : false ≡ true = sym (begun_kept p z s t sane idle all) in cc)

@@ -33,7 +33,8 @@ exact_at p colon k s since h = record { is = go s.mode h.mode }
     go _ i = tt
 
 -- behind a long string that waits at the top level no colon may stand
-pub long_colon : (g : Catalog) (l : Limits) (u : List ℕ) (vs : List Value) (s : Known) (r : Reading) (ahead : List ℕ) (A : Type 0) (b : Behind g l Scanned u vs s r ahead A) → s.used ≡ length u → (w : List ℕ) (end : ℕ) → r.now ≡ nows.Long w end → r.frames ≡ [] → s.colon ≡ false
+pub long_colon : (g : Catalog) (l : Limits) (u : List ℕ) (vs : List Value) (s : Known) (r : Reading) (ahead : List ℕ) (A : Type 0)
+    (b : Behind g l Scanned u vs s r ahead A) → s.used ≡ length u → (w : List ℕ) (end : ℕ) → r.now ≡ nows.Long w end → r.frames ≡ [] → s.colon ≡ false
 long_colon g l u vs s r ahead A b used w end e top = go b.item refl
   where
     d : LongFor r.context [] r.notes w b.item
@@ -54,15 +55,25 @@ long_colon g l u vs s r ahead A b used w end e top = go b.item refl
     go (x ∷ xs) f =
         let k = behind_tokens (place r) s u (b.front ++ b.item) ahead b.scanned in
         k.holds.flag
-        ∙ (sym (colon_last g l u vs s r ahead A b used x xs f (b.front ++ (d.before ++ last.0)) last.1 (ap (λ y. b.front ++ y) whole ∙ sym (append_assoc b.front (d.before ++ last.0) (last.1 ∷ []))))
+        ∙ (sym (colon_last g l u vs s r ahead A b used x xs f (b.front ++ (d.before ++ last.0)) last.1
+        (ap (λ y. b.front ++ y) whole ∙ sym (append_assoc b.front (d.before ++ last.0) (last.1 ∷ []))))
         ∙ (ap (λ q. takes_colon q (last.1).lexeme.kind) last.3 ∙ ap (takes_colon places.Top) last.4))
 
 -- the octets used are those before
-pub behind_used : (g : Catalog) (l : Limits) (u : List ℕ) (vs : List Value) (s : Known) (r : Reading) (ahead : List ℕ) (A : Type 0) → Behind g l Scanned u vs s r ahead A → s.used ≡ length u
+pub behind_used : (g : Catalog) (l : Limits) (u : List ℕ) (vs : List Value) (s : Known) (r : Reading) (ahead : List ℕ) (A : Type 0)
+    → Behind g l Scanned u vs s r ahead A → s.used ≡ length u
 behind_used g l u vs s r ahead A b =
     let k = behind_tokens (place r) s u (b.front ++ b.item) ahead b.scanned in
     let x = lexed_front (b.front ++ b.item) false 0 (u ++ (ahead ++ [])) k.colon k.end (k.since ++ (ahead ++ [])) (k.lexes (ahead ++ []) ([], refl)) in
-    omega (arith, k.holds.used, x.2, ap length x.1, length-append u (ahead ++ []), length-append x.0 (k.since ++ (ahead ++ [])), length-append k.since (ahead ++ []))
+    omega (
+      arith,
+      k.holds.used,
+      x.2,
+      ap length x.1,
+      length-append u (ahead ++ []),
+      length-append x.0 (k.since ++ (ahead ++ [])),
+      length-append k.since (ahead ++ []),
+    )
 
 -- no container is open
 pub top_none : (fs : List Frame) → is_top fs ≡ true → fs ≡ []

@@ -108,7 +108,8 @@ long_first p t w i = segment_opens t.lexeme.kind (segment_kind t.lexeme.kind t.l
 
 notes_first : (c : List Slot) (p : Place) (ts : List Placed) (ss : Symbols) → Annotations c p ts ss → OpensItem ts
 notes_first c p _ _ no_annotation = tt
-notes_first c p _ _ (one_annotation ts ss t colons said s d i j k) = opens_more ts (t ∷ colons ∷ []) (notes_first c p ts ss d) (symbol_first p t said i (is_said c said s j))
+notes_first c p _ _ (one_annotation ts ss t colons said s d i j k) =
+    opens_more ts (t ∷ colons ∷ []) (notes_first c p ts ss d) (symbol_first p t said i (is_said c said s j))
 
 segments_first : (p : Place) (ts : List Placed) (w : List ℕ) → Segments p ts w → OpensItem ts
 segments_first p _ _ (segment t w i) = long_first p t w i
@@ -119,13 +120,26 @@ mark_first p t m i h = ap opens_item (mark_kind t.lexeme.kind t.lexeme.octets m 
 
 opened_first : (c : List Slot) (fs : List Frame) (ts : List Placed) (more : Bool) → Opened c fs ts more → OpensItem ts
 opened_first c [] ts more o = subst OpensItem (sym o) tt
-opened_first c (frames.List ss vs ∷ fs) ts more o = subst OpensItem (sym o.whole) (opens_more o.front _ (opened_first c fs o.front true o.outer) (opens_more o.notes (o.open' ∷ o.body) (notes_first c (value_place fs) o.notes ss o.noted) (mark_first (value_place fs) o.open' marks.ListOpen o.opens refl)))
-opened_first c (frames.Sexp ss vs ∷ fs) ts more o = subst OpensItem (sym o.whole) (opens_more o.front _ (opened_first c fs o.front true o.outer) (opens_more o.notes (o.open' ∷ o.body) (notes_first c (value_place fs) o.notes ss o.noted) (mark_first (value_place fs) o.open' marks.SexpOpen o.opens refl)))
-opened_first c (frames.Fields ss ms ∷ fs) ts more o = subst OpensItem (sym o.whole) (opens_more o.front _ (opened_first c fs o.front true o.outer) (opens_more o.notes (o.open' ∷ o.body) (notes_first c (value_place fs) o.notes ss o.noted) (mark_first (value_place fs) o.open' marks.FieldsOpen o.opens refl)))
-opened_first c (frames.Named ss ms s ∷ fs) ts more o = subst OpensItem (sym o.whole) (opens_more o.front _ (opened_first c fs o.front true o.outer) (opens_more o.notes (o.open' ∷ (o.body ++ (o.name ++ o.colon ∷ []))) (notes_first c (value_place fs) o.notes ss o.noted) (mark_first (value_place fs) o.open' marks.FieldsOpen o.opens refl)))
+opened_first c (frames.List ss vs ∷ fs) ts more o = subst OpensItem (sym o.whole)
+    (opens_more o.front _ (opened_first c fs o.front true o.outer)
+    (opens_more o.notes (o.open' ∷ o.body) (notes_first c (value_place fs) o.notes ss o.noted)
+    (mark_first (value_place fs) o.open' marks.ListOpen o.opens refl)))
+opened_first c (frames.Sexp ss vs ∷ fs) ts more o = subst OpensItem (sym o.whole)
+    (opens_more o.front _ (opened_first c fs o.front true o.outer)
+    (opens_more o.notes (o.open' ∷ o.body) (notes_first c (value_place fs) o.notes ss o.noted)
+    (mark_first (value_place fs) o.open' marks.SexpOpen o.opens refl)))
+opened_first c (frames.Fields ss ms ∷ fs) ts more o = subst OpensItem (sym o.whole)
+    (opens_more o.front _ (opened_first c fs o.front true o.outer)
+    (opens_more o.notes (o.open' ∷ o.body) (notes_first c (value_place fs) o.notes ss o.noted)
+    (mark_first (value_place fs) o.open' marks.FieldsOpen o.opens refl)))
+opened_first c (frames.Named ss ms s ∷ fs) ts more o = subst OpensItem (sym o.whole)
+    (opens_more o.front _ (opened_first c fs o.front true o.outer)
+    (opens_more o.notes (o.open' ∷ (o.body ++ (o.name ++ o.colon ∷ []))) (notes_first c (value_place fs) o.notes ss o.noted)
+    (mark_first (value_place fs) o.open' marks.FieldsOpen o.opens refl)))
 
 ready_first : (c : List Slot) (fs : List Frame) (ss : Symbols) (ts : List Placed) → ReadyFor c fs ss ts → OpensItem ts
-ready_first c fs ss ts d = subst OpensItem (sym d.whole) (opens_more d.front d.notes (opened_first c fs d.front true d.outer) (notes_first c (value_place fs) d.notes ss d.noted))
+ready_first c fs ss ts d = subst OpensItem (sym d.whole)
+    (opens_more d.front d.notes (opened_first c fs d.front true d.outer) (notes_first c (value_place fs) d.notes ss d.noted))
 
 -- in a struct something stands before a name
 behind_first : (ts us : List Placed) → OpensItem ts → ([] ≡ ts → ⊥) → OpensItem (ts ++ us)
@@ -134,12 +148,16 @@ behind_first (t ∷ ts) us a n = a
 
 pub now_first : (c : List Slot) (fs : List Frame) (ss : Symbols) (now : Now) (ts : List Placed) → NowStands c fs ss ts now → OpensItem ts
 now_first c fs ss nows.Ready ts d = ready_first c fs ss ts d
-now_first c fs ss (nows.Pending h end) ts d = subst OpensItem (sym d.whole) (opens_more d.before (d.token ∷ []) (ready_first c fs ss d.before d.ready) (symbol_first (value_place fs) d.token d.said d.says d.named))
-now_first c fs ss (nows.Long w end) ts d = subst OpensItem (sym d.whole) (opens_more d.before d.segments (ready_first c fs ss d.before d.ready) (segments_first (value_place fs) d.segments w d.are))
+now_first c fs ss (nows.Pending h end) ts d = subst OpensItem (sym d.whole)
+    (opens_more d.before (d.token ∷ []) (ready_first c fs ss d.before d.ready) (symbol_first (value_place fs) d.token d.said d.says d.named))
+now_first c fs ss (nows.Long w end) ts d = subst OpensItem (sym d.whole)
+    (opens_more d.before d.segments (ready_first c fs ss d.before d.ready) (segments_first (value_place fs) d.segments w d.are))
 now_first c fs ss nows.After ts d = opened_first c fs ts false d.0
 now_first c fs ss nows.Name ts d = opened_first c fs ts true d.0
-now_first c fs ss (nows.LongName w) ts d = subst OpensItem (sym d.whole) (behind_first d.before d.name (opened_first c fs d.before true d.outer) (name_some c fs d.before d.outer d.struct))
-now_first c fs ss (nows.Keyed s) ts d = subst OpensItem (sym d.whole) (behind_first d.before d.name (opened_first c fs d.before true d.outer) (name_some c fs d.before d.outer d.struct))
+now_first c fs ss (nows.LongName w) ts d = subst OpensItem (sym d.whole)
+    (behind_first d.before d.name (opened_first c fs d.before true d.outer) (name_some c fs d.before d.outer d.struct))
+now_first c fs ss (nows.Keyed s) ts d = subst OpensItem (sym d.whole)
+    (behind_first d.before d.name (opened_first c fs d.before true d.outer) (name_some c fs d.before d.outer d.struct))
 
 -- 2. Octets with which a token begins.
 
@@ -158,7 +176,8 @@ long_run p (o ∷ os) s h = go (feed p s o) (long_feed p s o h) (λ t i. long_ru
     go (Refused n e) h f = tt
 
 -- `::` behind a blank is no token that has begun
-pub colons_never : (p : Place) (now used : ℕ) (token r more : List ℕ) (s : Known) → token ++ r ≡ 58 ∷ 58 ∷ more → run p token (blank true now used) ≡ Next s → is_idle s.mode ≡ false → ⊥
+pub colons_never : (p : Place) (now used : ℕ) (token r more : List ℕ) (s : Known) → token ++ r ≡ 58 ∷ 58 ∷ more → run p token (blank true now used) ≡ Next s
+    → is_idle s.mode ≡ false → ⊥
 colons_never p now used [] r more s e ran i = let n : true ≡ false = ap (λ (x : Known). is_idle x.mode) (next_is _ s ran) ∙ i in cc
 colons_never p now used (o ∷ []) r more s e ran i =
     let head : o ≡ 58 = cc in
@@ -166,22 +185,26 @@ colons_never p now used (o ∷ []) r more s e ran i =
 colons_never p now used (o ∷ o' ∷ os) r more s e ran i =
     let head : o ≡ 58 = cc in
     let second : o' ≡ 58 = cc in
-    let never = ap (λ (x : ℕ). run p (x ∷ 58 ∷ os) (blank true now used)) (sym head) ∙ (ap (λ (x : ℕ). run p (o ∷ x ∷ os) (blank true now used)) (sym second) ∙ ran) in
+    let never = ap (λ (x : ℕ). run p (x ∷ 58 ∷ os) (blank true now used)) (sym head)
+    ∙ (ap (λ (x : ℕ). run p (o ∷ x ∷ os) (blank true now used)) (sym second) ∙ ran) in
     absurd (is_given p now used os s never)
   where
     is_given : (p : Place) (now used : ℕ) (os : List ℕ) (s : Known) → run p (58 ∷ 58 ∷ os) (blank true now used) ≡ Next s → ⊥
     is_given p now used os s e = cc
 
 -- `''` behind a blank is no token that has begun without quotes
-pub quotes_never : (p : Place) (colon : Bool) (now used : ℕ) (token r more : List ℕ) (s : Known) → token ++ r ≡ 39 ∷ 39 ∷ more → run p token (blank colon now used) ≡ Next s → is_idle s.mode ≡ false → is_quoting s.mode ≡ false → ⊥
+pub quotes_never : (p : Place) (colon : Bool) (now used : ℕ) (token r more : List ℕ) (s : Known) → token ++ r ≡ 39 ∷ 39 ∷ more
+    → run p token (blank colon now used) ≡ Next s → is_idle s.mode ≡ false → is_quoting s.mode ≡ false → ⊥
 quotes_never p colon now used [] r more s e ran i q = let n : true ≡ false = ap (λ (x : Known). is_idle x.mode) (next_is _ s ran) ∙ i in cc
 quotes_never p colon now used (o ∷ []) r more s e ran i q =
     let head : o ≡ 39 = cc in
-    let n : true ≡ false = ap (λ (x : Known). is_quoting x.mode) (next_is _ s (ap (λ (x : ℕ). run p (x ∷ []) (blank colon now used)) (sym head) ∙ ran)) ∙ q in cc
+    let n : true ≡ false = ap (λ (x : Known). is_quoting x.mode) (next_is _ s (ap (λ (x : ℕ). run p (x ∷ []) (blank colon now used)) (sym head) ∙ ran)) ∙ q in
+    cc
 quotes_never p colon now used (o ∷ o' ∷ os) r more s e ran i q =
     let head : o ≡ 39 = cc in
     let second : o' ≡ 39 = cc in
-    by os (ap (λ (x : ℕ). run p (x ∷ 39 ∷ os) (blank colon now used)) (sym head) ∙ (ap (λ (x : ℕ). run p (o ∷ x ∷ os) (blank colon now used)) (sym second) ∙ ran))
+    by os (ap (λ (x : ℕ). run p (x ∷ 39 ∷ os) (blank colon now used)) (sym head)
+    ∙ (ap (λ (x : ℕ). run p (o ∷ x ∷ os) (blank colon now used)) (sym second) ∙ ran))
   where
     two : Known
     two = at modes.Quotes [] colon used (used + 1 + 1)
@@ -191,11 +214,13 @@ quotes_never p colon now used (o ∷ o' ∷ os) r more s e ran i q =
 
     third : (o : ℕ) (os : List ℕ) (b : Bool) → (o == 39) ≡ b → run p (o ∷ os) two ≡ Next s → ⊥
     third o os true e f =
-        let g : run p os long ≡ Next s = sym (ap (λ b. follow (acts p two o (if b then go_on (modes.Text styles.LongString within.Plain) else before kinds.QuotedSymbol)) (λ t. run p os t)) e) ∙ f in
+        let g : run p os long ≡ Next s = sym (ap (λ b. follow (acts p two o
+        (if b then go_on (modes.Text styles.LongString within.Plain) else before kinds.QuotedSymbol)) (λ t. run p os t)) e) ∙ f in
         let k = long_quoting s.mode (subst LongOn g (long_run p os long refl)) in
         let n : true ≡ false = sym k ∙ q in cc
     third o os false e f =
-        let g = sym (ap (λ b. follow (acts p two o (if b then go_on (modes.Text styles.LongString within.Plain) else before kinds.QuotedSymbol)) (λ t. run p os t)) e) ∙ f in
+        let g = sym (ap (λ b. follow (acts p two o (if b then go_on (modes.Text styles.LongString within.Plain) else before kinds.QuotedSymbol))
+        (λ t. run p os t)) e) ∙ f in
         absurd cc
 
     by : (os : List ℕ) → run p (39 ∷ 39 ∷ os) (blank colon now used) ≡ Next s → ⊥
@@ -224,7 +249,8 @@ long_end p s x modes.Brace h k = absurd cc
 long_end p s x (modes.Lob l) h k = absurd cc
 
 -- a token that begins with `''` is a segment, or that symbol
-pub quotes_first : (colon : Bool) (k : ℕ) (octets w more : List ℕ) (t : Placed) (r : List ℕ) → BeginsWith colon k octets t r → (t.lexeme.kind ≡ kinds.Operator → ⊥) → IsBlank w → octets ≡ w ++ 39 ∷ 39 ∷ more → begins_as_long (t ∷ []) ≡ true
+pub quotes_first : (colon : Bool) (k : ℕ) (octets w more : List ℕ) (t : Placed) (r : List ℕ) → BeginsWith colon k octets t r
+    → (t.lexeme.kind ≡ kinds.Operator → ⊥) → IsBlank w → octets ≡ w ++ 39 ∷ 39 ∷ more → begins_as_long (t ∷ []) ≡ true
 quotes_first colon k octets w more t r b plain blanks e = by more (subst (Is t.place t.lexeme) run_is (one_found colon k octets t r b))
   where
     p : Place
@@ -265,9 +291,12 @@ quotes_first colon k octets w more t r b plain blanks e = by more (subst (Is t.p
     found_long (Refused n f) h i = absurd i
 
     third : (o : ℕ) (os : List ℕ) (b : Bool) → (o == 39) ≡ b → Is p x (run p (o ∷ os) two) → begins_as_long (t ∷ []) ≡ true
-    third o os true f i = found_long (run p os long) (long_run p os long refl) (subst (λ b. Is p x (follow (acts p two o (if b then go_on (modes.Text styles.LongString within.Plain) else before kinds.QuotedSymbol)) (λ t. run p os t))) f i)
+    third o os true f i = found_long (run p os long) (long_run p os long refl)
+        (subst (λ b. Is p x (follow (acts p two o (if b then go_on (modes.Text styles.LongString within.Plain) else before kinds.QuotedSymbol))
+        (λ t. run p os t))) f i)
     third o os false f i =
-        let h = subst (λ b. Is p x (follow (acts p two o (if b then go_on (modes.Text styles.LongString within.Plain) else before kinds.QuotedSymbol)) (λ t. run p os t))) f i in
+        let h = subst (λ b. Is p x (follow (acts p two o (if b then go_on (modes.Text styles.LongString within.Plain) else before kinds.QuotedSymbol))
+        (λ t. run p os t))) f i in
         wide (record { start = used; end = used + 1 + 1 - 0; kind = kinds.QuotedSymbol; octets = [] }) refl refl (omega arith) h
 
     by : (more : List ℕ) → Is p x (run p more two) → begins_as_long (t ∷ []) ≡ true

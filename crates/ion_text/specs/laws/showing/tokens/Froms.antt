@@ -34,7 +34,8 @@ use Rattle.ion_text.specs.laws.reading.sound.Spans.{IsTopNow, IsWaiting, OpenAs,
 use Rattle.ion_text.specs.laws.reading.sound.Steps.{Stood, After, eats_after, takes_after}
 
 -- a fresh reading waits for an item
-pub fresh_parts : (start : ℕ) (c : List Slot) (fs : List Frame) (ss : Symbols) (now : Now) → is_fresh (at start c fs ss now) ≡ true → (fs ≡ []) × (ss ≡ []) × (now ≡ nows.Ready)
+pub fresh_parts : (start : ℕ) (c : List Slot) (fs : List Frame) (ss : Symbols) (now : Now) → is_fresh (at start c fs ss now) ≡ true → (fs ≡ []) × (ss ≡ [])
+    × (now ≡ nows.Ready)
 fresh_parts start c [] [] nows.Ready h = (refl, refl, refl)
 fresh_parts start c [] [] (nows.Pending x y) h = absurd cc
 fresh_parts start c [] [] (nows.Long x y) h = absurd cc
@@ -63,7 +64,8 @@ module _ (g : Catalog) (l : Limits) where
       go true = h
       go false = tt
 
-  top_freed : (item start end : ℕ) (c : List Slot) (v : Value) (d : Result (List Slot) Reason) (b : Bool) → Leading g l (Freed start) (if b then turned item start end d else within item start end (gives v (fresh c)))
+  top_freed : (item start end : ℕ) (c : List Slot) (v : Value) (d : Result (List Slot) Reason) (b : Bool)
+      → Leading g l (Freed start) (if b then turned item start end d else within item start end (gives v (fresh c)))
   top_freed item start end c v (Ok d) true = within_freed start item start end (goes (fresh d)) (tt, inl refl)
   top_freed item start end c v (Err e) true = tt
   top_freed item start end c v d false = within_freed start item start end (gives v (fresh c)) (tt, inl refl)
@@ -89,7 +91,8 @@ module _ (g : Catalog) (l : Limits) where
   released_freed spot [] (s ∷ ss) h = paid_freed spot [] (s ∷ ss) (held_payload h)
   released_freed spot (f ∷ fs) ss h = paid_freed spot (f ∷ fs) ss (held_payload h)
 
-  pub waiting_freed : (start : ℕ) (c : List Slot) (fs : List Frame) (ss : Symbols) (now : Now) → IsWaiting g l now → Leading g l (Freed start) (settle g l (at start c fs ss now))
+  pub waiting_freed : (start : ℕ) (c : List Slot) (fs : List Frame) (ss : Symbols) (now : Now) → IsWaiting g l now
+      → Leading g l (Freed start) (settle g l (at start c fs ss now))
   waiting_freed start c fs ss (nows.Pending h end) w = released_freed (spot_at end start c) fs ss h
   waiting_freed start c fs ss (nows.Long v end) w = ended_freed (spot_at end start c) fs _
   waiting_freed start c fs ss nows.Ready w = absurd w
@@ -122,16 +125,20 @@ module _ (g : Catalog) (l : Limits) where
   open_from n start c fs ss now k (ok, inl f) = absurd (k (fresh_parts start c fs ss now f).2)
   open_from n start c fs ss now k (ok, inr h) = h
 
-  pub settle_from : (n start : ℕ) (c : List Slot) (fs : List Frame) (ss : Symbols) (now : Now) → From n (at start c fs ss now) → Leading g l (From n) (settle g l (at start c fs ss now))
-  settle_from n start c fs ss (nows.Pending h end) q = freed_from n start (open_from n start c fs ss (nows.Pending h end) (λ e. cc) q) (settle g l (at start c fs ss (nows.Pending h end))) (waiting_freed start c fs ss (nows.Pending h end) tt)
-  settle_from n start c fs ss (nows.Long w end) q = freed_from n start (open_from n start c fs ss (nows.Long w end) (λ e. cc) q) (settle g l (at start c fs ss (nows.Long w end))) (waiting_freed start c fs ss (nows.Long w end) tt)
+  pub settle_from : (n start : ℕ) (c : List Slot) (fs : List Frame) (ss : Symbols) (now : Now) → From n (at start c fs ss now)
+      → Leading g l (From n) (settle g l (at start c fs ss now))
+  settle_from n start c fs ss (nows.Pending h end) q = freed_from n start (open_from n start c fs ss (nows.Pending h end) (λ e. cc) q)
+      (settle g l (at start c fs ss (nows.Pending h end))) (waiting_freed start c fs ss (nows.Pending h end) tt)
+  settle_from n start c fs ss (nows.Long w end) q = freed_from n start (open_from n start c fs ss (nows.Long w end) (λ e. cc) q)
+      (settle g l (at start c fs ss (nows.Long w end))) (waiting_freed start c fs ss (nows.Long w end) tt)
   settle_from n start c fs ss (nows.LongName w) q = (λ e. absurd (q.0 e), inr (open_from n start c fs ss (nows.LongName w) (λ e. cc) q))
   settle_from n start c fs ss nows.Ready q = q
   settle_from n start c fs ss nows.After q = q
   settle_from n start c fs ss nows.Name q = q
   settle_from n start c fs ss (nows.Keyed s) q = q
 
-  begun_from : (n start begin : ℕ) (c : List Slot) (fs : List Frame) (ss : Symbols) (now : Now) → n ≤ begin → From n (at start c fs ss now) → n ≤ start_now now start begin fs ss
+  begun_from : (n start begin : ℕ) (c : List Slot) (fs : List Frame) (ss : Symbols) (now : Now) → n ≤ begin → From n (at start c fs ss now)
+      → n ≤ start_now now start begin fs ss
   begun_from n start begin c [] [] nows.Ready k q = k
   begun_from n start begin c [] (s ∷ ss) nows.Ready k (ok, inl f) = absurd cc
   begun_from n start begin c [] (s ∷ ss) nows.Ready k (ok, inr h) = h
@@ -189,9 +196,11 @@ module _ (g : Catalog) (l : Limits) where
       → WalkFrom n (if b then on_turn (turn g l r t) f else on_turn (settle g l r) (λ k. on_turn (turn g l k t) f))
   token_from n r t f i q k true = on_turn_from n (turn g l r t) f (turn_from n r t i q) k
   token_from n r t f i q k false =
-      on_turn_from n (settle g l r) (λ k. on_turn (turn g l k t) f) (settle_from n r.start r.context r.frames r.notes r.now q) (λ m h. on_turn_from n (turn g l m t) f (turn_from n m t i h) k)
+      on_turn_from n (settle g l r) (λ k. on_turn (turn g l k t) f) (settle_from n r.start r.context r.frames r.notes r.now q)
+      (λ m h. on_turn_from n (turn g l m t) f (turn_from n m t i h) k)
 
-  judged_from : (n : ℕ) (r : Reading) (t : Placed) (c : Result Content Reason) (f : Reading → Walk) → n ≤ t.lexeme.start → From n r → ((r : Reading) → From n r → WalkFrom n (f r)) → WalkFrom n (on_judged g l r t c f)
+  judged_from : (n : ℕ) (r : Reading) (t : Placed) (c : Result Content Reason) (f : Reading → Walk) → n ≤ t.lexeme.start → From n r
+      → ((r : Reading) → From n r → WalkFrom n (f r)) → WalkFrom n (on_judged g l r t c f)
   judged_from n r t (Ok c) f i q k = token_from n r (token_of t.lexeme c) f i q k (continues r (token_of t.lexeme c))
   judged_from n r t (Err e) f i q k = tt
 
@@ -244,7 +253,8 @@ module _ (g : Catalog) (l : Limits) where
   next_waits top (nows.LongName w) s e = tt
   next_waits top (nows.Keyed k) s e = tt
 
-  pub settle_free : (start : ℕ) (c : List Slot) (fs : List Frame) (ss : Symbols) (now : Now) → Leading g l (λ n. IsFree n.now) (settle g l (at start c fs ss now))
+  pub settle_free : (start : ℕ) (c : List Slot) (fs : List Frame) (ss : Symbols) (now : Now)
+      → Leading g l (λ n. IsFree n.now) (settle g l (at start c fs ss now))
   settle_free start c fs ss now = go now refl
     where
       part : (t : Turn) → Leading g l (Freed start) t → Leading g l (λ n. IsFree n.now) t
@@ -254,8 +264,10 @@ module _ (g : Catalog) (l : Limits) where
       part (late e r) h = tt
 
       go : (n : Now) → now ≡ n → Leading g l (λ n. IsFree n.now) (settle g l (at start c fs ss now))
-      go (nows.Pending h end) e = subst (λ x. Leading g l (λ n. IsFree n.now) (settle g l (at start c fs ss x))) (sym e) (part (settle g l (at start c fs ss (nows.Pending h end))) (waiting_freed start c fs ss (nows.Pending h end) tt))
-      go (nows.Long w end) e = subst (λ x. Leading g l (λ n. IsFree n.now) (settle g l (at start c fs ss x))) (sym e) (part (settle g l (at start c fs ss (nows.Long w end))) (waiting_freed start c fs ss (nows.Long w end) tt))
+      go (nows.Pending h end) e = subst (λ x. Leading g l (λ n. IsFree n.now) (settle g l (at start c fs ss x))) (sym e)
+          (part (settle g l (at start c fs ss (nows.Pending h end))) (waiting_freed start c fs ss (nows.Pending h end) tt))
+      go (nows.Long w end) e = subst (λ x. Leading g l (λ n. IsFree n.now) (settle g l (at start c fs ss x))) (sym e)
+          (part (settle g l (at start c fs ss (nows.Long w end))) (waiting_freed start c fs ss (nows.Long w end) tt))
       go nows.Ready e = subst (λ x. Leading g l (λ n. IsFree n.now) (settle g l (at start c fs ss x))) (sym e) tt
       go nows.After e = subst (λ x. Leading g l (λ n. IsFree n.now) (settle g l (at start c fs ss x))) (sym e) tt
       go nows.Name e = subst (λ x. Leading g l (λ n. IsFree n.now) (settle g l (at start c fs ss x))) (sym e) tt
@@ -271,7 +283,8 @@ module _ (g : Catalog) (l : Limits) where
   noticed_waits : (r : Reading) (s : Known) → Waits s r.now → WaitsBehind (noticed l r s)
   noticed_waits r s h = go (shut r.now && not (is_idle s.mode)) (nat_le (reaches r.frames r s) l.item)
     where
-      go : (x y : Bool) → WaitsBehind (if x then fails reasons.Unexpected else (if y then uses (record { scan = s; reading = r }) else fails reasons.ItemTooLong))
+      go : (x y : Bool) → WaitsBehind (if x then fails reasons.Unexpected else
+          (if y then uses (record { scan = s; reading = r }) else fails reasons.ItemTooLong))
       go true y = tt
       go false true = h
       go false false = tt
@@ -302,30 +315,39 @@ module _ (g : Catalog) (l : Limits) where
     said_waits (Ok c) f h = h c
     said_waits (Err e) f h = tt
 
-    scan_waits : (s : Known) (r : Reading) (again : State → Effect) → AgainWaits again → Fine s → (x : Outcome) → feed (place r) s o ≡ x → ((t : Known) → x ≡ Next t → Waits t r.now) → WaitsBehind (on_scan g l again r x)
+    scan_waits : (s : Known) (r : Reading) (again : State → Effect) → AgainWaits again → Fine s → (x : Outcome) → feed (place r) s o ≡ x
+        → ((t : Known) → x ≡ Next t → Waits t r.now) → WaitsBehind (on_scan g l again r x)
     scan_waits s r again f h (Next t) e k = noticed_waits r t (k t refl)
-    scan_waits s r again f h (Given x t) e k = said_waits (said x.kind x.octets) (λ c. behind_given l t (turn g l r (token_of x c))) (λ c. given_waits t (turn g l r (token_of x c)) (finely_as (place r) s o (Given x t) h e).3)
-    scan_waits s r again f h (Left x t) e k = said_waits (said x.kind x.octets) (λ c. behind_left again t (turn g l r (token_of x c))) (λ c. left_waits again t (turn g l r (token_of x c)) f (finely_as (place r) s o (Left x t) h e).0)
+    scan_waits s r again f h (Given x t) e k = said_waits (said x.kind x.octets) (λ c. behind_given l t (turn g l r (token_of x c)))
+        (λ c. given_waits t (turn g l r (token_of x c)) (finely_as (place r) s o (Given x t) h e).3)
+    scan_waits s r again f h (Left x t) e k = said_waits (said x.kind x.octets) (λ c. behind_left again t (turn g l r (token_of x c)))
+        (λ c. left_waits again t (turn g l r (token_of x c)) f (finely_as (place r) s o (Left x t) h e).0)
     scan_waits s r again f h (Refused n y) e k = tt
 
-    settled_waits : (s : Known) (again : State → Effect) (r : Reading) → AgainWaits again → Fine s → (t : Turn) → Leading g l (λ n. IsFree n.now × (place n ≡ place r)) t → WaitsBehind (on_settled g l again s (feed (place r) s o) t)
+    settled_waits : (s : Known) (again : State → Effect) (r : Reading) → AgainWaits again → Fine s → (t : Turn)
+        → Leading g l (λ n. IsFree n.now × (place n ≡ place r)) t → WaitsBehind (on_settled g l again s (feed (place r) s o) t)
     settled_waits s again r f h (goes n) k = scan_waits s n again f h (feed (place r) s o) (ap (λ p. feed p s o) k.1) (λ t e. free_waits t n.now k.0)
     settled_waits s again r f h (gives v n) k = tt
     settled_waits s again r f h (refuses e) k = tt
     settled_waits s again r f h (late e n) k = worse_waits e (on_scan g l again n (feed (place r) s o))
 
-    octet_waits : (s : Known) (r : Reading) (again : State → Effect) → AgainWaits again → Fine s → WaitsBehind (on_octet g l again (with_scan s r) (feed (place r) s o))
+    octet_waits : (s : Known) (r : Reading) (again : State → Effect) → AgainWaits again → Fine s
+        → WaitsBehind (on_octet g l again (with_scan s r) (feed (place r) s o))
     octet_waits s r again f h = go (unsettled s r (feed (place r) s o)) refl
       where
-        both : (t : Turn) → Leading g l (λ n. IsFree n.now) t → Leading g l (λ n. (place n ≡ place r) × (is_top n.frames ≡ is_top r.frames)) t → Leading g l (λ n. IsFree n.now × (place n ≡ place r)) t
+        both : (t : Turn) → Leading g l (λ n. IsFree n.now) t → Leading g l (λ n. (place n ≡ place r) × (is_top n.frames ≡ is_top r.frames)) t
+            → Leading g l (λ n. IsFree n.now × (place n ≡ place r)) t
         both (goes n) a b = (a, b.0)
         both (gives v n) a b = (a, b.0)
         both (refuses e) a b = tt
         both (late e n) a b = tt
 
-        go : (w : Bool) → unsettled s r (feed (place r) s o) ≡ w → WaitsBehind (if w then on_scan g l again r (feed (place r) s o) else on_settled g l again s (feed (place r) s o) (settle g l r))
-        go true e = scan_waits s r again f h (feed (place r) s o) refl (λ t i. next_waits (is_top r.frames) r.now t (sym (ap (waits r) i) ∙ unsettled_waits (place r) s r o (subst NotRefused (sym i) tt) e))
-        go false e = settled_waits s again r f h (settle g l r) (both (settle g l r) (settle_free r.start r.context r.frames r.notes r.now) (settle_same g l r.start r.context r.frames r.notes r.now))
+        go : (w : Bool) → unsettled s r (feed (place r) s o) ≡ w
+            → WaitsBehind (if w then on_scan g l again r (feed (place r) s o) else on_settled g l again s (feed (place r) s o) (settle g l r))
+        go true e = scan_waits s r again f h (feed (place r) s o) refl
+            (λ t i. next_waits (is_top r.frames) r.now t (sym (ap (waits r) i) ∙ unsettled_waits (place r) s r o (subst NotRefused (sym i) tt) e))
+        go false e = settled_waits s again r f h (settle g l r)
+            (both (settle g l r) (settle_free r.start r.context r.frames r.notes r.now) (settle_same g l r.start r.context r.frames r.notes r.now))
 
     takes_waits : (n : ℕ) (m : State) → Fine m.scan → WaitsBehind (takes g l n m o)
     takes_waits zero m h = tt
@@ -338,7 +360,8 @@ module _ (g : Catalog) (l : Limits) where
 
   pub run_waits : (os u : List ℕ) (vs : List Value) (to : ℕ) (m : State) → Stood g l u vs m → Waits m.scan m.reading.now → EndsWaiting (run g l to m os).now
   run_waits [] u vs to m b h = h
-  run_waits (o ∷ os) u vs to m b h = step (λ xs n c i. run_waits os (u ++ o ∷ []) xs (to + 1) n c i) (eats g l m o) (eats_after g l u vs m o b) (takes_waits o 3 m b.fine)
+  run_waits (o ∷ os) u vs to m b h = step (λ xs n c i. run_waits os (u ++ o ∷ []) xs (to + 1) n c i) (eats g l m o) (eats_after g l u vs m o b)
+      (takes_waits o 3 m b.fine)
     where
       Rest : Type 0
       Rest = (xs : List Value) (n : State) → Stood g l (u ++ o ∷ []) xs n → Waits n.scan n.reading.now → EndsWaiting (run g l (to + 1) n os).now
@@ -352,5 +375,6 @@ module _ (g : Catalog) (l : Limits) where
       step : Rest → (x : Effect) → After g l u vs o x → WaitsBehind x → EndsWaiting (run_on to (λ n. eats g l n o) (λ n. run g l (to + 1) n os) x).now
       step rest (uses n) a i = rest vs n a i
       step rest (tells v n) a i = rest (vs ++ v ∷ []) n a i
-      step rest (leaves v n) a i = once rest (vs ++ v ∷ []) (eats g l n o) (takes_after g l u (vs ++ v ∷ []) o 3 n.scan n.reading a.0 a.1 a.2) (takes_waits o 3 n a.2.fine)
+      step rest (leaves v n) a i = once rest (vs ++ v ∷ []) (eats g l n o) (takes_after g l u (vs ++ v ∷ []) o 3 n.scan n.reading a.0 a.1 a.2)
+          (takes_waits o 3 n a.2.fine)
       step rest (fails e) a i = tt

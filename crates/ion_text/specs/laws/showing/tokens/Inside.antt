@@ -25,9 +25,11 @@ PastIn n [] = ⊥
 PastIn n (t ∷ ts) = (n < t.lexeme.end) ⊎ PastIn n ts
 
 -- none does where the last one doesn't
-pub never_past : (n : ℕ) (ts : List Placed) (colon : Bool) (before : ℕ) (octets : List ℕ) (after : Bool) (end : ℕ) (rest : List ℕ) → LexesTo colon before octets ts after end rest → end ≤ n → PastIn n ts → ⊥
+pub never_past : (n : ℕ) (ts : List Placed) (colon : Bool) (before : ℕ) (octets : List ℕ) (after : Bool) (end : ℕ) (rest : List ℕ)
+    → LexesTo colon before octets ts after end rest → end ≤ n → PastIn n ts → ⊥
 never_past n [] colon before octets after end rest h k p = p
-never_past n (t ∷ ts) colon before octets after end rest (q, b, h) k (inl p) = let x = lexed_front ts (colon_behind t) t.lexeme.end q after end rest h in absurd (omega (arith, x.2, k, p))
+never_past n (t ∷ ts) colon before octets after end rest (q, b, h) k (inl p) = let x = lexed_front ts (colon_behind t) t.lexeme.end q after end rest h in
+    absurd (omega (arith, x.2, k, p))
 never_past n (t ∷ ts) colon before octets after end rest (q, b, h) k (inr p) = never_past n ts (colon_behind t) t.lexeme.end q after end rest h k p
 
 -- what a run comes to
@@ -49,16 +51,19 @@ run_fine p (o ∷ os) s h = go (feed p s o) (feed_fine p s o h) (λ t k. run_fin
 
 module _ (R : Known → List ℕ → Type 0) (g : Catalog) (l : Limits) (n : ℕ) where
   -- Where a container is open, what closes it ends with an octet that is used.
-  pub closes_past : (s : Known) (octets : List ℕ) (ts : List Placed) → Found' R s octets ts → Fine s → Operators ts → n ≤ s.used → n < s.used + length octets → (r : Reading) (all : List Value) → is_top r.frames ≡ false → Going g l r ts all → PastIn n ts
+  pub closes_past : (s : Known) (octets : List ℕ) (ts : List Placed) → Found' R s octets ts → Fine s → Operators ts → n ≤ s.used → n < s.used + length octets
+      → (r : Reading) (all : List Value) → is_top r.frames ≡ false → Going g l r ts all → PastIn n ts
   closes_past _ _ _ (Nothing s octets h) f ops a b r all top d = absurd (inside_end g l r all top d)
-  closes_past _ _ _ (Last s octets t s' ran at) f ops a b r all top d = go (inside_token g l r t (going_said g l r t [] all d).1 [] all top d (going_said g l r t [] all d).2)
+  closes_past _ _ _ (Last s octets t s' ran at) f ops a b r all top d =
+      go (inside_token g l r t (going_said g l r t [] all d).1 [] all top d (going_said g l r t [] all d).2)
     where
       go : InsideNext g l r.start t (going_said g l r t [] all d).1 [] → PastIn n (t ∷ [])
       go (stays m rest k i x) = absurd (inside_end g l m rest k x)
       go (closed k i) = let x = end_spans s' (end_of t.place s'.mode) t.lexeme at in inl (omega (arith, x.1, next_used t.place octets s s' (sym ran), b))
   closes_past _ _ _ (Gives s octets t ts s' ran rest) f ops a b r all top d =
       go (inside_token g l r t (going_said g l r t ts all d).1 ts all top d (going_said g l r t ts all d).2)
-      (λ m others k x. closes_past s' (drop (s'.used - s.used) octets) ts rest fine.0 ops.1 (omega (arith, a, used.0)) (omega (arith, b, used.0, used.1, length-drop (s'.used - s.used) octets)) m others k x)
+      (λ m others k x. closes_past s' (drop (s'.used - s.used) octets) ts rest fine.0 ops.1 (omega (arith, a, used.0))
+      (omega (arith, b, used.0, used.1, length-drop (s'.used - s.used) octets)) m others k x)
     where
       fine : Fine s' × (t.lexeme.end ≡ s'.used)
       fine = subst RunFine ran (run_fine t.place octets s f)
@@ -66,12 +71,14 @@ module _ (R : Known → List ℕ → Type 0) (g : Catalog) (l : Limits) (n : ℕ
       used : (s.used < s'.used) × (s'.used ≤ s.used + length octets)
       used = given_used t.place octets s s' t.lexeme (sym ran)
 
-      go : InsideNext g l r.start t (going_said g l r t ts all d).1 ts → ((m : Reading) (others : List Value) → is_top m.frames ≡ false → Going g l m ts others → PastIn n ts) → PastIn n (t ∷ ts)
+      go : InsideNext g l r.start t (going_said g l r t ts all d).1 ts
+          → ((m : Reading) (others : List Value) → is_top m.frames ≡ false → Going g l m ts others → PastIn n ts) → PastIn n (t ∷ ts)
       go (stays m others k i x) more = inr (more m others k x)
       go (closed k i) more = inl (omega (arith, fine.1, used.0, a))
   closes_past _ _ _ (Leaves s octets t ts s' ran rest) f ops a b r all top d =
       go (inside_token g l r t (going_said g l r t ts all d).1 ts all top d (going_said g l r t ts all d).2)
-      (λ m others k x. closes_past s' (drop (s'.used - s.used) octets) ts rest fine.0 ops.1 (omega (arith, a, used.0)) (omega (arith, b, used.0, used.1, length-drop (s'.used - s.used) octets)) m others k x)
+      (λ m others k x. closes_past s' (drop (s'.used - s.used) octets) ts rest fine.0 ops.1 (omega (arith, a, used.0))
+      (omega (arith, b, used.0, used.1, length-drop (s'.used - s.used) octets)) m others k x)
     where
       fine : Fine s' × (is_close t.lexeme.kind ≡ false)
       fine = subst RunFine ran (run_fine t.place octets s f)
@@ -79,9 +86,12 @@ module _ (R : Known → List ℕ → Type 0) (g : Catalog) (l : Limits) (n : ℕ
       used : (s.used ≤ s'.used) × (s'.used < s.used + length octets)
       used = left_used t.place octets s s' t.lexeme (sym ran)
 
-      go : InsideNext g l r.start t (going_said g l r t ts all d).1 ts → ((m : Reading) (others : List Value) → is_top m.frames ≡ false → Going g l m ts others → PastIn n ts) → PastIn n (t ∷ ts)
+      go : InsideNext g l r.start t (going_said g l r t ts all d).1 ts
+          → ((m : Reading) (others : List Value) → is_top m.frames ≡ false → Going g l m ts others → PastIn n ts) → PastIn n (t ∷ ts)
       go (stays m others k i x) more = inr (more m others k x)
       go (closed k i) more =
-          let c = closes_kind t.lexeme.kind t.lexeme.octets (going_said g l r t ts all d).1 i (said_body t.lexeme.kind t.lexeme.octets (going_said g l r t ts all d).1 (going_said g l r t ts all d).2) in
+          let c = closes_kind t.lexeme.kind t.lexeme.octets (going_said g l r t ts all d).1 i
+          (said_body t.lexeme.kind t.lexeme.octets (going_said g l r t ts all d).1 (going_said g l r t ts all d).2) in
           absurd (let never : true ≡ false = sym c ∙ fine.1 in cc)
-  closes_past _ _ _ (Unclosed s octets t ts s' colon letters bare ran at first operator rest) f ops a b r all top d = absurd (unclosed_never R g l t ts letters colon t.lexeme.end s'.used r all operator rest ops d)
+  closes_past _ _ _ (Unclosed s octets t ts s' colon letters bare ran at first operator rest) f ops a b r all top d =
+      absurd (unclosed_never R g l t ts letters colon t.lexeme.end s'.used r all operator rest ops d)

@@ -25,7 +25,8 @@ use Rattle.ion_text.specs.laws.showing.tokens.Cuts.{lexed_front, parted}
 use Rattle.ion_text.specs.laws.showing.tokens.Compare.{Found', TopFirst, Compared, compare, lexes_once, begins_after}
 
 -- tokens at the front of octets, whatever is left
-pub begins_lexed : (ts : List Placed) (colon : Bool) (before : ℕ) (octets : List ℕ) (after : Bool) (end : ℕ) (rest : List ℕ) → LexesTo colon before octets ts after end rest → BeginsLexed colon before octets ts
+pub begins_lexed : (ts : List Placed) (colon : Bool) (before : ℕ) (octets : List ℕ) (after : Bool) (end : ℕ) (rest : List ℕ)
+    → LexesTo colon before octets ts after end rest → BeginsLexed colon before octets ts
 begins_lexed [] colon before octets after end rest h = tt
 begins_lexed (t ∷ ts) colon before octets after end rest (q, b, h) = (q, b, begins_lexed ts (colon_behind t) t.lexeme.end q after end rest h)
 
@@ -34,7 +35,8 @@ some_token p colon [] r k kept h = absurd (some_octet p colon r k kept h)
 some_token p colon (o ∷ os) r k kept h = omega arith
 
 -- an operator stands in an s-expression
-pub operator_inside : (p : Place) (colon : Bool) (w r : List ℕ) (k : TokenKind) (kept : List ℕ) → IsLexeme p colon w r k kept → is_sexp p ≡ false → k ≡ kinds.Operator → ⊥
+pub operator_inside : (p : Place) (colon : Bool) (w r : List ℕ) (k : TokenKind) (kept : List ℕ) → IsLexeme p colon w r k kept → is_sexp p ≡ false
+    → k ≡ kinds.Operator → ⊥
 operator_inside p colon w r k kept h n e = let i = subst (λ x. IsLexeme p colon w r x kept) e h in let never : true ≡ false = sym i.1 ∙ n in cc
 
 values_in : Walk → List Value
@@ -58,10 +60,12 @@ module _ (g : Catalog) (l : Limits) where
   module _ (front following : List ℕ) where
     -- the tokens of whole pieces go on to an end
     pub whole_going : (s : List Value) (w : Whole g l front following s) → Going g l (fresh system_slots) w.tokens s
-    whole_going s w = let r = pieces_read g l w.tokens s w.context w.pieces in record { vs = r.given; later = r.later; n = r.now; c = w.context; read = r.read; ends = r.settles; whole = r.all }
+    whole_going s w = let r = pieces_read g l w.tokens s w.context w.pieces in
+        record { vs = r.given; later = r.later; n = r.now; c = w.context; read = r.read; ends = r.settles; whole = r.all }
 
     pub whole_found : (s : List Value) (w : Whole g l front following s) → Found' (λ s octets. Unit {0}) initial (front ++ following) w.tokens
-    whole_found s w = begins_completes w.tokens false 0 (front ++ following) [] (front ++ following) initial (begins_lexed w.tokens false 0 (front ++ following) w.colon w.end (w.blank ++ following) w.lexed) refl (λ p. refl)
+    whole_found s w = begins_completes w.tokens false 0 (front ++ following) [] (front ++ following) initial
+        (begins_lexed w.tokens false 0 (front ++ following) w.colon w.end (w.blank ++ following) w.lexed) refl (λ p. refl)
 
     pub whole_operators : (s : List Value) (w : Whole g l front following s) → Operators w.tokens
     whole_operators s w = lexes_operators (λ c b o. (c ≡ w.colon) × (b ≡ w.end) × (o ≡ w.blank ++ following)) w.tokens false 0 (front ++ following) w.lexed
@@ -72,20 +76,24 @@ module _ (g : Catalog) (l : Limits) where
         omega (arith, x.2, ap length x.1, length-append front following, length-append x.0 (w.blank ++ following), length-append w.blank following)
 
     -- a front has no more tokens
-    no_more : (s t : List Value) (a : Whole g l front following s) (b : Whole g l front following t) (more : List Placed) → b.tokens ≡ a.tokens ++ more → TopFirst more → a.tokens ≡ b.tokens
+    no_more : (s t : List Value) (a : Whole g l front following s) (b : Whole g l front following t) (more : List Placed) → b.tokens ≡ a.tokens ++ more
+        → TopFirst more → a.tokens ≡ b.tokens
     no_more s t a b [] e h = sym (e ∙ append-nil a.tokens)
     no_more s t a b (u ∷ us) e h =
-        let x = parted a.tokens (u ∷ us) false 0 (front ++ following) b.colon b.end (b.blank ++ following) (subst (λ z. LexesTo false 0 (front ++ following) z b.colon b.end (b.blank ++ following)) e b.lexed) in
+        let x = parted a.tokens (u ∷ us) false 0 (front ++ following) b.colon b.end (b.blank ++ following)
+        (subst (λ z. LexesTo false 0 (front ++ following) z b.colon b.end (b.blank ++ following)) e b.lexed) in
         let same = lexes_once a.tokens false 0 (front ++ following) x.flag a.colon x.mid a.end x.left (a.blank ++ following) x.first a.lexed in
         let c = x.second.1 in
-        let starts = begins_after x.flag x.mid x.left u (x.second).0 a.blank following c (operator_inside u.place x.flag c.token (x.second).0 u.lexeme.kind u.lexeme.octets c.is (ap is_sexp h)) a.is_blank same.2 in
+        let starts = begins_after x.flag x.mid x.left u (x.second).0 a.blank following c
+        (operator_inside u.place x.flag c.token (x.second).0 u.lexeme.kind u.lexeme.octets c.is (ap is_sexp h)) a.is_blank same.2 in
         let some = some_token u.place x.flag c.token (x.second).0 u.lexeme.kind u.lexeme.octets c.is in
         let rest = lexed_front us (colon_behind u) u.lexeme.end (x.second).0 b.colon b.end (b.blank ++ following) (x.second).2 in
         absurd (omega (arith, starts, some, rest.2, same.1, whole_ends s a, whole_ends t b, c.start, c.end))
 
     -- Whole pieces have one list of values.
     pub one_whole : (s t : List Value) → Whole g l front following s → Whole g l front following t → s ≡ t
-    one_whole s t a b = by (compare (λ s octets. Unit {0}) g l initial (front ++ following) a.tokens (whole_found s a) b.tokens (whole_found t b) (whole_operators s a) (whole_operators t b) (fresh system_slots) s t (whole_going s a) (whole_going t b))
+    one_whole s t a b = by (compare (λ s octets. Unit {0}) g l initial (front ++ following) a.tokens (whole_found s a) b.tokens (whole_found t b)
+        (whole_operators s a) (whole_operators t b) (fresh system_slots) s t (whole_going s a) (whole_going t b))
       where
         same : a.tokens ≡ b.tokens → s ≡ t
         same e = going_once (fresh system_slots) b.tokens s t (subst (λ z. Going g l (fresh system_slots) z s) e (whole_going s a)) (whole_going t b)

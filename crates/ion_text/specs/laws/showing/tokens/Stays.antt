@@ -45,13 +45,15 @@ module _ (g : Catalog) (l : Limits) where
   received (frames.Fields ss ms ∷ fs) r = absurd r
 
   -- the item begins at its first token
-  starts_join : (c : List Slot) (fs : List Frame) (front us : List Placed) → Opened c fs front true → starts g l (starts g l 0 [] front) fs us ≡ starts g l 0 [] (front ++ us)
+  starts_join : (c : List Slot) (fs : List Frame) (front us : List Placed) → Opened c fs front true → starts g l (starts g l 0 [] front) fs us
+      ≡ starts g l 0 [] (front ++ us)
   starts_join c fs front [] o = ap (starts g l 0 []) (sym (append-nil front))
   starts_join c [] front (u ∷ us) o = ap (λ x. starts g l 0 [] (x ++ u ∷ us)) (sym o)
   starts_join c (f ∷ fs) [] (u ∷ us) o = absurd (let e = opened_some c (f ∷ fs) true o in cc)
   starts_join c (f ∷ fs) (t ∷ ts) (u ∷ us) o = refl
 
-  module _ (c : List Slot) (fs : List Frame) (front : List Placed) (o : Opened c fs front true) (d : Reached g l c (fresh c) front (at (starts g l 0 [] front) c fs [] nows.Ready)) where
+  module _ (c : List Slot) (fs : List Frame) (front : List Placed) (o : Opened c fs front true)
+      (d : Reached g l c (fresh c) front (at (starts g l 0 [] front) c fs [] nows.Ready)) where
     abbrev p : Place
     p = value_place fs
 
@@ -64,7 +66,8 @@ module _ (g : Catalog) (l : Limits) where
           → reads g l (fresh c) (front ++ (notes ++ us)) ≡ reads g l (at (starts g l start fs notes) c fs ss nows.Ready) us
       noted_behind us b e =
           item_behind g l c p (fresh c) (at start c fs [] nows.Ready) front (notes ++ us) refl refl d b e
-          ∙ read_behind g l (at start c fs [] nows.Ready) (at (starts g l start fs notes) c fs ss nows.Ready) notes us (notes_read g l c p start fs notes ss refl a)
+          ∙ read_behind g l (at start c fs [] nows.Ready) (at (starts g l start fs notes) c fs ss nows.Ready) notes us
+          (notes_read g l c p start fs notes ss refl a)
 
       begun_there : (t : Placed) (us : List Placed) → begun_at (starts g l start fs notes) t.lexeme.start fs ss ≡ starts g l 0 [] (front ++ (notes ++ t ∷ us))
       begun_there t us = begun_behind g l c p start fs notes ss t us a ∙ starts_join c fs front (notes ++ t ∷ us) o
@@ -77,10 +80,12 @@ module _ (g : Catalog) (l : Limits) where
           (both_not (ends_long front) (begins_long (notes ++ t ∷ us)) (notes_not_long c p notes us ss t a (not_long p t said h k)))
 
   -- what is reached by the last tokens is reached by all
-  reached_behind : (c : List Slot) (r m n : Reading) (ts us : List Placed) → reads g l r (ts ++ us) ≡ reads g l m us → Reached g l c m us n → Reached g l c r (ts ++ us) n
+  reached_behind : (c : List Slot) (r m n : Reading) (ts us : List Placed) → reads g l r (ts ++ us) ≡ reads g l m us → Reached g l c m us n
+      → Reached g l c r (ts ++ us) n
   reached_behind c r m n ts us e d = record { now = d.now; read = e ∙ d.read; settles = d.settles; shuts = λ t k. longer t (d.shuts t k) }
     where
-      longer : (t : Token) → (t.said ≡ Mark' marks.Colons) ⊎ ((ends_long us ≡ true) × (w : List ℕ) × (t.said ≡ Long w)) → (t.said ≡ Mark' marks.Colons) ⊎ ((ends_long (ts ++ us) ≡ true) × (w : List ℕ) × (t.said ≡ Long w))
+      longer : (t : Token) → (t.said ≡ Mark' marks.Colons) ⊎ ((ends_long us ≡ true) × (w : List ℕ) × (t.said ≡ Long w)) → (t.said ≡ Mark' marks.Colons)
+          ⊎ ((ends_long (ts ++ us) ≡ true) × (w : List ℕ) × (t.said ≡ Long w))
       longer t (inl h) = inl h
       longer t (inr (h, w, k)) = inr (ends_behind ts us h, w, k)
 
@@ -88,18 +93,22 @@ module _ (g : Catalog) (l : Limits) where
   regroup front notes body t = ap (λ x. front ++ x) (sym (append_assoc notes (t ∷ []) body)) ∙ sym (append_assoc front (notes ++ t ∷ []) body)
 
   -- where the innermost container's tokens lead, so do all
-  into : (c : List Slot) (m n : Reading) (front notes body : List Placed) (t : Placed) → reads g l (fresh c) (front ++ (notes ++ t ∷ body)) ≡ reads g l m body → Reached g l c m body n → Reached g l c (fresh c) (front ++ (notes ++ t ∷ body)) n
+  into : (c : List Slot) (m n : Reading) (front notes body : List Placed) (t : Placed) → reads g l (fresh c) (front ++ (notes ++ t ∷ body)) ≡ reads g l m body
+      → Reached g l c m body n → Reached g l c (fresh c) (front ++ (notes ++ t ∷ body)) n
   into c m n front notes body t e d =
-      subst (λ x. Reached g l c (fresh c) x n) (sym (regroup front notes body t)) (reached_behind c (fresh c) m n (front ++ (notes ++ t ∷ [])) body (ap (reads g l (fresh c)) (sym (regroup front notes body t)) ∙ e) d)
+      subst (λ x. Reached g l c (fresh c) x n) (sym (regroup front notes body t))
+      (reached_behind c (fresh c) m n (front ++ (notes ++ t ∷ [])) body (ap (reads g l (fresh c)) (sym (regroup front notes body t)) ∙ e) d)
 
   abbrev Outer : List Slot → List Frame → List Placed → Type 0
   Outer c fs front = Reached g l c (fresh c) front (at (starts g l 0 [] front) c fs [] nows.Ready)
 
-  list_read : (c : List Slot) (ss : Symbols) (vs : List Value) (fs : List Frame) (ts : List Placed) (more : Bool) → Deep l.depth (frames.List ss vs ∷ fs) → (o : Opened c (frames.List ss vs ∷ fs) ts more) → Outer c fs o.front
+  list_read : (c : List Slot) (ss : Symbols) (vs : List Value) (fs : List Frame) (ts : List Placed) (more : Bool) → Deep l.depth (frames.List ss vs ∷ fs)
+      → (o : Opened c (frames.List ss vs ∷ fs) ts more) → Outer c fs o.front
       → Reached g l c (fresh c) ts (at (starts g l 0 [] ts) c (frames.List ss vs ∷ fs) [] (target (frames.List ss vs ∷ fs) more))
   list_read c ss vs fs ts more deep o d =
       subst (λ x. Reached g l c (fresh c) x (at (starts g l 0 [] x) c (frames.List ss vs ∷ fs) [] (target (frames.List ss vs ∷ fs) more))) (sym o.whole)
-      (into c (at begin c (frames.List ss [] ∷ fs) [] nows.Ready) (at begin c (frames.List ss vs ∷ fs) [] (target (frames.List ss vs ∷ fs) more)) o.front o.notes o.body o.open' there
+      (into c (at begin c (frames.List ss [] ∷ fs) [] nows.Ready) (at begin c (frames.List ss vs ∷ fs) [] (target (frames.List ss vs ∷ fs) more)) o.front
+      o.notes o.body o.open' there
       (inside more (elements_read g l c begin fs ss o.body vs more o.items (deep.0))))
     where
       begin : ℕ
@@ -109,17 +118,23 @@ module _ (g : Catalog) (l : Limits) where
       there =
           let k = deep.0 in
           token_behind c fs o.front o.outer d o.notes ss o.noted o.open' (Mark' marks.ListOpen) o.body o.opens (λ e. cc) (λ w e. cc)
-          ∙ opened g l c (value_place fs) (starts g l (starts g l 0 [] o.front) fs o.notes) begin fs ss o.open' o.body refl (omega (arith, k)) o.opens (begun_there c fs o.front o.outer d o.notes ss o.noted o.open' o.body)
+          ∙ opened g l c (value_place fs) (starts g l (starts g l 0 [] o.front) fs o.notes) begin fs ss o.open' o.body refl (omega (arith, k)) o.opens
+          (begun_there c fs o.front o.outer d o.notes ss o.noted o.open' o.body)
 
-      inside : (more : Bool) → InList g l c begin fs ss o.body vs more → Reached g l c (at begin c (frames.List ss [] ∷ fs) [] nows.Ready) o.body (at begin c (frames.List ss vs ∷ fs) [] (target (frames.List ss vs ∷ fs) more))
-      inside true h = ready_reached g l c (at begin c (frames.List ss [] ∷ fs) [] nows.Ready) (at begin c (frames.List ss vs ∷ fs) [] nows.Ready) o.body refl (λ t. refl) h
+      inside : (more : Bool) → InList g l c begin fs ss o.body vs more
+          → Reached g l c (at begin c (frames.List ss [] ∷ fs) [] nows.Ready) o.body
+          (at begin c (frames.List ss vs ∷ fs) [] (target (frames.List ss vs ∷ fs) more))
+      inside true h = ready_reached g l c (at begin c (frames.List ss [] ∷ fs) [] nows.Ready) (at begin c (frames.List ss vs ∷ fs) [] nows.Ready) o.body refl
+          (λ t. refl) h
       inside false h = h
 
-  sexp_read : (c : List Slot) (ss : Symbols) (vs : List Value) (fs : List Frame) (ts : List Placed) (more : Bool) → Deep l.depth (frames.Sexp ss vs ∷ fs) → (o : Opened c (frames.Sexp ss vs ∷ fs) ts more) → Outer c fs o.front
+  sexp_read : (c : List Slot) (ss : Symbols) (vs : List Value) (fs : List Frame) (ts : List Placed) (more : Bool) → Deep l.depth (frames.Sexp ss vs ∷ fs)
+      → (o : Opened c (frames.Sexp ss vs ∷ fs) ts more) → Outer c fs o.front
       → Reached g l c (fresh c) ts (at (starts g l 0 [] ts) c (frames.Sexp ss vs ∷ fs) [] nows.Ready)
   sexp_read c ss vs fs ts more deep o d =
       subst (λ x. Reached g l c (fresh c) x (at (starts g l 0 [] x) c (frames.Sexp ss vs ∷ fs) [] nows.Ready)) (sym o.whole)
-      (into c (at begin c (frames.Sexp ss [] ∷ fs) [] nows.Ready) (at begin c (frames.Sexp ss vs ∷ fs) [] nows.Ready) o.front o.notes o.body o.open' there (row_read g l c begin fs ss o.body vs o.items (deep.0)))
+      (into c (at begin c (frames.Sexp ss [] ∷ fs) [] nows.Ready) (at begin c (frames.Sexp ss vs ∷ fs) [] nows.Ready) o.front o.notes o.body o.open' there
+      (row_read g l c begin fs ss o.body vs o.items (deep.0)))
     where
       begin : ℕ
       begin = starts g l 0 [] (o.front ++ (o.notes ++ o.open' ∷ o.body))
@@ -128,67 +143,91 @@ module _ (g : Catalog) (l : Limits) where
       there =
           let k = deep.0 in
           token_behind c fs o.front o.outer d o.notes ss o.noted o.open' (Mark' marks.SexpOpen) o.body o.opens (λ e. cc) (λ w e. cc)
-          ∙ opened_sexp g l c (value_place fs) (starts g l (starts g l 0 [] o.front) fs o.notes) begin fs ss o.open' o.body refl (omega (arith, k)) o.opens (begun_there c fs o.front o.outer d o.notes ss o.noted o.open' o.body)
+          ∙ opened_sexp g l c (value_place fs) (starts g l (starts g l 0 [] o.front) fs o.notes) begin fs ss o.open' o.body refl (omega (arith, k)) o.opens
+          (begun_there c fs o.front o.outer d o.notes ss o.noted o.open' o.body)
 
   -- behind the open brace of a struct
-  struct_there : (c : List Slot) (ss : Symbols) (ms : List Field) (fs : List Frame) (front notes us : List Placed) (t : Placed) → Opened c fs front true → field_depths ms + suc (length fs) ≤ l.depth → Outer c fs front → Annotations c (value_place fs) notes ss → Says (value_place fs) t (Mark' marks.FieldsOpen)
-      → reads g l (fresh c) (front ++ (notes ++ t ∷ us)) ≡ reads g l (at (starts g l 0 [] (front ++ (notes ++ t ∷ us))) c (frames.Fields ss [] ∷ fs) [] nows.Name) us
+  struct_there : (c : List Slot) (ss : Symbols) (ms : List Field) (fs : List Frame) (front notes us : List Placed) (t : Placed) → Opened c fs front true
+      → field_depths ms + suc (length fs) ≤ l.depth → Outer c fs front → Annotations c (value_place fs) notes ss
+      → Says (value_place fs) t (Mark' marks.FieldsOpen)
+      → reads g l (fresh c) (front ++ (notes ++ t ∷ us)) ≡ reads g l
+      (at (starts g l 0 [] (front ++ (notes ++ t ∷ us))) c (frames.Fields ss [] ∷ fs) [] nows.Name) us
   struct_there c ss ms fs front notes us t o k d a i =
       token_behind c fs front o d notes ss a t (Mark' marks.FieldsOpen) us i (λ e. cc) (λ w e. cc)
-      ∙ opened_struct g l c (value_place fs) (starts g l (starts g l 0 [] front) fs notes) (starts g l 0 [] (front ++ (notes ++ t ∷ us))) fs ss t us refl (omega (arith, k)) i (begun_there c fs front o d notes ss a t us)
+      ∙ opened_struct g l c (value_place fs) (starts g l (starts g l 0 [] front) fs notes) (starts g l 0 [] (front ++ (notes ++ t ∷ us))) fs ss t us refl
+      (omega (arith, k)) i (begun_there c fs front o d notes ss a t us)
 
-  fields_read : (c : List Slot) (ss : Symbols) (ms : List Field) (fs : List Frame) (ts : List Placed) (more : Bool) → Deep l.depth (frames.Fields ss ms ∷ fs) → (o : Opened c (frames.Fields ss ms ∷ fs) ts more) → Outer c fs o.front
+  fields_read : (c : List Slot) (ss : Symbols) (ms : List Field) (fs : List Frame) (ts : List Placed) (more : Bool) → Deep l.depth (frames.Fields ss ms ∷ fs)
+      → (o : Opened c (frames.Fields ss ms ∷ fs) ts more) → Outer c fs o.front
       → Reached g l c (fresh c) ts (at (starts g l 0 [] ts) c (frames.Fields ss ms ∷ fs) [] (target (frames.Fields ss ms ∷ fs) more))
   fields_read c ss ms fs ts more deep o d =
       subst (λ x. Reached g l c (fresh c) x (at (starts g l 0 [] x) c (frames.Fields ss ms ∷ fs) [] (target (frames.Fields ss ms ∷ fs) more))) (sym o.whole)
-      (into c (at begin c (frames.Fields ss [] ∷ fs) [] nows.Name) (at begin c (frames.Fields ss ms ∷ fs) [] (target (frames.Fields ss ms ∷ fs) more)) o.front o.notes o.body o.open'
+      (into c (at begin c (frames.Fields ss [] ∷ fs) [] nows.Name) (at begin c (frames.Fields ss ms ∷ fs) [] (target (frames.Fields ss ms ∷ fs) more)) o.front
+      o.notes o.body o.open'
       (struct_there c ss ms fs o.front o.notes o.body o.open' o.outer (deep.0) d o.noted o.opens)
       (inside more (members_read g l c begin fs ss o.body ms more o.items (deep.0))))
     where
       begin : ℕ
       begin = starts g l 0 [] (o.front ++ (o.notes ++ o.open' ∷ o.body))
 
-      inside : (more : Bool) → InStruct g l c begin fs ss o.body ms more → Reached g l c (at begin c (frames.Fields ss [] ∷ fs) [] nows.Name) o.body (at begin c (frames.Fields ss ms ∷ fs) [] (target (frames.Fields ss ms ∷ fs) more))
-      inside true h = ready_reached g l c (at begin c (frames.Fields ss [] ∷ fs) [] nows.Name) (at begin c (frames.Fields ss ms ∷ fs) [] nows.Name) o.body refl (λ t. refl) h
+      inside : (more : Bool) → InStruct g l c begin fs ss o.body ms more
+          → Reached g l c (at begin c (frames.Fields ss [] ∷ fs) [] nows.Name) o.body
+          (at begin c (frames.Fields ss ms ∷ fs) [] (target (frames.Fields ss ms ∷ fs) more))
+      inside true h = ready_reached g l c (at begin c (frames.Fields ss [] ∷ fs) [] nows.Name) (at begin c (frames.Fields ss ms ∷ fs) [] nows.Name) o.body refl
+          (λ t. refl) h
       inside false h = h
 
-  named_read : (c : List Slot) (ss : Symbols) (ms : List Field) (s : Option (List ℕ)) (fs : List Frame) (ts : List Placed) (more : Bool) → Deep l.depth (frames.Named ss ms s ∷ fs) → (o : Opened c (frames.Named ss ms s ∷ fs) ts more) → Outer c fs o.front
+  named_read : (c : List Slot) (ss : Symbols) (ms : List Field) (s : Option (List ℕ)) (fs : List Frame) (ts : List Placed) (more : Bool)
+      → Deep l.depth (frames.Named ss ms s ∷ fs) → (o : Opened c (frames.Named ss ms s ∷ fs) ts more) → Outer c fs o.front
       → Reached g l c (fresh c) ts (at (starts g l 0 [] ts) c (frames.Named ss ms s ∷ fs) [] nows.Ready)
   named_read c ss ms s fs ts more deep o d =
       subst (λ x. Reached g l c (fresh c) x (at (starts g l 0 [] x) c (frames.Named ss ms s ∷ fs) [] nows.Ready)) (sym o.whole)
-      (ready_reached g l c (fresh c) (at begin c (frames.Named ss ms s ∷ fs) [] nows.Ready) (o.front ++ (o.notes ++ o.open' ∷ (o.body ++ (o.name ++ o.colon ∷ [])))) refl (λ t. refl)
+      (ready_reached g l c (fresh c) (at begin c (frames.Named ss ms s ∷ fs) [] nows.Ready)
+      (o.front ++ (o.notes ++ o.open' ∷ (o.body ++ (o.name ++ o.colon ∷ [])))) refl (λ t. refl)
       (struct_there c ss ms fs o.front o.notes (o.body ++ (o.name ++ o.colon ∷ [])) o.open' o.outer (deep.0) d o.noted o.opens
-      ∙ (read_behind g l (at begin c (frames.Fields ss [] ∷ fs) [] nows.Name) (at begin c (frames.Fields ss ms ∷ fs) [] nows.Name) o.body (o.name ++ o.colon ∷ []) (members_read g l c begin fs ss o.body ms true o.items (deep.0))
+      ∙ (read_behind g l (at begin c (frames.Fields ss [] ∷ fs) [] nows.Name) (at begin c (frames.Fields ss ms ∷ fs) [] nows.Name) o.body
+      (o.name ++ o.colon ∷ []) (members_read g l c begin fs ss o.body ms true o.items (deep.0))
       ∙ name_read g l c begin fs ss ms o.name s o.colon [] o.named o.colons)))
     where
       begin : ℕ
       begin = starts g l 0 [] (o.front ++ (o.notes ++ o.open' ∷ (o.body ++ (o.name ++ o.colon ∷ []))))
 
-  outer : (c : List Slot) (fs : List Frame) (front : List Placed) → Receives fs → Reached g l c (fresh c) front (at (starts g l 0 [] front) c fs [] (target fs true)) → Outer c fs front
+  outer : (c : List Slot) (fs : List Frame) (front : List Placed) → Receives fs
+      → Reached g l c (fresh c) front (at (starts g l 0 [] front) c fs [] (target fs true)) → Outer c fs front
   outer c fs front r = subst (λ n. Reached g l c (fresh c) front (at (starts g l 0 [] front) c fs [] n)) (received fs r)
 
   -- The tokens up to what has come of the innermost container are read.
-  pub opened_read : (c : List Slot) (fs : List Frame) (ts : List Placed) (more : Bool) → Deep l.depth fs → Opened c fs ts more → Reached g l c (fresh c) ts (at (starts g l 0 [] ts) c fs [] (target fs more))
-  opened_read c [] ts more deep o = subst (λ x. Reached g l c (fresh c) x (at (starts g l 0 [] x) c [] [] nows.Ready)) (sym o) (ready_reached g l c (fresh c) (fresh c) [] refl (λ t. refl) refl)
-  opened_read c (frames.List ss vs ∷ fs) ts more deep o = list_read c ss vs fs ts more deep o (outer c fs o.front o.receives (opened_read c fs o.front true deep.1 o.outer))
-  opened_read c (frames.Sexp ss vs ∷ fs) ts more deep o = sexp_read c ss vs fs ts more deep o (outer c fs o.front o.receives (opened_read c fs o.front true deep.1 o.outer))
-  opened_read c (frames.Fields ss ms ∷ fs) ts more deep o = fields_read c ss ms fs ts more deep o (outer c fs o.front o.receives (opened_read c fs o.front true deep.1 o.outer))
-  opened_read c (frames.Named ss ms s ∷ fs) ts more deep o = named_read c ss ms s fs ts more deep o (outer c fs o.front o.receives (opened_read c fs o.front true deep.1 o.outer))
+  pub opened_read : (c : List Slot) (fs : List Frame) (ts : List Placed) (more : Bool) → Deep l.depth fs → Opened c fs ts more
+      → Reached g l c (fresh c) ts (at (starts g l 0 [] ts) c fs [] (target fs more))
+  opened_read c [] ts more deep o = subst (λ x. Reached g l c (fresh c) x (at (starts g l 0 [] x) c [] [] nows.Ready)) (sym o)
+      (ready_reached g l c (fresh c) (fresh c) [] refl (λ t. refl) refl)
+  opened_read c (frames.List ss vs ∷ fs) ts more deep o = list_read c ss vs fs ts more deep o
+      (outer c fs o.front o.receives (opened_read c fs o.front true deep.1 o.outer))
+  opened_read c (frames.Sexp ss vs ∷ fs) ts more deep o = sexp_read c ss vs fs ts more deep o
+      (outer c fs o.front o.receives (opened_read c fs o.front true deep.1 o.outer))
+  opened_read c (frames.Fields ss ms ∷ fs) ts more deep o =
+      fields_read c ss ms fs ts more deep o (outer c fs o.front o.receives (opened_read c fs o.front true deep.1 o.outer))
+  opened_read c (frames.Named ss ms s ∷ fs) ts more deep o =
+      named_read c ss ms s fs ts more deep o (outer c fs o.front o.receives (opened_read c fs o.front true deep.1 o.outer))
 
   -- where the reader of tokens is, or what it settles to, in this place
   pub record Arrived (c : List Slot) (fs : List Frame) (ss : Symbols) (now : Now) (ts : List Placed) : Type 0 where
     pub r : Reading
     pub read : reads g l (fresh c) ts ≡ done r
     pub here : place r ≡ place_in fs now
-    pub is : ((n : Reading) × (settle g l r ≡ goes n) × (is_fresh n ≡ false) × (n.start ≡ starts g l 0 [] ts)) ⊎ (IsWaiting g l now × IsWaiting g l r.now × (r.start ≡ starts g l 0 [] ts))
+    pub is : ((n : Reading) × (settle g l r ≡ goes n) × (is_fresh n ≡ false) × (n.start ≡ starts g l 0 [] ts))
+        ⊎ (IsWaiting g l now × IsWaiting g l r.now × (r.start ≡ starts g l 0 [] ts))
     -- where a value may come it settles to that, and what waits waits so
     pub ready : now ≡ nows.Ready → settle g l r ≡ goes (at (starts g l 0 [] ts) c fs ss nows.Ready)
     pub waited : IsWaiting g l now → EndsAt now (end_of 0 ts) → r ≡ at (starts g l 0 [] ts) c fs ss now
 
   settled_place : (r n : Reading) → settle g l r ≡ goes n → place r ≡ place n
-  settled_place r n e = sym (subst (Leading g l (λ m. (place m ≡ place r) × (is_top m.frames ≡ is_top r.frames))) e (settle_same g l r.start r.context r.frames r.notes r.now)).0
+  settled_place r n e = sym (subst (Leading g l (λ m. (place m ≡ place r) × (is_top m.frames ≡ is_top r.frames))) e
+      (settle_same g l r.start r.context r.frames r.notes r.now)).0
 
-  by_reached : (c : List Slot) (fs : List Frame) (ss : Symbols) (now : Now) (ts : List Placed) (n : Reading) → Reached g l c (fresh c) ts n → place n ≡ place_in fs now → is_fresh n ≡ false → n.start ≡ starts g l 0 [] ts → (now ≡ nows.Ready → n ≡ at (starts g l 0 [] ts) c fs ss nows.Ready) → (IsWaiting g l now → ⊥) → Arrived c fs ss now ts
+  by_reached : (c : List Slot) (fs : List Frame) (ss : Symbols) (now : Now) (ts : List Placed) (n : Reading) → Reached g l c (fresh c) ts n
+      → place n ≡ place_in fs now → is_fresh n ≡ false → n.start ≡ starts g l 0 [] ts → (now ≡ nows.Ready → n ≡ at (starts g l 0 [] ts) c fs ss nows.Ready)
+      → (IsWaiting g l now → ⊥) → Arrived c fs ss now ts
   by_reached c fs ss now ts n d h new k same free = record {
     r = d.now;
     read = d.read;
@@ -211,11 +250,13 @@ module _ (g : Catalog) (l : Limits) where
   mark_not_long : (p : Place) (t : Placed) (m : Mark) → Says p t (Mark' m) → is_long t ≡ false
   mark_not_long p t m h = not_long p t (Mark' m) h (λ w e. cc)
 
-  elements_short : (c : List Slot) (p : Place) (t : Placed) (m : Mark) (ts : List Placed) (vs : List Value) → Says p t (Mark' m) → Elements c ts vs true → ends_long (t ∷ ts) ≡ false
+  elements_short : (c : List Slot) (p : Place) (t : Placed) (m : Mark) (ts : List Placed) (vs : List Value) → Says p t (Mark' m) → Elements c ts vs true
+      → ends_long (t ∷ ts) ≡ false
   elements_short c p t m _ _ h no_element = mark_not_long p t m h
   elements_short c p t m _ _ h (comma ts vs u d i) = last_long (t ∷ ts) u ∙ mark_not_long places.List u marks.Comma i
 
-  members_short : (c : List Slot) (p : Place) (t : Placed) (m : Mark) (ts : List Placed) (ms : List Field) → Says p t (Mark' m) → Members c ts ms true → ends_long (t ∷ ts) ≡ false
+  members_short : (c : List Slot) (p : Place) (t : Placed) (m : Mark) (ts : List Placed) (ms : List Field) → Says p t (Mark' m) → Members c ts ms true
+      → ends_long (t ∷ ts) ≡ false
   members_short c p t m _ _ h no_field = mark_not_long p t m h
   members_short c p t m _ _ h (field_comma ts ms u d i) = last_long (t ∷ ts) u ∙ mark_not_long places.FieldValue u marks.Comma i
 
@@ -225,11 +266,16 @@ module _ (g : Catalog) (l : Limits) where
 
   long_outer : (c : List Slot) (fs : List Frame) (ts : List Placed) → (o : Opened c fs ts true) → ends_long ts ≡ true → long_behind c fs ts o ≡ true
   long_outer c [] ts o h = absurd (never (ends_long ts) (ap ends_long o) h)
-  long_outer c (frames.List ss vs ∷ fs) ts o h = absurd (never (ends_long ts) (ap ends_long o.whole ∙ (ends_open o.front o.notes o.body o.open' ∙ elements_short c (value_place fs) o.open' marks.ListOpen o.body vs o.opens o.items)) h)
-  long_outer c (frames.Fields ss ms ∷ fs) ts o h = absurd (never (ends_long ts) (ap ends_long o.whole ∙ (ends_open o.front o.notes o.body o.open' ∙ members_short c (value_place fs) o.open' marks.FieldsOpen o.body ms o.opens o.items)) h)
+  long_outer c (frames.List ss vs ∷ fs) ts o h = absurd (never (ends_long ts)
+      (ap ends_long o.whole ∙ (ends_open o.front o.notes o.body o.open' ∙ elements_short c (value_place fs) o.open' marks.ListOpen o.body vs o.opens o.items))
+      h)
+  long_outer c (frames.Fields ss ms ∷ fs) ts o h = absurd (never (ends_long ts)
+      (ap ends_long o.whole ∙ (ends_open o.front o.notes o.body o.open' ∙ members_short c (value_place fs) o.open' marks.FieldsOpen o.body ms o.opens o.items))
+      h)
   long_outer c (frames.Named ss ms s ∷ fs) ts o h =
       absurd (never (ends_long ts) (ap ends_long o.whole ∙ (ends_open o.front o.notes (o.body ++ (o.name ++ o.colon ∷ [])) o.open'
-      ∙ (ends_some (o.open' ∷ o.body) (o.name ++ o.colon ∷ []) (some_more o.name [] o.colon) ∙ (ends_some o.name (o.colon ∷ []) tt ∙ mark_not_long places.Name o.colon marks.Colon o.colons)))) h)
+      ∙ (ends_some (o.open' ∷ o.body) (o.name ++ o.colon ∷ []) (some_more o.name [] o.colon)
+      ∙ (ends_some o.name (o.colon ∷ []) tt ∙ mark_not_long places.Name o.colon marks.Colon o.colons)))) h)
   long_outer c (frames.Sexp ss vs ∷ fs) ts o h = by o.body (sym (ends_open o.front o.notes o.body o.open') ∙ (sym (ap ends_long o.whole) ∙ h))
     where
       by : (body : List Placed) → ends_long (o.open' ∷ body) ≡ true → ends_long body ≡ true
@@ -237,18 +283,28 @@ module _ (g : Catalog) (l : Limits) where
       by (x ∷ xs) k = k
 
   -- annotations behind what has come
-  noted_arrives : (c : List Slot) (fs : List Frame) (front notes : List Placed) (ss : Symbols) → Opened c fs front true → Outer c fs front → Annotations c (value_place fs) notes ss → is_fresh (at 0 c fs ss nows.Ready) ≡ false → Arrived c fs ss nows.Ready (front ++ notes)
+  noted_arrives : (c : List Slot) (fs : List Frame) (front notes : List Placed) (ss : Symbols) → Opened c fs front true → Outer c fs front
+      → Annotations c (value_place fs) notes ss → is_fresh (at 0 c fs ss nows.Ready) ≡ false → Arrived c fs ss nows.Ready (front ++ notes)
   noted_arrives c fs front _ _ o d no_annotation new =
-      subst (Arrived c fs [] nows.Ready) (sym (append-nil front)) (by_reached c fs [] nows.Ready front (at (starts g l 0 [] front) c fs [] nows.Ready) d refl new refl (λ e. refl) (λ w. w))
+      subst (Arrived c fs [] nows.Ready) (sym (append-nil front))
+      (by_reached c fs [] nows.Ready front (at (starts g l 0 [] front) c fs [] nows.Ready) d refl new refl (λ e. refl) (λ w. w))
   noted_arrives c fs front _ _ o d (one_annotation ts ss t colons said s a i j k) new = record {
     r = at (starts g l (starts g l 0 [] front) fs (ts ++ t ∷ colons ∷ [])) c fs (ss ++ s ∷ []) nows.Ready;
     read =
         item_behind g l c (value_place fs) (fresh c) (at (starts g l 0 [] front) c fs [] nows.Ready) front (ts ++ t ∷ colons ∷ []) refl refl d
-        (notes_begin g l c (value_place fs) ts (t ∷ colons ∷ []) ss a (record { first = t; later = colons ∷ []; said = said; cut = refl; says = i; no_colons = symbol_no_colons g l c said s j }))
-        (both_not (ends_long front) (begins_long (ts ++ t ∷ colons ∷ [])) (notes_not_long c (value_place fs) ts (colons ∷ []) ss t a (not_long (value_place fs) t said i (symbol_no_long c said s j))))
-        ∙ notes_read g l c (value_place fs) (starts g l 0 [] front) fs (ts ++ t ∷ colons ∷ []) (ss ++ s ∷ []) refl (one_annotation ts ss t colons said s a i j k);
+        (notes_begin g l c (value_place fs) ts (t ∷ colons ∷ []) ss a
+        (record { first = t; later = colons ∷ []; said = said; cut = refl; says = i; no_colons = symbol_no_colons g l c said s j }))
+        (both_not (ends_long front) (begins_long (ts ++ t ∷ colons ∷ []))
+        (notes_not_long c (value_place fs) ts (colons ∷ []) ss t a (not_long (value_place fs) t said i (symbol_no_long c said s j))))
+        ∙ notes_read g l c (value_place fs) (starts g l 0 [] front) fs (ts ++ t ∷ colons ∷ []) (ss ++ s ∷ []) refl
+        (one_annotation ts ss t colons said s a i j k);
     here = refl;
-    is = inl (at (starts g l (starts g l 0 [] front) fs (ts ++ t ∷ colons ∷ [])) c fs (ss ++ s ∷ []) nows.Ready, refl, new, starts_join c fs front (ts ++ t ∷ colons ∷ []) o);
+    is = inl (
+      at (starts g l (starts g l 0 [] front) fs (ts ++ t ∷ colons ∷ [])) c fs (ss ++ s ∷ []) nows.Ready,
+      refl,
+      new,
+      starts_join c fs front (ts ++ t ∷ colons ∷ []) o,
+    );
     ready = λ e. ap (λ (x : ℕ). goes (at x c fs (ss ++ s ∷ []) nows.Ready)) (starts_join c fs front (ts ++ t ∷ colons ∷ []) o);
     waited = λ w e. absurd w;
   }
@@ -257,7 +313,8 @@ module _ (g : Catalog) (l : Limits) where
   ready_outer c fs ss ts deep d = outer c fs d.front d.receives (opened_read c fs d.front true deep d.outer)
 
   -- what may be a symbol waits for `::`
-  symbol_waits : (end start : ℕ) (c : List Slot) (fs : List Frame) (ss : Symbols) (said : Content) (h : Held) → symbol_said said ≡ true → IsHeld c said h → on_ready (under g l) (spot_at end start c) fs ss said ≡ goes (at start c fs ss (nows.Pending h end))
+  symbol_waits : (end start : ℕ) (c : List Slot) (fs : List Frame) (ss : Symbols) (said : Content) (h : Held) → symbol_said said ≡ true → IsHeld c said h
+      → on_ready (under g l) (spot_at end start c) fs ss said ≡ goes (at start c fs ss (nows.Pending h end))
   symbol_waits end start c fs ss (Word w) h e k = ap (λ x. goes (at start c fs ss (nows.Pending x end))) (sym k)
   symbol_waits end start c fs ss (Id id) h e k =
       ap (λ r. resolved r (λ s. goes (at start c fs ss (nows.Pending (helds.Symbol s) end)))) k.1
@@ -275,7 +332,8 @@ module _ (g : Catalog) (l : Limits) where
   said_no_colons : (said : Content) → symbol_said said ≡ true → said ≡ Mark' marks.Colons → ⊥
   said_no_colons said h e = never (symbol_said said) (ap symbol_said e) h
 
-  pending_arrives : (c : List Slot) (fs : List Frame) (ss : Symbols) (h : Held) (end : ℕ) (ts : List Placed) → Deep l.depth fs → PendingFor c fs ss h ts → Arrived c fs ss (nows.Pending h end) ts
+  pending_arrives : (c : List Slot) (fs : List Frame) (ss : Symbols) (h : Held) (end : ℕ) (ts : List Placed) → Deep l.depth fs → PendingFor c fs ss h ts
+      → Arrived c fs ss (nows.Pending h end) ts
   pending_arrives c fs ss h end ts deep d =
       let e = d.ready in
       let t = d.token in
@@ -294,22 +352,31 @@ module _ (g : Catalog) (l : Limits) where
         ready = λ e. absurd cc;
         waited = λ w last.
             ap (λ (x : ℕ). at x c fs ss (nows.Pending h t.lexeme.end)) (begun_there c fs e.front e.outer o e.notes ss e.noted t [])
-            ∙ ap (λ (x : ℕ). at (starts g l 0 [] (e.front ++ (e.notes ++ t ∷ []))) c fs ss (nows.Pending h x)) (sym (last ∙ (ap (end_of 0) (sym (append_assoc e.front e.notes (t ∷ []))) ∙ last_end (e.front ++ e.notes) t [] 0 0)));
+            ∙ ap (λ (x : ℕ). at (starts g l 0 [] (e.front ++ (e.notes ++ t ∷ []))) c fs ss (nows.Pending h x))
+            (sym (last ∙ (ap (end_of 0) (sym (append_assoc e.front e.notes (t ∷ []))) ∙ last_end (e.front ++ e.notes) t [] 0 0)));
       })
 
-  long_arrives : (c : List Slot) (fs : List Frame) (ss : Symbols) (w : List ℕ) (end : ℕ) (ts : List Placed) → Deep l.depth fs → LongFor c fs ss w ts → Arrived c fs ss (nows.Long w end) ts
+  long_arrives : (c : List Slot) (fs : List Frame) (ss : Symbols) (w : List ℕ) (end : ℕ) (ts : List Placed) → Deep l.depth fs → LongFor c fs ss w ts
+      → Arrived c fs ss (nows.Long w end) ts
   long_arrives c fs ss w end ts deep d =
       subst (Arrived c fs ss (nows.Long w end)) whole (record {
         r = at begin c fs ss (nows.Long w (end_of 0 d.segments));
         read =
-            noted_behind c fs e.front e.outer o e.notes ss e.noted d.segments (notes_begin g l c (value_place fs) e.notes d.segments ss e.noted b) (apart (ends_long e.front) refl)
+            noted_behind c fs e.front e.outer o e.notes ss e.noted d.segments (notes_begin g l c (value_place fs) e.notes d.segments ss e.noted b)
+            (apart (ends_long e.front) refl)
             ∙ segments_read g l c (value_place fs) (starts g l (starts g l 0 [] e.front) fs e.notes) fs ss d.segments w refl d.are;
         here = long_at fs w (end_of 0 d.segments) ∙ sym (long_at fs w end);
-        is = inr (tt, tt, subst (λ x. begun_at (starts g l (starts g l 0 [] e.front) fs e.notes) (first_start 0 x) fs ss ≡ starts g l 0 [] (e.front ++ (e.notes ++ x))) (sym b.cut) (begun_there c fs e.front e.outer o e.notes ss e.noted b.first b.later));
+        is = inr (
+          tt,
+          tt,
+          subst (λ x. begun_at (starts g l (starts g l 0 [] e.front) fs e.notes) (first_start 0 x) fs ss
+              ≡ starts g l 0 [] (e.front ++ (e.notes ++ x))) (sym b.cut) (begun_there c fs e.front e.outer o e.notes ss e.noted b.first b.later),
+        );
         ready = λ e. absurd cc;
         waited = λ x last.
             ap (λ (x : ℕ). at x c fs ss (nows.Long w (end_of 0 d.segments)))
-            (subst (λ x. begun_at (starts g l (starts g l 0 [] e.front) fs e.notes) (first_start 0 x) fs ss ≡ starts g l 0 [] (e.front ++ (e.notes ++ x))) (sym b.cut) (begun_there c fs e.front e.outer o e.notes ss e.noted b.first b.later))
+            (subst (λ x. begun_at (starts g l (starts g l 0 [] e.front) fs e.notes) (first_start 0 x) fs ss ≡ starts g l 0 [] (e.front ++ (e.notes ++ x)))
+            (sym b.cut) (begun_there c fs e.front e.outer o e.notes ss e.noted b.first b.later))
             ∙ ap (λ (x : ℕ). at (starts g l 0 [] (e.front ++ (e.notes ++ d.segments))) c fs ss (nows.Long w x)) (sym (last ∙ segments_end));
       })
     where
@@ -342,36 +409,51 @@ module _ (g : Catalog) (l : Limits) where
   starts_front (t ∷ ts) us n = refl
 
   -- in a struct, a name behind what has come
-  module _ (c : List Slot) (ss : Symbols) (ms : List Field) (fs : List Frame) (before : List Placed) (deep : Deep l.depth (frames.Fields ss ms ∷ fs)) (o : Opened c (frames.Fields ss ms ∷ fs) before true) (notes : Symbols) where
-    pub name_there : (name : List Placed) → Begins g l places.Name name → reads g l (fresh c) (before ++ name) ≡ reads g l (at (starts g l 0 [] before) c (frames.Fields ss ms ∷ fs) [] nows.Name) name
-    name_there name b = item_behind g l c places.Name (fresh c) (at (starts g l 0 [] before) c (frames.Fields ss ms ∷ fs) [] nows.Name) before name refl refl (opened_read c (frames.Fields ss ms ∷ fs) before true deep o) b (apart (ends_long before) refl)
+  module _ (c : List Slot) (ss : Symbols) (ms : List Field) (fs : List Frame) (before : List Placed) (deep : Deep l.depth (frames.Fields ss ms ∷ fs))
+      (o : Opened c (frames.Fields ss ms ∷ fs) before true) (notes : Symbols) where
+    pub name_there : (name : List Placed) → Begins g l places.Name name → reads g l (fresh c) (before ++ name)
+        ≡ reads g l (at (starts g l 0 [] before) c (frames.Fields ss ms ∷ fs) [] nows.Name) name
+    name_there name b = item_behind g l c places.Name (fresh c) (at (starts g l 0 [] before) c (frames.Fields ss ms ∷ fs) [] nows.Name) before name refl refl
+        (opened_read c (frames.Fields ss ms ∷ fs) before true deep o) b (apart (ends_long before) refl)
       where
         apart : (x : Bool) → ends_long before ≡ x → (x && begins_long name) ≡ false
         apart false k = refl
         apart true k = absurd (let n : false ≡ true = long_outer c (frames.Fields ss ms ∷ fs) before o k in cc)
 
-    named_arrives : (now : Now) → (now ≡ nows.Ready → ⊥) → (IsWaiting g l now → ⊥) → (name : List Placed) (r : Reading) (s : Option (List ℕ)) → places.Name ≡ place_in (frames.Fields ss ms ∷ fs) now → Begins g l places.Name name → reads g l (at (starts g l 0 [] before) c (frames.Fields ss ms ∷ fs) [] nows.Name) name ≡ done r → place r ≡ places.Name → settle g l r ≡ goes (at (starts g l 0 [] before) c (frames.Fields ss ms ∷ fs) [] (nows.Keyed s))
+    named_arrives : (now : Now) → (now ≡ nows.Ready → ⊥) → (IsWaiting g l now → ⊥) → (name : List Placed) (r : Reading) (s : Option (List ℕ))
+        → places.Name ≡ place_in (frames.Fields ss ms ∷ fs) now → Begins g l places.Name name
+        → reads g l (at (starts g l 0 [] before) c (frames.Fields ss ms ∷ fs) [] nows.Name) name ≡ done r → place r ≡ places.Name
+        → settle g l r ≡ goes (at (starts g l 0 [] before) c (frames.Fields ss ms ∷ fs) [] (nows.Keyed s))
         → Arrived c (frames.Fields ss ms ∷ fs) notes now (before ++ name)
     named_arrives now unready free name r s q b e h k = record {
       r = r;
       read = name_there name b ∙ e;
       here = h ∙ q;
-      is = inl (at (starts g l 0 [] before) c (frames.Fields ss ms ∷ fs) [] (nows.Keyed s), k, refl, starts_front before name (name_some c (frames.Fields ss ms ∷ fs) before o tt));
+      is = inl (
+        at (starts g l 0 [] before) c (frames.Fields ss ms ∷ fs) [] (nows.Keyed s),
+        k,
+        refl,
+        starts_front before name (name_some c (frames.Fields ss ms ∷ fs) before o tt),
+      );
       ready = λ e. absurd (unready e);
       waited = λ w e. absurd (free w);
     }
 
-    long_name_arrives : (now : Now) → (now ≡ nows.Ready → ⊥) → (IsWaiting g l now → ⊥) → (name : List Placed) (w : List ℕ) → places.Name ≡ place_in (frames.Fields ss ms ∷ fs) now → Segments places.Name name w → Arrived c (frames.Fields ss ms ∷ fs) notes now (before ++ name)
+    long_name_arrives : (now : Now) → (now ≡ nows.Ready → ⊥) → (IsWaiting g l now → ⊥) → (name : List Placed) (w : List ℕ)
+        → places.Name ≡ place_in (frames.Fields ss ms ∷ fs) now → Segments places.Name name w → Arrived c (frames.Fields ss ms ∷ fs) notes now (before ++ name)
     long_name_arrives now unready free name w q d =
-        named_arrives now unready free name (at (starts g l 0 [] before) c (frames.Fields ss ms ∷ fs) [] (nows.LongName w)) (Some w) q (segments_begin g l places.Name name w d) (long_named g l c (starts g l 0 [] before) (frames.Fields ss ms ∷ fs) name w refl d) refl refl
+        named_arrives now unready free name (at (starts g l 0 [] before) c (frames.Fields ss ms ∷ fs) [] (nows.LongName w)) (Some w) q
+        (segments_begin g l places.Name name w d) (long_named g l c (starts g l 0 [] before) (frames.Fields ss ms ∷ fs) name w refl d) refl refl
 
     keyed_arrives : (s : Option (List ℕ)) (name : List Placed) → IsName c name s → Arrived c (frames.Fields ss ms ∷ fs) notes (nows.Keyed s) (before ++ name)
     keyed_arrives _ _ (by_long ts w d) = long_name_arrives (nows.Keyed (Some w)) (λ e. cc) (λ w. w) ts w refl d
     keyed_arrives _ _ (by_short t w h) =
-        named_arrives (nows.Keyed (Some w)) (λ e. cc) (λ w. w) (t ∷ []) (at (starts g l 0 [] before) c (frames.Fields ss ms ∷ fs) [] (nows.Keyed (Some w))) (Some w) refl (record { first = t; later = []; said = Short w; cut = refl; says = h; no_colons = λ e. cc })
+        named_arrives (nows.Keyed (Some w)) (λ e. cc) (λ w. w) (t ∷ []) (at (starts g l 0 [] before) c (frames.Fields ss ms ∷ fs) [] (nows.Keyed (Some w)))
+        (Some w) refl (record { first = t; later = []; said = Short w; cut = refl; says = h; no_colons = λ e. cc })
         (first_token g l places.Name (at (starts g l 0 [] before) c (frames.Fields ss ms ∷ fs) [] nows.Name) t (Short w) [] h refl (inr refl)) refl refl
     keyed_arrives s _ (by_symbol t said _ h i) =
-        named_arrives (nows.Keyed s) (λ e. cc) (λ w. w) (t ∷ []) (at (starts g l 0 [] before) c (frames.Fields ss ms ∷ fs) [] (nows.Keyed s)) s refl (record { first = t; later = []; said = said; cut = refl; says = h; no_colons = symbol_no_colons g l c said s i })
+        named_arrives (nows.Keyed s) (λ e. cc) (λ w. w) (t ∷ []) (at (starts g l 0 [] before) c (frames.Fields ss ms ∷ fs) [] (nows.Keyed s)) s refl
+        (record { first = t; later = []; said = said; cut = refl; says = h; no_colons = symbol_no_colons g l c said s i })
         (first_token g l places.Name (at (starts g l 0 [] before) c (frames.Fields ss ms ∷ fs) [] nows.Name) t said [] h refl (inr refl)
         ∙ ap (λ x. on_turn x done) (symbol_named g l c (starts g l 0 [] before) t.lexeme.end (frames.Fields ss ms ∷ fs) said s i)) refl refl
 
@@ -387,14 +469,22 @@ module _ (g : Catalog) (l : Limits) where
   inside_new begin c [] ss now i = absurd i
 
   -- The tokens of an open item are read.
-  pub arrived : (c : List Slot) (fs : List Frame) (ss : Symbols) (now : Now) (ts : List Placed) → Deep l.depth fs → NowStands c fs ss ts now → is_fresh (at 0 c fs ss now) ≡ false → Arrived c fs ss now ts
-  arrived c fs ss nows.Ready ts deep d new = subst (Arrived c fs ss nows.Ready) (sym d.whole) (noted_arrives c fs d.front d.notes ss d.outer (ready_outer c fs ss ts deep d) d.noted new)
+  pub arrived : (c : List Slot) (fs : List Frame) (ss : Symbols) (now : Now) (ts : List Placed) → Deep l.depth fs → NowStands c fs ss ts now
+      → is_fresh (at 0 c fs ss now) ≡ false → Arrived c fs ss now ts
+  arrived c fs ss nows.Ready ts deep d new = subst (Arrived c fs ss nows.Ready) (sym d.whole)
+      (noted_arrives c fs d.front d.notes ss d.outer (ready_outer c fs ss ts deep d) d.noted new)
   arrived c fs ss (nows.Pending h end) ts deep d new = pending_arrives c fs ss h end ts deep d
   arrived c fs ss (nows.Long w end) ts deep d new = long_arrives c fs ss w end ts deep d
-  arrived c fs ss nows.After ts deep d new = by_reached c fs ss nows.After ts (at (starts g l 0 [] ts) c fs [] (target fs false)) (opened_read c fs ts false deep d.0) (inside_place fs d.2) (inside_new (starts g l 0 [] ts) c fs [] (target fs false) d.2) refl (λ e. absurd cc) (λ w. w)
-  arrived c (frames.Fields xs ms ∷ fs) ss nows.Name ts deep d new = by_reached c (frames.Fields xs ms ∷ fs) ss nows.Name ts (at (starts g l 0 [] ts) c (frames.Fields xs ms ∷ fs) [] nows.Name) (opened_read c (frames.Fields xs ms ∷ fs) ts true deep d.0) refl refl refl (λ e. absurd cc) (λ w. w)
-  arrived c (frames.Fields xs ms ∷ fs) ss (nows.LongName w) ts deep d new = subst (Arrived c (frames.Fields xs ms ∷ fs) ss (nows.LongName w)) (sym d.whole) (long_name_arrives c xs ms fs d.before deep d.outer ss (nows.LongName w) (λ e. cc) (λ w. w) d.name w refl d.is)
-  arrived c (frames.Fields xs ms ∷ fs) ss (nows.Keyed s) ts deep d new = subst (Arrived c (frames.Fields xs ms ∷ fs) ss (nows.Keyed s)) (sym d.whole) (keyed_arrives c xs ms fs d.before deep d.outer ss s d.name d.is)
+  arrived c fs ss nows.After ts deep d new = by_reached c fs ss nows.After ts (at (starts g l 0 [] ts) c fs [] (target fs false))
+      (opened_read c fs ts false deep d.0) (inside_place fs d.2) (inside_new (starts g l 0 [] ts) c fs [] (target fs false) d.2) refl (λ e. absurd cc) (λ w. w)
+  arrived c (frames.Fields xs ms ∷ fs) ss nows.Name ts deep d new =
+      by_reached c (frames.Fields xs ms ∷ fs) ss nows.Name ts (at (starts g l 0 [] ts) c (frames.Fields xs ms ∷ fs) [] nows.Name)
+      (opened_read c (frames.Fields xs ms ∷ fs) ts true deep d.0) refl refl refl (λ e. absurd cc) (λ w. w)
+  arrived c (frames.Fields xs ms ∷ fs) ss (nows.LongName w) ts deep d new =
+      subst (Arrived c (frames.Fields xs ms ∷ fs) ss (nows.LongName w)) (sym d.whole)
+      (long_name_arrives c xs ms fs d.before deep d.outer ss (nows.LongName w) (λ e. cc) (λ w. w) d.name w refl d.is)
+  arrived c (frames.Fields xs ms ∷ fs) ss (nows.Keyed s) ts deep d new =
+      subst (Arrived c (frames.Fields xs ms ∷ fs) ss (nows.Keyed s)) (sym d.whole) (keyed_arrives c xs ms fs d.before deep d.outer ss s d.name d.is)
   arrived c [] ss nows.Name ts deep d new = absurd (d.1)
   arrived c (frames.List xs vs ∷ fs) ss nows.Name ts deep d new = absurd (d.1)
   arrived c (frames.Sexp xs vs ∷ fs) ss nows.Name ts deep d new = absurd (d.1)

@@ -53,21 +53,26 @@ module _ (g : Catalog) (l : Limits) where
   turn_walks (refuses x) ts vs n e = absurd cc
   turn_walks (late x r) ts vs n e = absurd cc
 
-  pub walking_said : (r : Reading) (t : Placed) (ts : List Placed) → Walking r (t ∷ ts) → (t.place ≡ place r) × (c : Content) × (said t.lexeme.kind t.lexeme.octets ≡ Ok c)
+  pub walking_said : (r : Reading) (t : Placed) (ts : List Placed) → Walking r (t ∷ ts) → (t.place ≡ place r) × (c : Content)
+      × (said t.lexeme.kind t.lexeme.octets ≡ Ok c)
   walking_said r t ts d = go (same_place t.place (place r)) refl (said t.lexeme.kind t.lexeme.octets) refl d.read
     where
-      go : (b : Bool) → same_place t.place (place r) ≡ b → (s : Result Content Reason) → said t.lexeme.kind t.lexeme.octets ≡ s → on_placed g l b (on_judged g l r t s (λ k. reads g l k ts)) ≡ walked d.vs d.n → (t.place ≡ place r) × (c : Content) × (said t.lexeme.kind t.lexeme.octets ≡ Ok c)
+      go : (b : Bool) → same_place t.place (place r) ≡ b → (s : Result Content Reason) → said t.lexeme.kind t.lexeme.octets ≡ s
+          → on_placed g l b (on_judged g l r t s (λ k. reads g l k ts)) ≡ walked d.vs d.n → (t.place ≡ place r) × (c : Content)
+          × (said t.lexeme.kind t.lexeme.octets ≡ Ok c)
       go true e (Ok c) f h = (same_is t.place (place r) e, c, f)
       go true e (Err x) f h = absurd cc
       go false e s f h = absurd cc
 
-  pub walking_turn : (r : Reading) (t : Placed) (ts : List Placed) (c : Content) → Walking r (t ∷ ts) → said t.lexeme.kind t.lexeme.octets ≡ Ok c → Direct g l r (token_of t.lexeme c) → TurnWalks (turn g l r (token_of t.lexeme c)) ts
+  pub walking_turn : (r : Reading) (t : Placed) (ts : List Placed) (c : Content) → Walking r (t ∷ ts) → said t.lexeme.kind t.lexeme.octets ≡ Ok c
+      → Direct g l r (token_of t.lexeme c) → TurnWalks (turn g l r (token_of t.lexeme c)) ts
   walking_turn r t ts c d e w =
       let p = (walking_said r t ts d).0 in
       turn_walks (turn g l r (token_of t.lexeme c)) ts d.vs d.n (sym (first_token g l (place r) r t c ts (says_so g l r t c p e) refl w) ∙ d.read)
 
   -- what waits is settled by a token that doesn't go on with it
-  pub settled_reads : (r : Reading) (t : Placed) (ts : List Placed) (c : Content) → t.place ≡ place r → said t.lexeme.kind t.lexeme.octets ≡ Ok c → continues r (token_of t.lexeme c) ≡ false → reads g l r (t ∷ ts) ≡ on_turn (settle g l r) (λ k. reads g l k (t ∷ ts))
+  pub settled_reads : (r : Reading) (t : Placed) (ts : List Placed) (c : Content) → t.place ≡ place r → said t.lexeme.kind t.lexeme.octets ≡ Ok c
+      → continues r (token_of t.lexeme c) ≡ false → reads g l r (t ∷ ts) ≡ on_turn (settle g l r) (λ k. reads g l k (t ∷ ts))
   settled_reads r t ts c p e w =
       in_place g l (place r) r t c (on_judged g l r t (said t.lexeme.kind t.lexeme.octets) (λ k. reads g l k ts)) (says_so g l r t c p e) refl
       ∙ (ap (λ x. on_judged g l r t x (λ k. reads g l k ts)) e
@@ -77,17 +82,20 @@ module _ (g : Catalog) (l : Limits) where
       F : Reading → Walk
       F = λ k. on_turn (turn g l k (token_of t.lexeme c)) (λ k. reads g l k ts)
 
-      same : (x : Turn) → Leading g l (λ n. (place n ≡ place r) × (is_top n.frames ≡ is_top r.frames)) x → Leading g l (λ n. settle g l n ≡ goes n) x → on_turn x F ≡ on_turn x (λ k. reads g l k (t ∷ ts))
+      same : (x : Turn) → Leading g l (λ n. (place n ≡ place r) × (is_top n.frames ≡ is_top r.frames)) x → Leading g l (λ n. settle g l n ≡ goes n) x
+          → on_turn x F ≡ on_turn x (λ k. reads g l k (t ∷ ts))
       same (goes n) h k = sym (first_token g l (place r) n t c ts (says_so g l r t c p e) (sym h.0) (inr k))
       same (gives v n) h k = ap (adds_values (v ∷ [])) (sym (first_token g l (place r) n t c ts (says_so g l r t c p e) (sym h.0) (inr k)))
       same (refuses y) h k = refl
       same (late y n) h k = refl
 
-  walking_settle : (r : Reading) (t : Placed) (ts : List Placed) (c : Content) → Walking r (t ∷ ts) → said t.lexeme.kind t.lexeme.octets ≡ Ok c → continues r (token_of t.lexeme c) ≡ false → TurnWalks (settle g l r) (t ∷ ts)
+  walking_settle : (r : Reading) (t : Placed) (ts : List Placed) (c : Content) → Walking r (t ∷ ts) → said t.lexeme.kind t.lexeme.octets ≡ Ok c
+      → continues r (token_of t.lexeme c) ≡ false → TurnWalks (settle g l r) (t ∷ ts)
   walking_settle r t ts c d e w = turn_walks (settle g l r) (t ∷ ts) d.vs d.n (sym (settled_reads r t ts c (walking_said r t ts d).0 e w) ∙ d.read)
 
   -- tokens behind others that are read
-  pub behind_read : (ts us : List Placed) (r m n : Reading) (xs vs : List Value) → reads g l r ts ≡ walked xs m → reads g l r (ts ++ us) ≡ walked vs n → (ws : List Value) × (reads g l m us ≡ walked ws n)
+  pub behind_read : (ts us : List Placed) (r m n : Reading) (xs vs : List Value) → reads g l r ts ≡ walked xs m → reads g l r (ts ++ us) ≡ walked vs n
+      → (ws : List Value) × (reads g l m us ≡ walked ws n)
   behind_read ts us r m n xs vs e f = adds_is xs vs n (reads g l m us) (sym (reads-append g l ts us r ∙ ap (λ x. then_walk x (λ k. reads g l k us)) e) ∙ f)
 
   -- where the others end well, the tokens go on at the top level
@@ -129,11 +137,13 @@ module _ (g : Catalog) (l : Limits) where
 
       go : (w : Bool) → continues r (token_of t.lexeme c) ≡ w → OneIsFront us ws
       go true w = turn_met (turn g l r (token_of t.lexeme c)) us ws b f (walking_turn r t us c d is (inl w)) (going_turn g l r t ws b c e is (inl w))
-      go false w = settled (settle g l r) (settle_still g l r.start r.context r.frames r.notes r.now) (walking_settle r t us c d is w) (going_settle g l r t ws b c e is w)
+      go false w = settled (settle g l r) (settle_still g l r.start r.context r.frames r.notes r.now) (walking_settle r t us c d is w)
+          (going_settle g l r t ws b c e is w)
 
   module _ (R : Known → List ℕ → Type 0) where
     -- the other tokens, where the first ones go on with a token that was given or left
-    module _ (s s' : Known) (octets : List ℕ) (t : Placed) (ts : List Placed) (r : Reading) (b : List Value) (d : Walking r (t ∷ ts)) (x : Outcome) (ran : run t.place octets s ≡ x) where
+    module _ (s s' : Known) (octets : List ℕ) (t : Placed) (ts : List Placed) (r : Reading) (b : List Value) (d : Walking r (t ∷ ts)) (x : Outcome)
+        (ran : run t.place octets s ≡ x) where
       abbrev RestMeets : Type 0
       RestMeets = (ws : List Placed) → Found' R s' (drop (s'.used - s.used) octets) ws → Operators ws → Meeting ts ws
 
@@ -143,12 +153,15 @@ module _ (g : Catalog) (l : Limits) where
       there : (u : Placed) (us : List Placed) (y : Outcome) → Going g l r (u ∷ us) b → run u.place octets s ≡ y → x ≡ y
       there u us y e f = sym ran ∙ (ap (λ p. run p octets s) (here u us e) ∙ f)
 
-      matched : RestMeets → (u : Placed) (us : List Placed) (s'' : Known) → t.lexeme ≡ u.lexeme → s'' ≡ s' → Found' R s'' (drop (s''.used - s.used) octets) us → Operators us → Going g l r (u ∷ us) b → OneIsFront (t ∷ ts) (u ∷ us)
+      matched : RestMeets → (u : Placed) (us : List Placed) (s'' : Known) → t.lexeme ≡ u.lexeme → s'' ≡ s' → Found' R s'' (drop (s''.used - s.used) octets) us
+          → Operators us → Going g l r (u ∷ us) b → OneIsFront (t ∷ ts) (u ∷ us)
       matched rest u us s'' i j f ops e =
           let same = placed_same R g l t u (here u us e) i in
-          subst (λ z. OneIsFront (t ∷ ts) (z ∷ us)) same (token_met t ts us (rest us (subst (λ (z : Known). Found' R z (drop (z.used - s.used) octets) us) j f) ops) r b d (subst (λ z. Going g l r (z ∷ us) b) (sym same) e))
+          subst (λ z. OneIsFront (t ∷ ts) (z ∷ us)) same (token_met t ts us
+          (rest us (subst (λ (z : Known). Found' R z (drop (z.used - s.used) octets) us) j f) ops) r b d (subst (λ z. Going g l r (z ∷ us) b) (sym same) e))
 
-    pub meet : (s : Known) (octets : List ℕ) (ts : List Placed) → Found' R s octets ts → (ws : List Placed) → Found' R s octets ws → Operators ws → Meeting ts ws
+    pub meet : (s : Known) (octets : List ℕ) (ts : List Placed) → Found' R s octets ts → (ws : List Placed) → Found' R s octets ws → Operators ws
+        → Meeting ts ws
     unfolding lexeme_in state_in token_in
     meet _ _ _ (Nothing s octets n) ws f o = λ r b d e. inl (ws, refl)
     meet _ _ _ (Last s octets t s' ran at) ws f o = λ r b d e. by ws f o r b d e
@@ -163,27 +176,36 @@ module _ (g : Catalog) (l : Limits) where
             inl ([], ap (λ z. z ∷ []) (sym (placed_same R g l t u p lexeme)))
         by _ (Gives _ _ u us s'' ran' f) o r b d e = absurd (let x = there s s' octets t [] r b d (Next s') ran u us (Given u.lexeme s'') e ran' in cc)
         by _ (Leaves _ _ u us s'' ran' f) o r b d e = absurd (let x = there s s' octets t [] r b d (Next s') ran u us (Left u.lexeme s'') e ran' in cc)
-        by _ (Unclosed _ _ u us s'' colon letters bare ran' at' first operator f) o r b d e = absurd (unclosed_never R g l u us letters colon u.lexeme.end s''.used r b operator f o e)
+        by _ (Unclosed _ _ u us s'' colon letters bare ran' at' first operator f) o r b d e =
+            absurd (unclosed_never R g l u us letters colon u.lexeme.end s''.used r b operator f o e)
     meet _ _ _ (Gives s octets t ts s' ran f) ws f' o = λ r b d e. by (λ ws f' o'. meet s' (drop (s'.used - s.used) octets) ts f ws f' o') ws f' o r b d e
       where
-        by : ((ws : List Placed) → Found' R s' (drop (s'.used - s.used) octets) ws → Operators ws → Meeting ts ws) → (ws : List Placed) → Found' R s octets ws → Operators ws → Meeting (t ∷ ts) ws
+        by : ((ws : List Placed) → Found' R s' (drop (s'.used - s.used) octets) ws → Operators ws → Meeting ts ws) → (ws : List Placed) → Found' R s octets ws
+            → Operators ws → Meeting (t ∷ ts) ws
         by rest _ (Nothing _ _ n) o r b d e = inr (t ∷ ts, refl, first_top r (t ∷ ts) b d e)
         by rest _ (Last _ _ u s'' ran' at') o r b d e = absurd (let x = there s s' octets t ts r b d (Given t.lexeme s') ran u [] (Next s'') e ran' in cc)
         by rest _ (Gives _ _ u us s'' ran' f') o r b d e =
             let x = there s s' octets t ts r b d (Given t.lexeme s') ran u us (Given u.lexeme s'') e ran' in
-            matched s s' octets t ts r b d (Given t.lexeme s') ran rest u us s'' (ap (λ y. lexeme_in R g l y t.lexeme) x) (sym (ap (λ y. state_in R g l y s') x)) f' o.1 e
-        by rest _ (Leaves _ _ u us s'' ran' f') o r b d e = absurd (let x = there s s' octets t ts r b d (Given t.lexeme s') ran u us (Left u.lexeme s'') e ran' in cc)
-        by rest _ (Unclosed _ _ u us s'' colon letters bare ran' at' first operator f') o r b d e = absurd (unclosed_never R g l u us letters colon u.lexeme.end s''.used r b operator f' o e)
+            matched s s' octets t ts r b d (Given t.lexeme s') ran rest u us s'' (ap (λ y. lexeme_in R g l y t.lexeme) x)
+            (sym (ap (λ y. state_in R g l y s') x)) f' o.1 e
+        by rest _ (Leaves _ _ u us s'' ran' f') o r b d e = absurd
+            (let x = there s s' octets t ts r b d (Given t.lexeme s') ran u us (Left u.lexeme s'') e ran' in cc)
+        by rest _ (Unclosed _ _ u us s'' colon letters bare ran' at' first operator f') o r b d e =
+            absurd (unclosed_never R g l u us letters colon u.lexeme.end s''.used r b operator f' o e)
     meet _ _ _ (Leaves s octets t ts s' ran f) ws f' o = λ r b d e. by (λ ws f' o'. meet s' (drop (s'.used - s.used) octets) ts f ws f' o') ws f' o r b d e
       where
-        by : ((ws : List Placed) → Found' R s' (drop (s'.used - s.used) octets) ws → Operators ws → Meeting ts ws) → (ws : List Placed) → Found' R s octets ws → Operators ws → Meeting (t ∷ ts) ws
+        by : ((ws : List Placed) → Found' R s' (drop (s'.used - s.used) octets) ws → Operators ws → Meeting ts ws) → (ws : List Placed) → Found' R s octets ws
+            → Operators ws → Meeting (t ∷ ts) ws
         by rest _ (Nothing _ _ n) o r b d e = inr (t ∷ ts, refl, first_top r (t ∷ ts) b d e)
         by rest _ (Last _ _ u s'' ran' at') o r b d e = absurd (let x = there s s' octets t ts r b d (Left t.lexeme s') ran u [] (Next s'') e ran' in cc)
         by rest _ (Leaves _ _ u us s'' ran' f') o r b d e =
             let x = there s s' octets t ts r b d (Left t.lexeme s') ran u us (Left u.lexeme s'') e ran' in
-            matched s s' octets t ts r b d (Left t.lexeme s') ran rest u us s'' (ap (λ y. lexeme_in R g l y t.lexeme) x) (sym (ap (λ y. state_in R g l y s') x)) f' o.1 e
-        by rest _ (Gives _ _ u us s'' ran' f') o r b d e = absurd (let x = there s s' octets t ts r b d (Left t.lexeme s') ran u us (Given u.lexeme s'') e ran' in cc)
-        by rest _ (Unclosed _ _ u us s'' colon letters bare ran' at' first operator f') o r b d e = absurd (unclosed_never R g l u us letters colon u.lexeme.end s''.used r b operator f' o e)
+            matched s s' octets t ts r b d (Left t.lexeme s') ran rest u us s'' (ap (λ y. lexeme_in R g l y t.lexeme) x) (sym (ap (λ y. state_in R g l y s') x))
+            f' o.1 e
+        by rest _ (Gives _ _ u us s'' ran' f') o r b d e = absurd
+            (let x = there s s' octets t ts r b d (Left t.lexeme s') ran u us (Given u.lexeme s'') e ran' in cc)
+        by rest _ (Unclosed _ _ u us s'' colon letters bare ran' at' first operator f') o r b d e =
+            absurd (unclosed_never R g l u us letters colon u.lexeme.end s''.used r b operator f' o e)
     meet _ _ _ (Unclosed s octets t ts s' colon letters bare ran at first operator f) ws f' o = λ r b d e. by ws f' o r b d e
       where
         by : (ws : List Placed) → Found' R s octets ws → Operators ws → Meeting (t ∷ ts) ws
@@ -195,4 +217,5 @@ module _ (g : Catalog) (l : Limits) where
             absurd (let n = sym at ∙ (ap (at_end t.place) same ∙ (ap (λ q. at_end q s'') p ∙ at')) in cc)
         by _ (Gives _ _ u us s'' ran' f') o r b d e = absurd (let x = there s s' octets t ts r b d (Next s') ran u us (Given u.lexeme s'') e ran' in cc)
         by _ (Leaves _ _ u us s'' ran' f') o r b d e = absurd (let x = there s s' octets t ts r b d (Next s') ran u us (Left u.lexeme s'') e ran' in cc)
-        by _ (Unclosed _ _ u us s'' colon' letters' bare' ran' at' first' operator' f'') o r b d e = absurd (unclosed_never R g l u us letters' colon' u.lexeme.end s''.used r b operator' f'' o e)
+        by _ (Unclosed _ _ u us s'' colon' letters' bare' ran' at' first' operator' f'') o r b d e =
+            absurd (unclosed_never R g l u us letters' colon' u.lexeme.end s''.used r b operator' f'' o e)

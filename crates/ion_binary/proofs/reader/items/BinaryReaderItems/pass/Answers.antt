@@ -7,7 +7,8 @@ returns-in-Some-walk-clause-stands c = λ u s h.
     let found = c.in-Some-walk.ensures.gives in (
       Some found.0,
       ap Some found.1,
-      step_stands c.args.self.now c.walk.new.self c.args.piece.now (Ok (record { used = c.in-Some-walk.used; value = Some found.0 })) found.2 c.in-Some-walk.ensures.used c.in-Some-walk.ensures.setting u s h,
+      step_stands c.args.self.now c.walk.new.self c.args.piece.now (Ok (record { used = c.in-Some-walk.used; value = Some found.0 })) found.2
+          c.in-Some-walk.ensures.used c.in-Some-walk.ensures.setting u s h,
     )
 
 pub returns-in-Err-clause-refuses : goal.returns-in-Err-clause-refuses

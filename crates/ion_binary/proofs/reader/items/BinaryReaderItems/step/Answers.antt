@@ -12,7 +12,9 @@ returns-in_default-result-clause-answers c =
 
 pub returns-in_default-result-clause-stands : goal.returns-in_default-result-clause-stands
 returns-in_default-result-clause-stands c =
-    step_stands c.args.self.now c.advance-result.new.self c.args.piece.now c.advance-result.result c.advance-result.ensures.does c.advance-result.ensures.used c.advance-result.ensures.setting
+    step_stands c.args.self.now c.advance-result.new.self c.args.piece.now c.advance-result.result c.advance-result.ensures.does c.advance-result.ensures.used
+    c.advance-result.ensures.setting
 
 pub returns-in-Err-clause-within : goal.returns-in-Err-clause-within
-returns-in-Err-clause-within c = step_within c.args.self.now (machine_of c.advance-result.new.self) c.args.piece.now c.advance-result.result c.advance-result.ensures.does
+returns-in-Err-clause-within c = step_within c.args.self.now (machine_of c.advance-result.new.self) c.args.piece.now c.advance-result.result
+    c.advance-result.ensures.does

@@ -19,4 +19,10 @@ returns-clause-id g c =
     ∙ ap (λ ns. id_of ns (Some c.args.text.now)) c.self.view_is
 
 pub returns-clause-small : goal.returns-clause-small
-returns-clause-small g c = omega (arith, returns-clause-id g c, id_few c.args.self.now (Some c.args.text.now), c.len-count.ensures.count, c.len-count.ensures.small)
+returns-clause-small g c = omega (
+  arith,
+  returns-clause-id g c,
+  id_few c.args.self.now (Some c.args.text.now),
+  c.len-count.ensures.count,
+  c.len-count.ensures.small,
+)

@@ -5,4 +5,5 @@ use Rattle.ion_binary.proofs.writer.names.Names.insert_texts.Given as goal
 
 -- with the texts that are left the names are those with all, and for these there is room
 abbrev pub invariant-loop-text : goal.invariant-loop-text
-invariant-loop-text g l = (with_names l.self (map (λ t. Some t.now) (drop l.text-index l.texts)) ≡ with_names l.initial.self (map (λ t. Some t.now) l.texts)) × (length l.self + length (drop l.text-index l.texts) ≤ suc greatest_id)
+invariant-loop-text g l = (with_names l.self (map (λ t. Some t.now) (drop l.text-index l.texts)) ≡ with_names l.initial.self (map (λ t. Some t.now) l.texts))
+    × (length l.self + length (drop l.text-index l.texts) ≤ suc greatest_id)

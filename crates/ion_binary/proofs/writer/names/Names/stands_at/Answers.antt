@@ -8,7 +8,8 @@ pub returns-in-Some-clause-id : goal.returns-in-Some-clause-id
 returns-in-Some-clause-id g c h =
     let names = c.self.inside.symbols.keys in
     let k = c.in-Some.ensures.lookup in
-    let found : slice_get c.as_slice.result.now c.args.id ≡ Some c.in-Some.other.now = slice_get_read c.as_slice.result.now (length c.as_slice.result.now) c.args.id c.in-Some.other.now refl k.3.0 k.1 in
+    let found : slice_get c.as_slice.result.now c.args.id ≡ Some c.in-Some.other.now =
+    slice_get_read c.as_slice.result.now (length c.as_slice.result.now) c.args.id c.in-Some.other.now refl k.3.0 k.1 in
     let at : slice_get names c.args.id ≡ Some c.in-Some.other.now = ap (λ (xs : Names). slice_get xs c.args.id) (sym c.as_slice.ensures.keys) ∙ found in
     id_at names c.args.id c.args.symbol.now c.in-Some.other.now c.as_slice.ensures.unique at (sym c.same.ensures ∙ h)
     ∙ ap (λ ns. id_of ns c.args.symbol.now) c.self.view_is

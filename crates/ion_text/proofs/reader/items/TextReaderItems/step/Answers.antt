@@ -5,11 +5,13 @@ use Rattle.ion_text.proofs.reader.items.TextReaderItems.step.Goals as goal
 
 pub returns-in-Err-clause-answers : goal.returns-in-Err-clause-answers
 returns-in-Err-clause-answers c =
-    λ u s h. step_answers c.args.self.now (state_of c.advance-result.new.self) c.advance-result.new.self.awaited u s c.args.piece.now c.advance-result.result h c.requires.begins c.advance-result.ensures.does
+    λ u s h. step_answers c.args.self.now (state_of c.advance-result.new.self) c.advance-result.new.self.awaited u s c.args.piece.now c.advance-result.result h
+    c.requires.begins c.advance-result.ensures.does
 
 pub returns-in_default-result-clause-answers : goal.returns-in_default-result-clause-answers
 returns-in_default-result-clause-answers c =
-    λ u s h. step_answers c.args.self.now (state_of c.advance-result.new.self) c.advance-result.new.self.awaited u s c.args.piece.now c.advance-result.result h c.requires.begins c.advance-result.ensures.does
+    λ u s h. step_answers c.args.self.now (state_of c.advance-result.new.self) c.advance-result.new.self.awaited u s c.args.piece.now c.advance-result.result h
+    c.requires.begins c.advance-result.ensures.does
 
 pub returns-in_default-result-clause-stands : goal.returns-in_default-result-clause-stands
 returns-in_default-result-clause-stands c =
@@ -17,10 +19,13 @@ returns-in_default-result-clause-stands c =
     c.advance-result.ensures.used c.advance-result.ensures.fine c.advance-result.ensures.steady c.advance-result.ensures.setting
 
 pub returns-in_default-result-clause-progress : goal.returns-in_default-result-clause-progress
-returns-in_default-result-clause-progress c = step_progress c.args.self.now c.advance-result.new.self c.args.piece.now c.advance-result.result c.advance-result.ensures.does
+returns-in_default-result-clause-progress c = step_progress c.args.self.now c.advance-result.new.self c.args.piece.now c.advance-result.result
+    c.advance-result.ensures.does
 
 pub returns-in_default-result-clause-few_pending : goal.returns-in_default-result-clause-few_pending
-returns-in_default-result-clause-few_pending c = step_pending c.args.self.now c.advance-result.new.self c.args.piece.now c.advance-result.result c.requires.begins c.advance-result.ensures.does
+returns-in_default-result-clause-few_pending c = step_pending c.args.self.now c.advance-result.new.self c.args.piece.now c.advance-result.result
+    c.requires.begins c.advance-result.ensures.does
 
 pub returns-in-Err-clause-within : goal.returns-in-Err-clause-within
-returns-in-Err-clause-within c = step_within c.args.self.now (state_of c.advance-result.new.self) c.advance-result.new.self.awaited c.args.piece.now c.advance-result.result c.advance-result.ensures.does
+returns-in-Err-clause-within c = step_within c.args.self.now (state_of c.advance-result.new.self) c.advance-result.new.self.awaited c.args.piece.now
+    c.advance-result.result c.advance-result.ensures.does
