@@ -140,7 +140,8 @@ impl<'a> DocReader<'a> {
 
 impl<'a> DocReader<'a> {
     /// Takes up the octets of the value at the front of a piece and writes it, without building it, as
-    /// `BinaryReader::carry` does. `None`, with all as it was, also where the document isn't binary.
+    /// `BinaryReader::carry` does, or of text as `BinaryWriter::put_visited`. `None`, with all as it was, also where
+    /// no octet has come.
     pub(crate) fn carry<S: BuildHasher + Drop, W: Outlet>(
         &mut self,
         piece: &[u8],
@@ -156,6 +157,7 @@ impl<'a> DocReader<'a> {
     {
         match &mut self.format {
             Format::Binary(reader) => reader.carry(piece, writer, out),
+            Format::Text(reader) => writer.put_visited(out, reader, piece),
             _ => None,
         }
     }
