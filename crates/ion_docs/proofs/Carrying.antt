@@ -16,13 +16,11 @@ use Rattle.ion_binary.specs.Writing.{Writing}
 use Rattle.ion_text.specs.Carrying as text
 use Rattle.ion_text.specs.Output as text_output
 use Rattle.ion_text.specs.Output.{text_of}
-use Rattle.ion_streams.specs.declared.source.Source.{Source}
+use Rattle.ion_streams.specs.declared.source.Standing.{Standing}
 use Rattle.ion_docs.specs.declared.writers.Encoder.{Ghosts as Encoder}
 use Rattle.ion_docs.specs.Encodings.{TookBehind, TookSomeBehind, IsPuttingFault, binary_encoding, text_encoding}
 use Rattle.ion_docs.specs.laws.Encodings.{puts_one, behind_one, binary_fault, text_one, text_fault}
-use Rattle.ion_streams.specs.reading.Alongside.{WentPast}
-use Rattle.ion_streams.specs.reading.Read.{IsWithin, Reads}
-use Rattle.ion_streams.proofs.Steps.{plain_next, reads_went}
+use Rattle.ion_streams.specs.reading.Standing.{Stood}
 
 pub some_each : {A : Type 0} {P Q : A → Type 0} (o : Option A) → ((x : A) → P x → Q x) → IfSome o P → IfSome o Q
 some_each None f p = tt
@@ -74,17 +72,6 @@ module _ {T : Type 0} (W : Outlet T) (old new : Option Fault) (before now : T) (
 
 -- where a conversion stands: these values were read and put, one after another
 module _ {S X Y T : Type 0} (R : Inlet S) (I : Items X) (E : Encoder Y) (W : Outlet T) (g : Catalog) (l : Limits) (first : S) (device : T) where
-  abbrev pub Done : S → ℕ → Source X → Y → T → Type 0
-  Done now values source encoder writer =
-      (s : List Value) × Reads R I g l first now source s × (length s ≡ values) × E.has_put encoder s × Took W.took W.written device writer (E.puts s) × AreKept s
-
-  -- one more was read
-  pub reads_past : (now : S) (before after : Source X) (v : Value) (s : List Value) → WentPast I before after v → Reads R I g l first now before s → Reads R I g l first now after (s ++ v ∷ [])
-  reads_past now before after v s past h = record {
-    given = h.given ++ (v, after.used) ∷ [];
-    each = reads_went R I g l first now before after h.given (Some v) h.each past.went past.under past.within;
-    values = plain_next h.given (Some (v, after.used)) (Some v) s h.values refl;
-  }
-
-pub within_past : {S X : Type 0} (R : Inlet S) (I : Items X) (reads : ℕ) (first now : S) (before after : Source X) (v : Value) → WentPast I before after v → IsWithin R reads first now before → IsWithin R reads first now after
-within_past R I reads first now before after v past w = let rest = w.rest in record { made = w.made; were = w.were; rest = omega (arith, rest, past.reads) }
+  abbrev pub Done : S → ℕ → Standing X → Y → T → Type 0
+  Done now values place encoder writer =
+      (s : List Value) × Stood R I g l first now place s × (length s ≡ values) × E.has_put encoder s × Took W.took W.written device writer (E.puts s) × AreKept s

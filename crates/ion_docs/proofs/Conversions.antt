@@ -12,10 +12,9 @@ use Rattle.ion_symtab.specs.declared.inlet.Inlet.{Ghosts as Inlet}
 use Rattle.ion_symtab.specs.declared.items.Items.{Ghosts as Items}
 use Rattle.ion_symtab.specs.declared.outlet.Outlet.{Ghosts as Outlet}
 use Rattle.ion_streams.specs.reading.Read.{left_of}
-use Rattle.ion_streams.specs.Checked.{counted}
 use Rattle.ion_docs.specs.Conversion.{WritesKept}
 use Rattle.ion_streams.specs.Formats.{format_of}
-use Rattle.ion_streams.specs.reading.Standing.{IfOpen, Stood}
+use Rattle.ion_streams.specs.reading.Standing.{IfOpen, Stood, answered}
 use Rattle.ion_streams.specs.declared.source.Standing.{Standing}
 use Rattle.ion_streams.specs.declared.source.Standing.TheVariants as TheStanding
 use Rattle.ion_docs.specs.Converted.{ReadSoFar, in_reading, at_refusal, at_end, IsConverted, IsConvertCause}
@@ -87,13 +86,13 @@ module _ {S X : Type 0} (R : Inlet S) (I : Items X) (g : Catalog) (l : Limits) w
 -- the end, wherever it leaves the document
 module _ {S X T : Type 0} (R : Inlet S) (I : Items X) (W : Outlet T) (E : Encoding) (g : Catalog) (l : Limits) where
   pub converted_at : (first now : S) (old new : T) (place : Standing X) (s : List Value) (values : ℕ) → IfOpen place (λ source. ⊥) → length s ≡ values → Stood R I g l first now place s → Took W.took W.written old new (E.document s) →
-      IsConverted R W E (format_of I g l) first now old new (counted values false place)
+      IsConverted R W E (format_of I g l) first now old new (answered place values)
   converted_at first now old new (TheStanding.Open source) s values closed count h took = absurd closed
-  converted_at first now old new TheStanding.Ended s values closed count h took = (s, h, omega (arith, count), took)
+  converted_at first now old new TheStanding.Ended s values closed count h took = (s, h, count, took)
   converted_at first now old new (TheStanding.Refused refusal) s values closed count h took = (s, h, took)
 
   pub kept_at : (first now : S) (old new : T) (place : Standing X) (s : List Value) (values : ℕ) → IfOpen place (λ source. ⊥) → AreKept s → Stood R I g l first now place s → Took W.took W.written old new (E.document s) →
-      WritesKept R W E (format_of I g l) first now old new (counted values false place)
+      WritesKept R W E (format_of I g l) first now old new (answered place values)
   kept_at first now old new (TheStanding.Open source) s values closed kept h took = absurd closed
   kept_at first now old new TheStanding.Ended s values closed kept h took = (s, h, kept, took)
   kept_at first now old new (TheStanding.Refused refusal) s values closed kept h took = (s, h, kept, took)

@@ -1,15 +1,13 @@
 //! How values get from a reader to an encoder.
 ghost use Rattle.std.specs.Prelude.{◌≡◌, ◌+◌, ◌<◌, ◌^◌, length, IfSome, IsNone};
 ghost use Rattle.ion_model.specs.declared.value.Value.{Value};
-ghost use Rattle.ion_streams.specs.reading.Alongside.{WentPast};
-ghost use Rattle.ion_streams.specs.reading.Read.{IsReady};
 ghost use Rattle.ion_symtab.specs.TookUp.{TookUp};
 ghost use Rattle.ion_docs.specs.Carried.{PutValue};
 
 use crate::doc_reader::DocReader;
 use crate::writers::Encoder;
 use ion_binary::{BinaryWriter, Carried};
-use ion_streams::Source;
+use ion_streams::Carry;
 use ion_symtab::{Fault, Items, Outlet};
 use ion_text::TextWriter;
 use std::hash::BuildHasher;
@@ -71,23 +69,21 @@ impl Carrier<DocReader<'_>, TextWriter> for Transcribing {
     }
 }
 
-/// Goes past the next value of a document where the carrier puts it without building it: what the encoder
-/// answered. `None`, with all as it was, where it doesn't.
-pub(crate) fn carry<C: Carrier<I, E>, E: Encoder, I: Items + Drop, W: Outlet>(
-    source: &mut Source<I>,
-    encoder: &mut E,
-    out: &mut W,
-) -> Option<Result<(), Fault>>
-    requires ready { IsReady I.Items source.old }
-    ensures carries { IfSome result (λ written. (v : Value)
-        × WentPast I.Items source.old source.new v
-        × PutValue E.Encoder W.Outlet encoder.old encoder.new out.old out.new v written) }
-    ensures stays { IsNone result →
-        (source.new ≡ source.old) × (encoder.new ≡ encoder.old) × (out.new ≡ out.old) }
-{
-    let piece = &source.piece[source.at..source.end];
-    let carried = C::carry(&mut source.items, piece, encoder, out)?;
-    source.at += carried.used;
-    source.used += carried.used as u64;
-    Some(carried.written)
+/// Values are carried as `C` carries them.
+pub(crate) struct By<C>(C);
+
+impl<C: Carrier<I, E>, I: Items, E: Encoder, W: Outlet> Carry<I, E, W> for By<C> {
+    ghost use Rattle.ion_docs.specs.Carried.{PutValue};
+
+    ghost puts = { PutValue E.Encoder W.Outlet };
+
+    fn carry(
+        items: &mut I,
+        piece: &[u8],
+        encoder: &mut E,
+        out: &mut W,
+    ) -> Option<(usize, Result<(), Fault>)> {
+        let carried = C::carry(items, piece, encoder, out)?;
+        Some((carried.used, carried.written))
+    }
 }

@@ -1,82 +1,17 @@
 //! The conversion of documents.
 ghost use Rattle.std.specs.Prelude.{◌≡◌, ℕ, ◌+◌, ◌*◌, ◌++◌, ◌^◌, ◌<◌, ◌≤◌, ◌⊎◌, List, [], length, false, IfOk, IfErr, OnOk, OnErr, option_to_list};
-ghost use Rattle.ion_model.specs.declared.value.Value.{Value as AnyValue};
-ghost use Rattle.ion_model.specs.Kept.{AreKept};
 ghost use Rattle.ion_symtab.specs.Cause.{IsReadCause};
-ghost use Rattle.ion_docs.specs.Encodings.{TookBehind, TookSomeBehind, IsPuttingFault};
-ghost use Rattle.ion_streams.specs.Checked.{counted as total};
 ghost use Rattle.ion_streams.specs.Formats.{format_of};
 ghost use Rattle.ion_streams.specs.reading.Read.{IsFresh};
 ghost use Rattle.ion_docs.specs.Conversion.{WritesKept};
 ghost use Rattle.ion_docs.specs.Converted.{IsConverted, ReadSoFar, ConvertsSoFar, IsConvertCause};
 
-use crate::carriers::{Building, Carrier, carry};
+use crate::carriers::{Building, By, Carrier};
 use crate::writers::Encoder;
 use ion_model::{Refusal, Value};
-use ion_streams::{Reached, Source, Standing, counted, last, value_of};
+use ion_streams::{Source, Standing};
 use ion_symtab::{Fault, Inlet, Items, Outlet};
 use std::alloc::Global;
-
-/// Puts the next value, if there is one, and counts it.
-fn convert_next<E: Encoder, W: Outlet>(
-    encoder: &mut E,
-    writer: &mut W,
-    values: u64,
-    value: Option<Value>,
-) -> Result<u64, Fault>
-    requires room { values + 1 < 2 ^ 64 }
-    ensures count { IfOk result (λ n. n ≡ values + length (option_to_list value)) }
-    ensures kept { OnOk result (AreKept (option_to_list value)) }
-    ensures wrote { OnOk result ((s : List AnyValue) → E.has_put encoder.old s →
-        TookBehind W.Outlet writer.old writer.new
-        (E.puts s) (E.puts (s ++ option_to_list value))) }
-    ensures put { OnOk result ((s : List AnyValue) → E.has_put encoder.old s →
-        E.has_put encoder.new (s ++ option_to_list value)) }
-    ensures front { OnErr result ((s : List AnyValue) → E.has_put encoder.old s →
-        TookSomeBehind W.Outlet writer.old writer.new
-        (E.puts s) (E.puts (s ++ option_to_list value))) }
-    ensures cause { (s : List AnyValue) → E.has_put encoder.old s → IfErr result
-        (IsPuttingFault E.encoding (s ++ option_to_list value) (W.has_failed writer.new)) }
-{
-    match value {
-        None => Ok(values),
-        Some(value) => {
-            let put = encoder.put(writer, &value);
-            drop(value);
-            put?;
-            Ok(values + 1)
-        }
-    }
-}
-
-/// Puts the value that the end showed, if there is one, and ends what is written: how many values there
-/// are, or the refusal of the end.
-fn convert_last<E: Encoder + Drop, I, W: Outlet>(
-    mut encoder: E,
-    writer: &mut W,
-    values: u64,
-    place: &Standing<I>,
-    value: Option<Value>,
-) -> Result<Result<u64, Refusal>, Fault>
-    requires room { values + 2 < 2 ^ 64 }
-    ensures count { IfOk result (λ answer.
-        answer ≡ total (values + length (option_to_list value)) false place.now) }
-    ensures kept { OnOk result (AreKept (option_to_list value)) }
-    ensures wrote { OnOk result ((s : List AnyValue) → E.has_put encoder s →
-        TookBehind W.Outlet writer.old writer.new
-        (E.puts s) (E.encoding.document (s ++ option_to_list value))) }
-    ensures passed_on { OnOk result (W.passed writer.new ≡ W.written writer.new) }
-    ensures no_write_failed { OnOk result (W.has_failed writer.new ≡ false) }
-    ensures front { OnErr result ((s : List AnyValue) → E.has_put encoder s →
-        TookSomeBehind W.Outlet writer.old writer.new
-        (E.puts s) (E.encoding.document (s ++ option_to_list value))) }
-    ensures cause { (s : List AnyValue) → E.has_put encoder s → IfErr result
-        (IsPuttingFault E.encoding (s ++ option_to_list value) (W.has_failed writer.new)) }
-{
-    let values = convert_next(&mut encoder, writer, values, value)?;
-    encoder.finish(writer)?;
-    Ok(counted(values, place, false))
-}
 
 /// Writes by `encoder` the document of the stream of a document, whose octets `items` reads from
 /// `reader` in at most `reads` calls. The answer is that of `check_items`.
@@ -149,11 +84,12 @@ pub(crate) fn convert_by<C: Carrier<I, E>, E: Encoder + Drop, I: Items + Drop, R
         (ReadSoFar R.Inlet I.Items (I.catalog items) (I.limits items) reader.old reader.new)
         (W.has_failed writer.new) fault) }
 {
-    let mut source = Source::new(alloc, items, reads)?;
+    let source = Source::new(alloc, items, reads)?;
+    let mut place = Standing::Open(source);
     let mut encoder = encoder;
     let mut values: u64 = 0;
     loop {
-        match carry::<C, E, I, W>(&mut source, &mut encoder, writer) {
+        match place.carry::<By<C>, E, W>(&mut encoder, writer) {
             None => {}
             Some(Err(fault)) => return Err(fault),
             Some(Ok(())) => {
@@ -161,20 +97,16 @@ pub(crate) fn convert_by<C: Carrier<I, E>, E: Encoder + Drop, I: Items + Drop, R
                 continue;
             }
         }
-        match source.read_on(reader)? {
-            Reached::Value(value) => {
-                values = convert_next(&mut encoder, writer, values, Some(value))?;
-            }
-            Reached::Refused(refusal) => {
-                encoder.finish(writer)?;
-                return Ok(Err(refusal));
-            }
-            Reached::End => {
-                let (place, found) = last(source)?;
-                let converted = convert_last(encoder, writer, values, &place, value_of(found));
-                drop(place);
-                return converted;
+        match place.advance::<Value, R>(reader)? {
+            None => break,
+            Some((value, _)) => {
+                let put = encoder.put(writer, &value);
+                drop(value);
+                put?;
+                values += 1;
             }
         }
     }
+    encoder.finish(writer)?;
+    Ok(place.answer(values))
 }

@@ -2,6 +2,7 @@
 //! equivalent streams, and the conversion of one.
 #![tactic(auto)]
 
+mod all_values;
 mod alongside;
 mod carriers;
 mod catalogs;
@@ -11,7 +12,6 @@ mod documents;
 pub mod laws;
 mod memory;
 mod paths;
-mod all_values;
 mod writers;
 
 pub use catalogs::load_catalog;
@@ -21,8 +21,8 @@ pub use documents::{check, compare, convert, convert_with_hasher, show};
 pub use ion_streams::{
     Side, Verdict, check_items, compare_items, load_items, read_items, read_octets, show_items,
 };
+pub use all_values::{read_all, read_document};
 pub use ion_symtab::Target;
 pub use memory::in_memory;
 pub use paths::{PathText, path_text, spelling_of_path};
-pub use all_values::{read_all, read_document};
 pub use writers::Encoder;

@@ -3,8 +3,10 @@ use Rattle.std.proofs.Common.{◌≡◌, ℕ, ◌+◌, List, [], ◌∷◌, ◌+
 use Rattle.ion_model.specs.declared.value.Value.{Value}
 use Rattle.ion_model.specs.Outlines.{outline_of}
 use Rattle.ion_model.specs.declared.outline.Outline.{Outline}
-use Rattle.ion_symtab.specs.Took.{Took, TookFront}
-use Rattle.ion_symtab.specs.laws.Took.{Took-trans, Front-behind, Front-more}
+use Rattle.std.proofs.lemmas.List.{map-append, length-map}
+use Rattle.ion_symtab.specs.Trace.{plain}
+use Rattle.ion_symtab.specs.Took.{TookFront}
+use Rattle.ion_symtab.specs.laws.Took.{Front-more}
 use Rattle.ion_symtab.specs.declared.catalog.Catalog.{Catalog}
 use Rattle.ion_symtab.specs.declared.limits.Limits.{Limits}
 use Rattle.ion_symtab.specs.declared.inlet.Inlet.{Ghosts as Inlet}
@@ -16,25 +18,19 @@ use Rattle.ion_streams.specs.reading.Standing.{Stood}
 use Rattle.ion_streams.specs.declared.source.Standing.{Standing}
 use Rattle.ion_streams.specs.declared.source.Standing.TheVariants as TheStanding
 
-pub lines_more : (index : ℕ) (s t : List Value) → lines_from index (s ++ t) ≡ lines_from index s ++ lines_from (index + length s) t
+lines_more : (index : ℕ) (s t : List Value) → lines_from index (s ++ t) ≡ lines_from index s ++ lines_from (index + length s) t
 lines_more index [] t = ap (λ n. lines_from n t) (omega arith)
 lines_more index (v ∷ s) t = ap (λ x. line_of index (outline_of v) ++ x) (lines_more (index + 1) s t) ∙ (sym (append_assoc (line_of index (outline_of v)) (lines_from (index + 1) s) (lines_from (index + 1 + length s) t))
     ∙ ap (λ n. (line_of index (outline_of v) ++ lines_from (index + 1) s) ++ lines_from n t) (omega arith))
 
--- the lines of what a document gave, and of one value more, if there is one
-pub lines_next : (s t : List Value) (n : ℕ) → length s ≡ n → lines_of s ++ lines_from (n + 1) t ≡ lines_of (s ++ t)
-lines_next s t n e = ap (λ k. lines_of s ++ lines_from k t) (let k : n + 1 ≡ 1 + length s = omega arith in k) ∙ sym (lines_more 1 s t)
-
--- the lines of one value
-pub line_alone : (index : ℕ) (v : Value) (o : Outline) → outline_of v ≡ o → line_of index o ≡ lines_from index (v ∷ [])
-line_alone index v o e = ap (line_of index) (sym e) ∙ sym (append-nil (line_of index (outline_of v)))
-
-module _ {T : Type 0} (W : Outlet T) where
-  pub wrote_next : (old mid new : T) (s t : List Value) (n : ℕ) → length s ≡ n → Took W.took W.written old mid (lines_of s) → Took W.took W.written mid new (lines_from (n + 1) t) → Took W.took W.written old new (lines_of (s ++ t))
-  wrote_next old mid new s t n e h k = subst (λ (x : List ℕ). Took W.took W.written old new x) (lines_next s t n e) (Took-trans W.took W.written old mid new (lines_of s) (lines_from (n + 1) t) h k)
-
-  pub front_next : (old mid new : T) (s t : List Value) (n : ℕ) → length s ≡ n → Took W.took W.written old mid (lines_of s) → TookFront W.took W.written mid new (lines_from (n + 1) t) → TookFront W.took W.written old new (lines_of (s ++ t))
-  front_next old mid new s t n e h k = subst (λ (x : List ℕ). TookFront W.took W.written old new x) (lines_next s t n e) (Front-behind W.took W.written old mid new (lines_of s) (lines_from (n + 1) t) h k)
+-- the lines of what a document gave, and of one value more, of which this is told
+pub line_next : (given : List (Value × ℕ)) (v : Value) (total : ℕ) (o : Outline) (n : ℕ) → length given ≡ n → outline_of v ≡ o → lines_of (plain given) ++ line_of (n + 1) o ≡ lines_of (plain (given ++ (v, total) ∷ []))
+line_next given v total o n count told =
+    let all : plain (given ++ (v, total) ∷ []) ≡ plain given ++ v ∷ [] = map-append (λ (x : Value × ℕ). x.0) given ((v, total) ∷ []) in
+    let same : length (plain given) ≡ n = length-map given (λ (x : Value × ℕ). x.0) ∙ count in
+    let index : n + 1 ≡ 1 + length (plain given) = omega (arith, same) in
+    let line : line_of (n + 1) o ≡ lines_from (1 + length (plain given)) (v ∷ []) = ap (line_of (n + 1)) (sym told) ∙ (ap (λ (k : ℕ). line_of k (outline_of v)) index ∙ sym (append-nil (line_of (1 + length (plain given)) (outline_of v)))) in
+    ap (λ x. lines_of (plain given) ++ x) line ∙ (sym (lines_more 1 (plain given) (v ∷ [])) ∙ ap lines_of (sym all))
 
 module _ {S X T : Type 0} (R : Inlet S) (I : Items X) (W : Outlet T) (g : Catalog) (l : Limits) where
   -- a front of the lines so far, wherever the document stands

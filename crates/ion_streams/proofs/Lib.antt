@@ -4,6 +4,8 @@ pub mod Endings
 pub mod Steps
 pub mod Wholes
 pub mod Passes
+pub mod Driven
+pub mod Shown
 pub mod Courses
 pub mod Alongside
 pub mod Fronts

@@ -1,76 +1,115 @@
--- A document that is read without its values.
-use Rattle.std.proofs.Common.{◌≡◌, ℕ, List, [], ◌∷◌, ◌++◌, ap, ◌∙◌, arith, Bool, true, ◌+◌, length, if◌then◌else◌, Result, Ok, Err, IfOk, IfErr, Option, Some, None, option_map, option_to_list, length-append}
-use Rattle.std.proofs.lemmas.List.{length-map}
-use Rattle.std.specs.Option.{is_some}
+-- What is told of the values of a document.
+use Rattle.std.proofs.Common.{◌≡◌, ◌+◌, ℕ, List, [], ◌∷◌, ◌++◌, Result, Ok, Err, IfOk, IfErr, Option, Some, None, option_map, option_to_list, length, refl, ap, sym, subst, ◌∙◌, append-nil}
 use Rattle.std.proofs.lemmas.Option.{same_Some}
-use Rattle.ion_model.specs.Outlines.{outline_of}
-use Rattle.ion_model.specs.declared.outline.Outline.{Outline}
 use Rattle.ion_model.specs.declared.value.Value.{Value}
-use Rattle.ion_atoms.specs.declared.refusal.Refusal.{Refusal}
 use Rattle.ion_symtab.specs.declared.catalog.Catalog.{Catalog}
 use Rattle.ion_symtab.specs.declared.limits.Limits.{Limits}
 use Rattle.ion_symtab.specs.declared.inlet.Inlet.{Ghosts as Inlet}
 use Rattle.ion_symtab.specs.declared.items.Items.{Ghosts as Items}
-use Rattle.ion_symtab.specs.Trace.{plain, given_at}
-use Rattle.ion_streams.specs.Formats.{format_of}
-use Rattle.ion_streams.specs.reading.Read.{left_of, Went, GaveEach, ReadsEach}
-use Rattle.ion_streams.specs.Outcomes.{EndsWell, EndsRefused, ToldRefusedEach}
-use Rattle.ion_streams.specs.reading.Standing.{IfOpen, MatchClosed, Stood}
-use Rattle.ion_streams.specs.Checked.{IsChecked, counted}
+use Rattle.ion_symtab.specs.Trace.{given_at}
+use Rattle.ion_streams.specs.reading.Read.{left_of, Went, ReadsEach}
 use Rattle.ion_streams.specs.reading.Reached.{Reaches}
+use Rattle.ion_streams.specs.reading.Standing.{IfClosed, IfRefused, Stood, StoodEach, GaveNext}
 use Rattle.ion_streams.specs.declared.source.Reached.TheVariants.{Value as AValue}
 use Rattle.ion_streams.specs.declared.source.Source.{Source}
 use Rattle.ion_streams.specs.declared.source.Standing.{Standing}
-use Rattle.ion_streams.specs.declared.source.Standing.TheVariants as TheStanding
-use Rattle.ion_streams.proofs.Steps.{reads_by, last_gives, stood_plain}
+use Rattle.ion_streams.specs.declared.source.Standing.TheVariants.{Open, Ended, Refused}
+use Rattle.ion_symtab.specs.declared.fault.Fault.{Fault}
+use Rattle.ion_streams.proofs.Steps.{reads_by, plain_next, stood_plain}
 
-length_found : (given : List (Value × ℕ)) (found : Option (Value × ℕ)) (values : ℕ) (some : Bool) → length given ≡ values → some ≡ is_some found → length (given ++ option_to_list found) ≡ values + (if some then 1 else 0)
-length_found given None values some h e = omega (arith, length-append given [], h, ap {B = ℕ} (λ (b : Bool). if b then 1 else 0) e)
-length_found given (Some x) values some h e = omega (arith, length-append given (x ∷ []), h, ap {B = ℕ} (λ (b : Bool). if b then 1 else 0) e)
+-- of a value itself
+pub told_itself : (value : Option Value) → option_map (λ (v : Value). v) value ≡ value
+told_itself None = refl
+told_itself (Some v) = refl
 
-module _ {X : Type 0} (I : Items X) (source after : Source X) where
-  without : (u : List ℕ) (given : List (Value × ℕ)) (value : Option Value) → option_map outline_of value ≡ None → Went I u given (left_of source) after value → Went I u given (left_of source) after None
+module _ {X A : Type 0} (of : Value → A) (I : Items X) (source after : Source X) where
+  without : (u : List ℕ) (given : List (Value × ℕ)) (value : Option Value) → option_map of value ≡ None → Went I u given (left_of source) after value → Went I u given (left_of source) after None
   without u given None e h = h
   without u given (Some v) e h = absurd cc
 
   -- where there was no value
-  pub none_went : (outline : Option Outline) → outline ≡ None → ((u : List ℕ) (given : List (Value × ℕ)) → I.stands source.items u given → (value : Option Value) × (option_map outline_of value ≡ outline) × Went I u given (left_of source) after value) →
+  pub none_went : (found : Option A) → found ≡ None → ((u : List ℕ) (given : List (Value × ℕ)) → I.stands source.items u given → (value : Option Value) × (option_map of value ≡ found) × Went I u given (left_of source) after value) →
       (u : List ℕ) (given : List (Value × ℕ)) → I.stands source.items u given → Went I u given (left_of source) after None
-  none_went outline e go u given h = let w = go u given h in without u given w.0 (w.1 ∙ e) w.2
+  none_went found e go u given h = let w = go u given h in without u given w.0 (w.1 ∙ e) w.2
 
-module _ {S X : Type 0} (R : Inlet S) (I : Items X) (g : Catalog) (l : Limits) where
-  one_more : (first now : S) (after : Source X) (given : List (Value × ℕ)) (outline : Outline) (value : Option Value) → option_map outline_of value ≡ Some outline → ReadsEach R I g l first now after (given ++ given_at value after.used) →
-      Reaches outline_of R I g l first now after given (AValue outline)
-  one_more first now after given outline None e h = absurd cc
-  one_more first now after given outline (Some v) e h = (v, same_Some _ _ e, h)
+module _ {S X A : Type 0} (of : Value → A) (R : Inlet S) (I : Items X) (g : Catalog) (l : Limits) where
+  one_more : (first now : S) (after : Source X) (given : List (Value × ℕ)) (found : A) (value : Option Value) → option_map of value ≡ Some found → ReadsEach R I g l first now after (given ++ given_at value after.used) →
+      Reaches of R I g l first now after given (AValue found)
+  one_more first now after given found None e h = absurd cc
+  one_more first now after given found (Some v) e h = (v, same_Some _ _ e, h)
 
-  -- a value was passed over
-  pub passes_on : (first now : S) (source after : Source X) (given : List (Value × ℕ)) (outline : Outline) → ReadsEach R I g l first now source given →
-      ((u : List ℕ) (given : List (Value × ℕ)) → I.stands source.items u given → (value : Option Value) × (option_map outline_of value ≡ Some outline) × Went I u given (left_of source) after value) →
-      I.catalog after.items ≡ I.catalog source.items → I.limits after.items ≡ I.limits source.items → Reaches outline_of R I g l first now after given (AValue outline)
-  passes_on first now source after given outline h go under within =
+  -- one more was found
+  pub passes_on : (first now : S) (source after : Source X) (given : List (Value × ℕ)) (found : A) → ReadsEach R I g l first now source given →
+      ((u : List ℕ) (given : List (Value × ℕ)) → I.stands source.items u given → (value : Option Value) × (option_map of value ≡ Some found) × Went I u given (left_of source) after value) →
+      I.catalog after.items ≡ I.catalog source.items → I.limits after.items ≡ I.limits source.items → Reaches of R I g l first now after given (AValue found)
+  passes_on first now source after given found h go under within =
       let w = go h.u given h.stood in
-      one_more first now after given outline w.0 w.1 (reads_by R I g l first now source after given w.0 h w.2 under within)
+      one_more first now after given found w.0 w.1 (reads_by R I g l first now source after given w.0 h w.2 under within)
 
-  -- the document is none
-  pub passes_refused : (first now : S) (given : List (Value × ℕ)) (r : Refusal) → ToldRefusedEach R (format_of I g l) first now given r → IsChecked R (format_of I g l) first now (Err r)
-  passes_refused first now given r h = (plain given, stood_plain R I g l first now (TheStanding.Refused r) given h)
+  -- the end gave what is told
+  pub gave_last : (first now : S) (place : Standing X) (given : List (Value × ℕ)) (last : Option (Value × ℕ)) → IfRefused place (last ≡ None) → StoodEach R I g l first now place (given ++ option_to_list last) →
+      GaveNext of R I g l first now place given (option_map (λ (next : Value × ℕ). (of next.0, next.1)) last)
+  gave_last first now place given None none h = subst (λ (x : List (Value × ℕ)). StoodEach R I g l first now place x) (append-nil given) h
+  gave_last first now (Open source) given (Some next) none h = (next.0, refl, h, tt)
+  gave_last first now Ended given (Some next) none h = (next.0, refl, h, tt)
+  gave_last first now (Refused refusal) given (Some next) none h = absurd cc
 
-  checked_at : (first now : S) (place : Standing X) (all : List Value) (values : ℕ) (some : Bool) → IfOpen place (λ source. ⊥) → length all ≡ values + (if some then 1 else 0) →
-      Stood R I g l first now place all → IsChecked R (format_of I g l) first now (counted values some place)
-  checked_at first now (TheStanding.Open source) all values some closed count h = absurd closed
-  checked_at first now TheStanding.Ended all values some closed count h = (all, h, count)
-  checked_at first now (TheStanding.Refused refusal) all values some closed count h = (all, h)
+  -- no more was found
+  pub gave_none : (first now : S) (place : Standing X) (given : List (Value × ℕ)) (found : Option (A × ℕ)) → found ≡ None → GaveNext of R I g l first now place given found → StoodEach R I g l first now place given
+  gave_none first now place given None none h = h
+  gave_none first now place given (Some next) none h = absurd cc
 
-  -- the end, which may have shown a value
-  pub passes_end : (first now : S) (source : Source X) (place : Standing X) (found : Option (Value × ℕ)) (given : List (Value × ℕ)) (values : ℕ) (some : Bool) → length given ≡ values → some ≡ is_some found → left_of source ≡ [] → IfOpen place (λ source. ⊥) →
-      ((u : List ℕ) (given : List (Value × ℕ)) → I.stands source.items u given → MatchClosed place (EndsWell (format_of I (I.catalog source.items) (I.limits source.items)) u (given ++ option_to_list found))
-      (λ r. (found ≡ None) × EndsRefused (format_of I (I.catalog source.items) (I.limits source.items)) u given r)) →
-      GaveEach R I g l first now source.items (left_of source) true given → IsChecked R (format_of I g l) first now (counted values some place)
-  passes_end first now source place found given values some count same empty closed ends h =
-      checked_at first now place (plain (given ++ option_to_list found)) values some closed
-      (length-map (given ++ option_to_list found) (λ (x : Value × ℕ). x.0) ∙ length_found given found values some count same)
-      (stood_plain R I g l first now place (given ++ option_to_list found) (last_gives R I g l first now source given place found empty ends h))
+-- the value itself was found
+pub gave_itself : {S X : Type 0} (R : Inlet S) (I : Items X) (g : Catalog) (l : Limits) (first now : S) (place : Standing X) (given : List (Value × ℕ)) (found : Value × ℕ) → GaveNext (λ (v : Value). v) R I g l first now place given (Some found) →
+    StoodEach R I g l first now place (given ++ found ∷ [])
+gave_itself R I g l first now place given found h = subst (λ (v : Value). StoodEach R I g l first now place (given ++ (v, found.1) ∷ [])) h.1 h.2
+
+-- the values alone, where the values themselves are asked for
+module _ {S X : Type 0} (R : Inlet S) (I : Items X) (g : Catalog) (l : Limits) where
+  gave_all : (first now : S) (place : Standing X) (given : List (Value × ℕ)) (found : Option (Value × ℕ)) → GaveNext (λ (v : Value). v) R I g l first now place given found → StoodEach R I g l first now place (given ++ option_to_list found)
+  gave_all first now place given None h = subst (λ (x : List (Value × ℕ)). StoodEach R I g l first now place x) (sym (append-nil given)) h
+  gave_all first now place given (Some found) h = gave_itself R I g l first now place given found h
+
+  stays_plain : (first old now : S) (place after : Standing X) (s : List Value) (value : Option Value) → value ≡ None → now ≡ old → after ≡ place → Stood R I g l first old place s → Stood R I g l first now after (s ++ option_to_list value)
+  stays_plain first old now place after s value none same kept h = rw (none, same, kept, append-nil s) h
+
+  pub stood_next : (first old now : S) (place after : Standing X) (s : List Value) (found : Option (Value × ℕ)) (value : Option Value) → value ≡ option_map (λ (x : Value × ℕ). x.0) found →
+      IfClosed place ((◌≡◌ {A = Result (Option (Value × ℕ)) Fault} (Ok found) (Ok None)) × (now ≡ old) × (after ≡ place)) →
+      ((given : List (Value × ℕ)) → StoodEach R I g l first old place given → GaveNext (λ (v : Value). v) R I g l first now after given found) → Stood R I g l first old place s → Stood R I g l first now after (s ++ option_to_list value)
+  stood_next first old now (Open source) after s found value is closed gives h =
+      subst (λ (x : List Value). Stood R I g l first now after x) (plain_next h.given found value s h.values (sym is))
+      (stood_plain R I g l first now after (h.given ++ option_to_list found) (gave_all first now after h.given found (gives h.given h.each)))
+  stood_next first old now Ended after s found value is closed gives h =
+      let none : found ≡ None = let e = closed.0 in cc in
+      stays_plain first old now Ended after s value (is ∙ ap (option_map (λ (x : Value × ℕ). x.0)) none) closed.1 closed.2 h
+  stood_next first old now (Refused refusal) after s found value is closed gives h =
+      let none : found ≡ None = let e = closed.0 in cc in
+      stays_plain first old now (Refused refusal) after s value (is ∙ ap (option_map (λ (x : Value × ℕ). x.0)) none) closed.1 closed.2 h
+
+  pub stood_still : (first old now : S) (place after : Standing X) (s : List Value) (found : Option (Value × ℕ)) → found ≡ None →
+      IfClosed place ((◌≡◌ {A = Result (Option (Value × ℕ)) Fault} (Ok found) (Ok None)) × (now ≡ old) × (after ≡ place)) →
+      ((given : List (Value × ℕ)) → StoodEach R I g l first old place given → GaveNext (λ (v : Value). v) R I g l first now after given found) → Stood R I g l first old place s → Stood R I g l first now after s
+  stood_still first old now place after s found none closed gives h =
+      subst (λ (x : List Value). Stood R I g l first now after x) (append-nil s)
+      (stood_next first old now place after s found None (ap (λ (x : Option (Value × ℕ)). option_map (λ (y : Value × ℕ). y.0) x) (sym none)) closed gives h)
+
+  -- a document that gave a value isn't refused
+  pub not_refused : (first old now : S) (place after : Standing X) (s : List Value) (found : Value × ℕ) → IfClosed place ((◌≡◌ {A = Result (Option (Value × ℕ)) Fault} (Ok (Some found)) (Ok None)) × (now ≡ old) × (after ≡ place)) →
+      ((given : List (Value × ℕ)) → StoodEach R I g l first old place given → GaveNext (λ (v : Value). v) R I g l first now after given (Some found)) → Stood R I g l first old place s → IfRefused after ⊥
+  not_refused first old now (Open source) after s found closed gives h = (gives h.given h.each).3
+  not_refused first old now Ended after s found closed gives h = let e = closed.0 in absurd cc
+  not_refused first old now (Refused refusal) after s found closed gives h = let e = closed.0 in absurd cc
+
+-- a document that is closed stays as it is, and gives nothing
+pub closed_same : {S X : Type 0} (old now : S) (place after : Standing X) (found : Option (Value × ℕ)) (value : Option Value) → value ≡ option_map (λ (x : Value × ℕ). x.0) found →
+    IfClosed place ((◌≡◌ {A = Result (Option (Value × ℕ)) Fault} (Ok found) (Ok None)) × (now ≡ old) × (after ≡ place)) → IfClosed place ((after ≡ place) × (value ≡ None))
+closed_same old now (Open source) after found value is h = tt
+closed_same old now Ended after found value is h = let none : found ≡ None = let e = h.0 in cc in (h.2, is ∙ ap (option_map (λ (x : Value × ℕ). x.0)) none)
+closed_same old now (Refused refusal) after found value is h = let none : found ≡ None = let e = h.0 in cc in (h.2, is ∙ ap (option_map (λ (x : Value × ℕ). x.0)) none)
+
+pub none_of : (found : Option (Value × ℕ)) (value : Option Value) → value ≡ option_map (λ (x : Value × ℕ). x.0) found → value ≡ None → found ≡ None
+none_of None value is none = refl
+none_of (Some x) value is none = let e = sym is ∙ none in absurd cc
 
 -- what follows for an answer that isn't known
 

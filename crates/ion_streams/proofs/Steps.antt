@@ -14,7 +14,7 @@ use Rattle.ion_symtab.specs.laws.Causes.{WereMade-nil}
 use Rattle.ion_streams.specs.Formats.{format_of}
 use Rattle.ion_streams.specs.reading.Read.{left_of, Begins, IsReady, IsWithin, Went, GaveEach, GaveSoFar, Reads, ReadsEach}
 use Rattle.ion_streams.specs.Outcomes.{EndsWell, EndsRefused, ToldDocument, ToldRefused, ToldEach, ToldRefusedEach}
-use Rattle.ion_streams.specs.reading.Standing.{IfOpen, MatchClosed, work_of, reads_of, Stood, StoodEach}
+use Rattle.ion_streams.specs.reading.Standing.{IfOpen, IfRefused, MatchClosed, work_of, reads_of, Stood, StoodEach}
 use Rattle.ion_streams.specs.reading.Reached.{Reaches}
 use Rattle.ion_streams.specs.declared.source.Source.{Source}
 use Rattle.ion_streams.specs.declared.source.Reached.TheVariants.{Value as AValue}
@@ -125,68 +125,20 @@ module _ {S X : Type 0} (R : Inlet S) (I : Items X) (g : Catalog) (l : Limits) w
       subst (λ (x : List (Value × ℕ)). ToldRefusedEach R (format_of I g l) first now x r) (sym (ap (λ x. given ++ x) nothing ∙ append-nil given))
       (reads_stopped first now source.items (left_of source) given r h empty (λ u stood. (ended u given stood).1))
 
+  -- one that is refused gives nothing
+  pub last_refused : (first now : S) (source : Source X) (given : List (Value × ℕ)) (place : Standing X) (last : Option (Value × ℕ)) →
+      ((u : List ℕ) (given : List (Value × ℕ)) → I.stands source.items u given → MatchClosed place (EndsWell (format_of I (I.catalog source.items) (I.limits source.items)) u (given ++ option_to_list last))
+      (λ r. (last ≡ None) × EndsRefused (format_of I (I.catalog source.items) (I.limits source.items)) u given r)) →
+      GaveEach R I g l first now source.items (left_of source) true given → IfRefused place (last ≡ None)
+  last_refused first now source given (TheStanding.Open after) last ends h = tt
+  last_refused first now source given TheStanding.Ended last ends h = tt
+  last_refused first now source given (TheStanding.Refused r) last ends h = (ends h.u given h.stood).0
+
   -- the values alone, wherever the document stands
   pub stood_plain : (first now : S) (place : Standing X) (given : List (Value × ℕ)) → StoodEach R I g l first now place given → Stood R I g l first now place (plain given)
   stood_plain first now (TheStanding.Open source) given h = record { given = given; each = h; values = refl }
   stood_plain first now TheStanding.Ended given h = record { octets = h.octets; told = h.told; heard = h.heard; denoted = h.ends.denoted }
   stood_plain first now (TheStanding.Refused refusal) given h = record { octets = h.octets; ended = h.ended; heard = h.heard; refused = λ more may. (h.ends more may).refused }
-
-  -- a document that can't be read on and isn't refused was one
-  pub stood_ended : (first now : S) (place : Standing X) (s : List Value) → IfOpen place (λ source. ⊥) → ((r : Refusal) → place ≡ TheStanding.Refused r → ⊥) → Stood R I g l first now place s → ToldDocument R (format_of I g l) first now s
-  stood_ended first now (TheStanding.Open source) s closed other h = absurd closed
-  stood_ended first now TheStanding.Ended s closed other h = h
-  stood_ended first now (TheStanding.Refused r) s closed other h = absurd (other r refl)
-
-  -- the same with the total of octets used when each value came
-  pub each_ended : (first now : S) (place : Standing X) (given : List (Value × ℕ)) → IfOpen place (λ source. ⊥) → ((r : Refusal) → place ≡ TheStanding.Refused r → ⊥) → StoodEach R I g l first now place given → ToldEach R (format_of I g l) first now given
-  each_ended first now (TheStanding.Open source) given closed other h = absurd closed
-  each_ended first now TheStanding.Ended given closed other h = h
-  each_ended first now (TheStanding.Refused r) given closed other h = absurd (other r refl)
-
-  -- the values alone before a refusal
-  pub refused_plain : (first now : S) (refusal : Refusal) (given : List (Value × ℕ)) (s : List Value) → plain given ≡ s → ToldRefusedEach R (format_of I g l) first now given refusal → ToldRefused R (format_of I g l) first now s refusal
-  refused_plain first now refusal given s values h = subst (λ (x : List Value). ToldRefused R (format_of I g l) first now x refusal) values (stood_plain first now (TheStanding.Refused refusal) given h)
-
-  -- the values alone, also of one more
-  pub reads_more : {A : Type 0} (of : Value → A) (first old now : S) (source after : Source X) (s : List Value) (found : A) (h : Reads R I g l first old source s) → Reaches of R I g l first now after h.given (AValue found) →
-      (v : Value) × (of v ≡ found) × Reads R I g l first now after (s ++ v ∷ [])
-  reads_more of first old now source after s found h w =
-      (w.0, w.1, record { given = h.given ++ (w.0, after.used) ∷ []; each = w.2; values = plain_next h.given (Some (w.0, after.used)) (Some w.0) s h.values refl })
-
-  -- the next value is the one that is told
-  pub each_next : (first now : S) (after : Source X) (given : List (Value × ℕ)) (v : Value) → Reaches (λ (x : Value). x) R I g l first now after given (AValue v) →
-      ReadsEach R I g l first now after (given ++ (v, after.used) ∷ [])
-  each_next first now after given v w = subst (λ (x : Value). ReadsEach R I g l first now after (given ++ (x, after.used) ∷ [])) w.1 w.2
-
-  pub reads_next : (first old now : S) (source after : Source X) (s : List Value) (v : Value) (h : Reads R I g l first old source s) → Reaches (λ (x : Value). x) R I g l first now after h.given (AValue v) →
-      Reads R I g l first now after (s ++ v ∷ [])
-  reads_next first old now source after s v h w =
-      let more = reads_more (λ (x : Value). x) first old now source after s v h w in
-      subst (λ (x : Value). Reads R I g l first now after (s ++ x ∷ [])) more.1 more.2
-
-  -- the values alone, also of one that the end showed
-  pub stood_last : (first now : S) (source : Source X) (place : Standing X) (found : Option (Value × ℕ)) (value : Option Value) (given : List (Value × ℕ)) (s : List Value) → option_map (λ (x : Value × ℕ). x.0) found ≡ value → plain given ≡ s → left_of source ≡ [] →
-      ((u : List ℕ) (given : List (Value × ℕ)) → I.stands source.items u given → MatchClosed place (EndsWell (format_of I (I.catalog source.items) (I.limits source.items)) u (given ++ option_to_list found))
-      (λ r. (found ≡ None) × EndsRefused (format_of I (I.catalog source.items) (I.limits source.items)) u given r)) →
-      GaveEach R I g l first now source.items (left_of source) true given → Stood R I g l first now place (s ++ option_to_list value)
-  stood_last first now source place found value given s same values empty ends h =
-      subst (λ (x : List Value). Stood R I g l first now place x) (plain_next given found value s values same) (stood_plain first now place (given ++ option_to_list found) (last_gives first now source given place found empty ends h))
-
--- of a document that can't be read on
-pub closed_open : {X : Type 0} (place : Standing X) (P : Source X → Type 0) → IfOpen place (λ source. ⊥) → IfOpen place P
-closed_open (TheStanding.Open source) P closed = absurd closed
-closed_open TheStanding.Ended P closed = tt
-closed_open (TheStanding.Refused r) P closed = tt
-
-pub closed_work : {X : Type 0} (I : Items X) (place : Standing X) → IfOpen place (λ source. ⊥) → work_of I place ≡ 0
-closed_work I (TheStanding.Open source) closed = absurd closed
-closed_work I TheStanding.Ended closed = refl
-closed_work I (TheStanding.Refused r) closed = refl
-
-pub closed_reads : {X : Type 0} (place : Standing X) → IfOpen place (λ source. ⊥) → reads_of place ≡ 0
-closed_reads (TheStanding.Open source) closed = absurd closed
-closed_reads TheStanding.Ended closed = refl
-closed_reads (TheStanding.Refused r) closed = refl
 
 -- nothing was read yet
 pub each_begun : {S X : Type 0} (R : Inlet S) (I : Items X) (now : S) (source : Source X) (items : X) → I.stands items [] [] → source.items ≡ items → left_of source ≡ [] →
@@ -223,10 +175,6 @@ within_begun R now source reads e = record { made = 0; were = WereMade-nil R now
 -- a device that wasn't asked
 pub within_kept : {S X : Type 0} (R : Inlet S) (reads : ℕ) (first now : S) (source after : Source X) → after.reads ≡ source.reads → IsWithin R reads first now source → IsWithin R reads first now after
 within_kept R reads first now source after e w = record { made = w.made; were = w.were; rest = ap (λ (n : ℕ). w.made + n) e ∙ w.rest }
-
-pub one_at_most : (value : Option Value) → length (option_to_list value) ≤ 1
-one_at_most None = omega arith
-one_at_most (Some v) = omega arith
 
 pub length_more : (s : List Value) (value : Option Value) (n m : ℕ) → length s ≡ n → m ≡ n + length (option_to_list value) → length (s ++ option_to_list value) ≡ m
 length_more s value n m h e = length-append s (option_to_list value) ∙ (ap (λ k. k + length (option_to_list value)) h ∙ sym e)

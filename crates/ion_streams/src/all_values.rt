@@ -7,7 +7,7 @@ ghost use Rattle.ion_streams.specs.Formats.{format_of};
 ghost use Rattle.ion_streams.specs.reading.Read.{IsFresh};
 ghost use Rattle.ion_streams.specs.Outcomes.{IsRefused, ToldDocument, ToldRefused};
 
-use crate::source::{Reached, Source, Standing, last, value_of};
+use crate::source::{Source, Standing};
 use ion_model::{Reason, Refusal, Value};
 use ion_symtab::{Fault, Inlet, Items};
 use std::alloc::Global;
@@ -33,22 +33,13 @@ pub fn read_items<I: Items + Drop, R: Inlet>(
     ensures no_read_failed { OnOk result (R.has_failed reader.new ≡ false) }
     ensures cause { IfErr result (IsReadCause R.Inlet reads reader.old reader.new) }
 {
-    let mut source = Source::new(alloc, items, reads)?;
+    let source = Source::new(alloc, items, reads)?;
+    let mut place = Standing::Open(source);
     let mut values = Vec::new(alloc);
-    loop {
-        match source.read_on(reader)? {
-            Reached::Value(value) => keep_next(&mut values, Some(value))?,
-            Reached::Refused(refusal) => return Ok(Err(refusal)),
-            Reached::End => {
-                let (place, found) = last(source)?;
-                keep_next(&mut values, value_of(found))?;
-                if let Standing::Refused(refusal) = place {
-                    return Ok(Err(refusal));
-                }
-                return Ok(Ok(values));
-            }
-        }
+    while let Some((value, _)) = place.advance::<Value, R>(reader)? {
+        values.push(value)?;
     }
+    Ok(place.answer(values))
 }
 
 /// All values of a document in order, whose octets are these; or their refusal, where they are no document.

@@ -1,12 +1,12 @@
 //! Catalogs from documents.
-ghost use Rattle.std.specs.Prelude.{◌≡◌, ◌⊎◌, ◌+◌, ◌^◌, ◌≤◌, false, OnOk, IfOk, IfErr, MatchResult, Ok, Err, option_to_list, length, ◌*◌};
+ghost use Rattle.std.specs.Prelude.{◌≡◌, ◌⊎◌, ◌+◌, ◌^◌, ◌≤◌, false, OnOk, IfOk, IfErr, MatchResult, Ok, Err, [], ◌∷◌, length, ◌*◌};
 ghost use Rattle.ion_atoms.specs.declared.refusal.Reason.TheVariants as reasons;
 ghost use Rattle.ion_symtab.specs.Cause.{IsReadCause};
 ghost use Rattle.ion_streams.specs.Formats.{format_of};
 ghost use Rattle.ion_streams.specs.reading.Read.{IsFresh};
 ghost use Rattle.ion_streams.specs.Loaded.{added, catalog_of, IsLoaded};
 
-use crate::source::{Reached, Source, Standing, last};
+use crate::source::{Source, Standing};
 use ion_model::{Reason, Refusal, Value};
 use ion_symtab::{Catalog, Fault, Inlet, Items, SharedTable};
 use std::alloc::Global;
@@ -29,55 +29,36 @@ pub fn load_items<I: Items + Drop, R: Inlet>(
     ensures no_read_failed { OnOk result (R.has_failed reader.new ≡ false) }
     ensures cause { IfErr result (IsReadCause R.Inlet reads reader.old reader.new) }
 {
-    let mut source = Source::new(alloc, items, reads)?;
+    let source = Source::new(alloc, items, reads)?;
+    let mut place = Standing::Open(source);
     let mut catalog = Catalog::new(alloc);
-    loop {
-        match source.read_on(reader)? {
-            Reached::Value(value) => {
-                let found = Some((value, source.offset()));
-                if let Err(refusal) = add_found(alloc, &mut catalog, found)? {
-                    return Ok(Err(refusal));
-                }
-            }
-            Reached::Refused(refusal) => return Ok(Err(refusal)),
-            Reached::End => {
-                let (place, found) = last(source)?;
-                if let Err(refusal) = add_found(alloc, &mut catalog, found)? {
-                    return Ok(Err(refusal));
-                }
-                if let Standing::Refused(refusal) = place {
-                    return Ok(Err(refusal));
-                }
-                return Ok(Ok(catalog));
-            }
+    while let Some((value, offset)) = place.advance::<Value, R>(reader)? {
+        if let Err(refusal) = add_value(alloc, &mut catalog, value, offset)? {
+            return Ok(Err(refusal));
         }
     }
+    Ok(place.answer(catalog))
 }
 
-/// Adds the table of the next value, which came with so many octets, if there is one. `Memory` is the
-/// only fault.
-fn add_found(
+/// Adds the table of the next value, which came with so many octets. `Memory` is the only fault.
+fn add_value(
     alloc: Global,
     catalog: &mut Catalog,
-    found: Option<(Value, u64)>,
+    value: Value,
+    offset: u64,
 ) -> Result<Result<(), Refusal>, Fault>
     ensures { MatchResult result
         (λ answer. MatchResult answer
-        (λ _. catalog_of catalog.old (option_to_list found) ≡ Ok catalog.new)
-        (λ refusal. catalog_of catalog.old (option_to_list found) ≡ Err refusal))
+        (λ _. catalog_of catalog.old ((value, offset) ∷ []) ≡ Ok catalog.new)
+        (λ refusal. catalog_of catalog.old ((value, offset) ∷ []) ≡ Err refusal))
         (λ fault. fault ≡ Fault.Memory) }
 {
-    match found {
-        None => Ok(Ok(())),
-        Some((value, offset)) => {
-            let added = add_table(alloc, catalog, &value);
-            drop(value);
-            match added {
-                Ok(()) => Ok(Ok(())),
-                Err(Reason::Memory) => Err(Fault::Memory),
-                Err(reason) => Ok(Err(Refusal { offset, reason })),
-            }
-        }
+    let added = add_table(alloc, catalog, &value);
+    drop(value);
+    match added {
+        Ok(()) => Ok(Ok(())),
+        Err(Reason::Memory) => Err(Fault::Memory),
+        Err(reason) => Ok(Err(Refusal { offset, reason })),
     }
 }
 

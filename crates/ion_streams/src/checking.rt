@@ -5,8 +5,8 @@ ghost use Rattle.ion_streams.specs.Formats.{format_of};
 ghost use Rattle.ion_streams.specs.reading.Read.{IsFresh};
 ghost use Rattle.ion_streams.specs.Checked.{IsChecked};
 
-use crate::source::{Source, pass_all};
-use ion_model::Refusal;
+use crate::source::{Source, Standing};
+use ion_model::{Outline, Refusal};
 use ion_symtab::{Fault, Inlet, Items};
 use std::alloc::Global;
 
@@ -30,5 +30,10 @@ pub fn check_items<I: Items + Drop, R: Inlet>(
     ensures cause { IfErr result (IsReadCause R.Inlet reads reader.old reader.new) }
 {
     let source = Source::new(alloc, items, reads)?;
-    pass_all(source, reader)
+    let mut place = Standing::Open(source);
+    let mut values: u64 = 0;
+    while let Some(_) = place.advance::<Outline, R>(reader)? {
+        values += 1;
+    }
+    Ok(place.answer(values))
 }

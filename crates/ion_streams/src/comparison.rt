@@ -1,5 +1,5 @@
 //! Whether two documents have equivalent streams.
-ghost use Rattle.std.specs.Prelude.{◌≡◌, ℕ, ◌+◌, ◌*◌, ◌^◌, ◌<◌, ◌≤◌, ◌⊎◌, [], true, false, IfOk, IfErr, OnOk, MatchResult, length};
+ghost use Rattle.std.specs.Prelude.{◌≡◌, ℕ, ◌+◌, ◌*◌, ◌^◌, ◌<◌, ◌≤◌, ◌⊎◌, [], true, false, IfOk, IfErr, OnOk, MatchResult, length, option_map};
 ghost use Rattle.ion_symtab.specs.declared.catalog.Catalog.{Catalog};
 ghost use Rattle.ion_symtab.specs.declared.limits.Limits.{Limits};
 ghost use Rattle.ion_symtab.specs.Cause.{IsReadCause};
@@ -131,6 +131,16 @@ fn ended_first(alloc: Global, index: u64) -> Course
     }
 }
 
+/// The value alone.
+fn value_of(found: Option<(Value, u64)>) -> Option<Value>
+    ensures { result ≡ option_map (λ next. next.0) found }
+{
+    match found {
+        None => None,
+        Some((value, _)) => Some(value),
+    }
+}
+
 /// Goes past the next value of both documents, where they are open, were the same so far, and have values
 /// there that are seen to be the same where they lie.
 fn go_alike<A: Alike<I, J>, I: Items, J: Items>(
@@ -197,7 +207,7 @@ fn compare_places<A: Alike<I, J>, I: Items + Drop, J: Items + Drop, L: Inlet, R:
         if go_alike::<A, I, J>(course, left_place, right_place) {
             continue;
         }
-        let left_value = left_place.advance(left)?;
+        let left_value = value_of(left_place.advance::<Value, L>(left)?);
         if let Standing::Refused(refusal) = left_place {
             drop(left_value);
             return Ok(Verdict::Refused {
@@ -205,12 +215,12 @@ fn compare_places<A: Alike<I, J>, I: Items + Drop, J: Items + Drop, L: Inlet, R:
                 refusal: *refusal,
             });
         }
-        let right_value = match right_place.advance(right) {
+        let right_value = match right_place.advance::<Value, R>(right) {
             Err(fault) => {
                 drop(left_value);
                 return Err(fault);
             }
-            Ok(value) => value,
+            Ok(found) => value_of(found),
         };
         let met = course.meet(alloc, &left_value, &right_value);
         drop(left_value);

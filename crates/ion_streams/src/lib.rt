@@ -3,17 +3,21 @@
 #![tactic(auto)]
 
 mod alike;
+mod all_values;
+mod asked;
+mod carry;
 mod catalogs;
 mod checking;
 mod comparison;
 mod listing;
 mod source;
-mod all_values;
 
 pub use alike::{Alike, Unseen};
+pub use all_values::{read_items, read_octets};
+pub use asked::Asked;
+pub use carry::Carry;
 pub use catalogs::load_items;
 pub use checking::check_items;
 pub use comparison::{Side, Verdict, compare_by, compare_items};
 pub use listing::show_items;
-pub use source::{Reached, Source, Standing, counted, last, value_of};
-pub use all_values::{read_items, read_octets};
+pub use source::{Source, Standing};

@@ -8,8 +8,8 @@ ghost use Rattle.ion_streams.specs.Formats.{format_of};
 ghost use Rattle.ion_streams.specs.reading.Read.{IsFresh};
 ghost use Rattle.ion_streams.specs.Listing.{line_of, lines_from, accepted_line, IsShown, IsWriteCause, ShowsSoFar};
 
-use crate::source::{Reached, Source, Standing, last, value_of};
-use ion_model::{Outline, Refusal, Value};
+use crate::source::{Source, Standing};
+use ion_model::{Outline, Refusal};
 use ion_symtab::{Fault, Inlet, Items, Outlet, flushed, write_whole};
 use itoa::Buffer;
 use std::alloc::{AllocError, Global};
@@ -68,32 +68,6 @@ fn write_line<W: Outlet>(
     write_whole(writer, text.as_bytes())
 }
 
-/// Writes the line of the value that the end showed, if there is one, and counts it.
-fn write_last<W: Outlet>(
-    text: &mut String,
-    writer: &mut W,
-    values: u64,
-    value: Option<Value>,
-) -> Result<u64, Fault>
-    requires { values + 1 < 2 ^ 64 }
-    ensures count { IfOk result (λ n. n ≡ values + length (option_to_list value)) }
-    ensures wrote { OnOk result (Took W.took W.written writer.old writer.new
-        (lines_from (values + 1) (option_to_list value))) }
-    ensures front { OnErr result (TookFront W.took W.written writer.old writer.new
-        (lines_from (values + 1) (option_to_list value))) }
-    ensures cause { IfErr result (IsWriteCause W.Outlet writer.new) }
-{
-    match value {
-        None => Ok(values),
-        Some(value) => {
-            let outline = value.outline();
-            drop(value);
-            write_line(text, writer, values + 1, outline)?;
-            Ok(values + 1)
-        }
-    }
-}
-
 /// Writes the last line, and makes the device pass on all.
 fn write_accepted<W: Outlet>(alloc: Global, writer: &mut W, values: u64) -> Result<(), Fault>
     ensures wrote { OnOk result (Took W.took W.written writer.old writer.new (accepted_line values)) }
@@ -138,29 +112,18 @@ pub fn show_items<I: Items + Drop, R: Inlet, W: Outlet>(
         IsReadCause R.Inlet reads reader.old reader.new fault
         ⊎ IsWriteCause W.Outlet writer.new fault) }
 {
-    let mut source = Source::new(alloc, items, reads)?;
+    let source = Source::new(alloc, items, reads)?;
+    let mut place = Standing::Open(source);
     let mut text = String::new(alloc);
     let mut values: u64 = 0;
-    loop {
-        match source.pass_on(reader)? {
-            Reached::Value(outline) => {
-                write_line(&mut text, writer, values + 1, outline)?;
-                values += 1;
-            }
-            Reached::Refused(refusal) => {
-                flushed(writer)?;
-                return Ok(Err(refusal));
-            }
-            Reached::End => {
-                let (place, found) = last(source)?;
-                values = write_last(&mut text, writer, values, value_of(found))?;
-                if let Standing::Refused(refusal) = place {
-                    flushed(writer)?;
-                    return Ok(Err(refusal));
-                }
-                write_accepted(alloc, writer, values)?;
-                return Ok(Ok(values));
-            }
-        }
+    while let Some((outline, _)) = place.advance::<Outline, R>(reader)? {
+        write_line(&mut text, writer, values + 1, outline)?;
+        values += 1;
     }
+    let answer = place.answer(values);
+    match answer {
+        Ok(values) => write_accepted(alloc, writer, values)?,
+        Err(_) => flushed(writer)?,
+    }
+    Ok(answer)
 }

@@ -1,5 +1,5 @@
 //! A document on a device: its octets are read in pieces, and a reader takes them up.
-ghost use Rattle.std.specs.Prelude.{◌≡◌, ◌≢◌, ℕ, ◌+◌, ◌-◌, ◌*◌, ◌^◌, ◌<◌, ◌≤◌, true, false, List, [], ◌∷◌, ◌++◌, length, take, drop, IfOk, IfErr, OnOk, OnErr, IfSome, MatchBool, Option, IsSome, IsNone, option_map, option_to_list};
+ghost use Rattle.std.specs.Prelude.{◌≡◌, ◌≢◌, ℕ, ◌+◌, ◌-◌, ◌*◌, ◌^◌, ◌<◌, ◌≤◌, true, false, List, [], ◌∷◌, ◌++◌, length, take, drop, IfOk, IfErr, OnOk, OnErr, IfSome, MatchBool, Option, Result, IsSome, IsNone, option_map, option_to_list};
 ghost use Rattle.ion_model.specs.declared.value.Value.{Value};
 ghost use Rattle.ion_atoms.specs.declared.refusal.Reason.TheVariants as reasons;
 ghost use Rattle.ion_symtab.specs.declared.catalog.Catalog.{Catalog};
@@ -10,39 +10,38 @@ ghost use Rattle.ion_streams.specs.Formats.{format_of};
 ghost use Rattle.ion_streams.specs.reading.Read.{left_of, IsReady, HasToAsk, NoneFailed, NoReadFailed, IsWithin, work, Went, GaveEach, Reads, ReadsEach, GaveSoFar};
 ghost use Rattle.ion_streams.specs.reading.Reached.{IfValue, IfEnd, IsSpent, Reaches};
 ghost use Rattle.ion_streams.specs.Outcomes.{EndsWell, EndsRefused};
-ghost use Rattle.ion_streams.specs.reading.Standing.{IfOpen, IsOpen, IfClosed, MatchClosed, work_of, reads_of, Stood};
+ghost use Rattle.ion_streams.specs.reading.Standing.{IfOpen, IsOpen, IfClosed, MatchClosed, work_of, reads_of, Stood, StoodEach, GaveNext, answered};
+ghost use Rattle.ion_streams.specs.reading.Alongside.{WentPast, StandingPast};
 
+use crate::asked::Asked;
+use crate::carry::Carry;
 use ion_model::{Reason, Refusal, Value};
-use ion_symtab::{Fault, Inlet, Items, Step};
+use ion_symtab::{Fault, Inlet, Items};
 use std::alloc::Global;
 use std::mem;
 
 mod alike;
-mod passing;
 
 pub(crate) use alike::pass_alike;
-pub use passing::counted;
-pub(crate) use passing::pass_all;
 
 /// At most so many octets are read from a device in one call.
 const PIECE: usize = 4096;
 
-/// A document that is being read. Whoever goes past a value in another way than these calls do moves `at` and
-/// `used` on by its octets.
+/// A document that is being read.
 #[derive(Drop)]
 pub struct Source<I> {
     /// What takes the octets up.
-    pub items: I,
+    items: I,
     /// The octets last read from the device; those from `at` up to `end` are still to be used.
-    pub piece: Vec<u8>,
+    piece: Vec<u8>,
     /// How many octets of the piece are used.
-    pub at: usize,
+    at: usize,
     /// How many octets the device gave at the last call.
-    pub end: usize,
+    end: usize,
     /// How often the device may still be asked.
-    pub reads: u64,
+    reads: u64,
     /// How many octets of all pieces are used.
-    pub used: u64,
+    used: u64,
 }
 
 impl<I: Items + Drop> Source<I> {
@@ -67,41 +66,35 @@ impl<I: Items + Drop> Source<I> {
         })
     }
 
-    /// How many octets of the document are used.
-    pub(crate) fn offset(&self) -> u64
-        ensures { result ≡ self.now.used }
-    {
-        self.used
-    }
-
-    /// Takes up octets of the piece, up to the next value or to the piece's end.
-    fn take(&mut self) -> Result<Option<Value>, Refusal>
+    /// Takes up octets of the piece, up to the next value or to the piece's end: what is told of that value.
+    fn take<A: Asked>(&mut self) -> Result<Option<A>, Refusal>
         requires { IsReady I.Items self.old }
-        ensures gives { IfOk result (λ value. (u : List ℕ) (given : List (Value × ℕ)) →
+        ensures gives { IfOk result (λ found. (u : List ℕ) (given : List (Value × ℕ)) →
             I.stands self.old.items u given →
-            Went I.Items u given (left_of self.old) self.new value) }
+            (value : Option Value) × (option_map A.of value ≡ found)
+            × Went I.Items u given (left_of self.old) self.new value) }
         ensures refuses { IfErr result (λ refusal. refusal.reason ≢ reasons.Memory →
             (u : List ℕ) (given : List (Value × ℕ)) → I.stands self.old.items u given → (more : List ℕ) →
             EndsRefused (format_of I.Items (I.catalog self.old.items) (I.limits self.old.items))
             ((u ++ left_of self.old) ++ more) given refusal) }
-        ensures ready { IfOk result (λ value. IsReady I.Items self.new) }
-        ensures all { IfOk result (λ value. value ≡ Option.None → self.new.at ≡ self.new.end) }
-        ensures nothing { IfOk result (λ value. HasToAsk I.Items self.old → value ≡ Option.None) }
+        ensures ready { IfOk result (λ found. IsReady I.Items self.new) }
+        ensures all { IfOk result (λ found. found ≡ Option.None → self.new.at ≡ self.new.end) }
+        ensures nothing { IfOk result (λ found. HasToAsk I.Items self.old → found ≡ Option.None) }
         ensures none_refused { IfErr result (λ refusal. refusal.reason ≢ reasons.Memory →
             HasToAsk I.Items self.old → ⊥) }
-        ensures pending { IfOk result (λ value. work I.Items self.new ≤ work I.Items self.old) }
-        ensures less { IfOk result (λ value. IsSome value →
+        ensures pending { IfOk result (λ found. work I.Items self.new ≤ work I.Items self.old) }
+        ensures less { IfOk result (λ found. IsSome found →
             work I.Items self.new < work I.Items self.old) }
         ensures catalog { I.catalog self.new.items ≡ I.catalog self.old.items }
         ensures limits { I.limits self.new.items ≡ I.limits self.old.items }
         ensures reads { self.new.reads ≡ self.old.reads }
     {
-        match self.items.step(&self.piece[self.at..self.end]) {
+        match A::take(&mut self.items, &self.piece[self.at..self.end]) {
             Err(refusal) => Err(refusal),
-            Ok(Step { used, value }) => {
+            Ok((used, found)) => {
                 self.at += used;
                 self.used += used as u64;
-                Ok(value)
+                Ok(found)
             }
         }
     }
@@ -187,12 +180,12 @@ impl<I: Items + Drop> Source<I> {
     /// Reads on up to the next value or to the end.
     ///
     /// Faults are `Memory`, `Read` and `TooManyReads`.
-    pub fn read_on<R: Inlet>(&mut self, reader: &mut R) -> Result<Reached<Value>, Fault>
+    fn read_on<A: Asked, R: Inlet>(&mut self, reader: &mut R) -> Result<Reached<A>, Fault>
         requires { IsReady I.Items self.old }
         ensures gives { IfOk result (λ reached.
             (g : Catalog) (l : Limits) (first : R) (given : List (Value × ℕ)) →
             ReadsEach R.Inlet I.Items g l first reader.old self.old given →
-            Reaches (λ v. v) R.Inlet I.Items g l first reader.new self.new given reached) }
+            Reaches A.of R.Inlet I.Items g l first reader.new self.new given reached) }
         ensures ready { IfOk result (λ reached. IfValue reached (IsReady I.Items self.new)) }
         ensures less { IfOk result (λ reached. IfValue reached
             (work I.Items self.new < work I.Items self.old)) }
@@ -215,7 +208,7 @@ impl<I: Items + Drop> Source<I> {
             GaveSoFar R.Inlet I.Items g l first reader.new s) }
     {
         loop {
-            match self.take() {
+            match self.take::<A>() {
                 Err(
                     Refusal {
                         reason: Reason::Memory,
@@ -223,7 +216,7 @@ impl<I: Items + Drop> Source<I> {
                     },
                 ) => return Err(Fault::Memory),
                 Err(refusal) => return Ok(Reached::Refused(refusal)),
-                Ok(Some(value)) => return Ok(Reached::Value(value)),
+                Ok(Some(found)) => return Ok(Reached::Value(found)),
                 Ok(None) => {}
             }
             if !self.refill(reader)? {
@@ -231,13 +224,33 @@ impl<I: Items + Drop> Source<I> {
             }
         }
     }
+
+    /// Goes past the next value where `C` puts it without building it: what it answered. `None`, with all as it
+    /// was, where it doesn't.
+    fn carry<C: Carry<I, E, W>, E, W>(
+        &mut self,
+        encoder: &mut E,
+        out: &mut W,
+    ) -> Option<Result<(), Fault>>
+        requires ready { IsReady I.Items self.old }
+        ensures carries { IfSome result (λ written. (v : Value)
+            × WentPast I.Items self.old self.new v
+            × C.puts encoder.old encoder.new out.old out.new v written) }
+        ensures stays { IsNone result →
+            (self.new ≡ self.old) × (encoder.new ≡ encoder.old) × (out.new ≡ out.old) }
+    {
+        let piece = &self.piece[self.at..self.end];
+        let (used, written) = C::carry(&mut self.items, piece, encoder, out)?;
+        self.at += used;
+        self.used += used as u64;
+        Some(written)
+    }
 }
 
 /// What is reached in a document that is read on.
-#[derive(Drop)]
-pub enum Reached<T> {
-    /// The next value, or what is told of it.
-    Value(T),
+enum Reached<A> {
+    /// The next value, of which this is told.
+    Value(A),
     /// The end that the device answered; all octets before it are used.
     End,
     /// What shows that the document is none.
@@ -249,13 +262,13 @@ pub enum Reached<T> {
 pub enum Standing<I> {
     /// It can be read on.
     Open(Source<I>),
-    /// It was a document, and the device has answered its end.
+    /// It was a document, and the device has answered its end; or reading it ended at a fault.
     Ended,
     /// It is no document.
     Refused(Refusal),
 }
 
-impl<I> Standing<I> {
+impl<I: Drop> Standing<I> {
     /// Whether the document can be read on.
     pub fn is_open(&self) -> bool
         ensures { MatchBool result (IsOpen self.now) (IfOpen self.now (λ source. ⊥)) }
@@ -266,34 +279,65 @@ impl<I> Standing<I> {
             Standing::Refused(_) => false,
         }
     }
+
+    /// This answer; or the refusal, where the document is none.
+    pub fn answer<T: Drop>(self, answer: T) -> Result<T, Refusal>
+        ensures { result ≡ answered self answer }
+    {
+        match self {
+            Standing::Refused(refusal) => Err(refusal),
+            _ => Ok(answer),
+        }
+    }
+
+    /// It is no document.
+    #[inline(never)]
+    fn refuse(&mut self, refusal: Refusal)
+        ensures { self.new ≡ Standing.Refused refusal }
+    {
+        *self = Standing::Refused(refusal);
+    }
+
+    /// It isn't read on behind a fault.
+    #[inline(never)]
+    fn give_up(&mut self)
+        ensures { self.new ≡ Standing.Ended }
+    {
+        *self = Standing::Ended;
+    }
 }
 
 impl<I: Items + Drop> Standing<I> {
     /// Reads on up to the next value, or to the end, where the document is open; else it stays
-    /// where it stands. Without a value the document isn't open any more.
+    /// where it stands. What is told of the value, with the number of octets used when it came. Without a value the
+    /// document isn't open any more.
     ///
     /// Faults are `Memory`, `Read` and `TooManyReads`.
-    pub(crate) fn advance<R: Inlet>(&mut self, reader: &mut R) -> Result<Option<Value>, Fault>
+    #[inline(always)]
+    pub fn advance<A: Asked, R: Inlet>(
+        &mut self,
+        reader: &mut R,
+    ) -> Result<Option<(A, u64)>, Fault>
         requires { IfOpen self.old (IsReady I.Items) }
-        ensures gives { IfOk result (λ value.
-            (g : Catalog) (l : Limits) (first : R) (s : List Value) →
-            Stood R.Inlet I.Items g l first reader.old self.old s →
-            Stood R.Inlet I.Items g l first reader.new self.new (s ++ option_to_list value)) }
-        ensures ready { IfOk result (λ value. IfOpen self.new (IsReady I.Items)) }
-        ensures none { IfOk result (λ value. value ≡ Option.None → IfOpen self.new (λ after. ⊥)) }
-        ensures less { IfOk result (λ value.
-            IfOpen self.old (λ source. work_of I.Items self.new < work_of I.Items self.old)) }
-        ensures closed { IfOk result (λ value.
-            IfClosed self.old ((self.new ≡ self.old) × (value ≡ Option.None))) }
-        ensures within { IfOk result (λ value. (first : R) (reads : ℕ) →
+        ensures gives { IfOk result (λ found.
+            (g : Catalog) (l : Limits) (first : R) (given : List (Value × ℕ)) →
+            StoodEach R.Inlet I.Items g l first reader.old self.old given →
+            GaveNext A.of R.Inlet I.Items g l first reader.new self.new given found) }
+        ensures none { IfOk result (λ found. found ≡ Option.None → IfOpen self.new (λ after. ⊥)) }
+        ensures ready { IfOpen self.new (IsReady I.Items) }
+        ensures less { IfOk result (λ found. IsSome found →
+            work_of I.Items self.new < work_of I.Items self.old) }
+        ensures spends { IfOpen self.old (λ source.
+            work_of I.Items self.new < work_of I.Items self.old) }
+        ensures no_more { work_of I.Items self.new ≤ work_of I.Items self.old }
+        ensures closed { IfClosed self.old ((result ≡ Result.Ok Option.None)
+            × (reader.new ≡ reader.old) × (self.new ≡ self.old)) }
+        ensures within { IfOk result (λ found. (first : R) (reads : ℕ) →
             IfOpen self.old (IsWithin R.Inlet reads first reader.old) →
             IfOpen self.new (IsWithin R.Inlet reads first reader.new)) }
-        ensures fewer_calls { OnOk result (R.calls_made reader.new + reads_of self.new
-            ≤ R.calls_made reader.old + reads_of self.old) }
-        ensures few_calls { R.calls_made reader.new ≤ R.calls_made reader.old + reads_of self.old }
-        ensures fewer_octets { OnOk result (length (R.handed reader.new) + 4096 * reads_of self.new
-            ≤ length (R.handed reader.old) + 4096 * reads_of self.old) }
-        ensures few_octets { length (R.handed reader.new)
+        ensures few_calls { R.calls_made reader.new + reads_of self.new
+            ≤ R.calls_made reader.old + reads_of self.old }
+        ensures few_octets { length (R.handed reader.new) + 4096 * reads_of self.new
             ≤ length (R.handed reader.old) + 4096 * reads_of self.old }
         ensures unasked { OnOk result (NoReadFailed R.Inlet reader.old reader.new) }
         ensures no_read_failed { OnOk result (IfOpen self.old (λ source.
@@ -301,23 +345,53 @@ impl<I: Items + Drop> Standing<I> {
         ensures cause { IfErr result (λ fault. (first : R) (reads : ℕ) →
             IfOpen self.old (IsWithin R.Inlet reads first reader.old) →
             IsReadCause R.Inlet reads first reader.new fault) }
+        ensures kept { OnErr result ((g : Catalog) (l : Limits) (first : R) (s : List Value) →
+            Stood R.Inlet I.Items g l first reader.old self.old s →
+            GaveSoFar R.Inlet I.Items g l first reader.new s) }
     {
         match self {
-            Standing::Open(source) => match source.read_on(reader)? {
-                Reached::Value(value) => Ok(Some(value)),
-                Reached::Refused(refusal) => {
-                    *self = Standing::Refused(refusal);
+            Standing::Open(source) => match source.read_on::<A, R>(reader) {
+                Ok(Reached::Value(found)) => Ok(Some((found, source.used))),
+                Ok(Reached::Refused(refusal)) => {
+                    self.refuse(refusal);
                     Ok(None)
                 }
-                Reached::End => Ok(value_of(self.close()?)),
+                Ok(Reached::End) => Ok(told::<A>(self.close()?)),
+                Err(fault) => {
+                    self.give_up();
+                    Err(fault)
+                }
             },
             Standing::Ended => Ok(None),
             Standing::Refused(_) => Ok(None),
         }
     }
 
+    /// Goes past the next value of a document that is open, where `C` puts it without building it: what it
+    /// answered. `None`, with all as it was, where it doesn't.
+    #[inline(always)]
+    pub fn carry<C: Carry<I, E, W>, E, W>(
+        &mut self,
+        encoder: &mut E,
+        out: &mut W,
+    ) -> Option<Result<(), Fault>>
+        requires ready { IfOpen self.old (IsReady I.Items) }
+        ensures carries { IfSome result (λ written. (v : Value)
+            × StandingPast I.Items self.old self.new v
+            × C.puts encoder.old encoder.new out.old out.new v written) }
+        ensures stays { IsNone result →
+            (self.new ≡ self.old) × (encoder.new ≡ encoder.old) × (out.new ≡ out.old) }
+    {
+        match self {
+            Standing::Open(source) => source.carry::<C, E, W>(encoder, out),
+            Standing::Ended => None,
+            Standing::Refused(_) => None,
+        }
+    }
+
     /// Closes a document whose octets were all used: it stands where `last` says, and gives what
-    /// that gives.
+    /// that gives. At a fault, which is `Memory`, it is closed, too.
+    #[inline(never)]
     fn close(&mut self) -> Result<Option<(Value, u64)>, Fault>
         requires { IfOpen self.old (IsSpent I.Items) }
         ensures ends { IfOk result (λ found. IfOpen self.old (λ source.
@@ -328,7 +402,7 @@ impl<I: Items + Drop> Standing<I> {
             (λ refusal. (found ≡ Option.None) × EndsRefused
             (format_of I.Items (I.catalog source.items) (I.limits source.items))
             u given refusal))) }
-        ensures closed { IfOk result (λ found. IfOpen self.new (λ source. ⊥)) }
+        ensures closed { IfOpen self.new (λ source. ⊥) }
         ensures cause { IfErr result (λ fault. fault ≡ Fault.Memory) }
     {
         match mem::replace(self, Standing::Ended) {
@@ -345,18 +419,19 @@ impl<I: Items + Drop> Standing<I> {
     }
 }
 
-/// The value alone.
-pub fn value_of(found: Option<(Value, u64)>) -> Option<Value>
-    ensures { result ≡ option_map (λ next. next.0) found }
+/// What is told of the value that the end gave.
+#[inline(never)]
+fn told<A: Asked>(found: Option<(Value, u64)>) -> Option<(A, u64)>
+    ensures { result ≡ option_map (λ next. (A.of next.0, next.1)) found }
 {
     match found {
         None => None,
-        Some((value, _)) => Some(value),
+        Some((value, used)) => Some((A::tell(value), used)),
     }
 }
 
 /// What the end of a document gives; a value comes with the number of all its octets.
-pub fn last<I: Items + Drop>(
+fn last<I: Items + Drop>(
     source: Source<I>,
 ) -> Result<(Standing<I>, Option<(Value, u64)>), Fault>
     requires awaited { IsNone (I.awaits source.items) }

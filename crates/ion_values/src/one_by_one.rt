@@ -4,21 +4,17 @@ ghost use Rattle.ion_model.specs.declared.value.Value.{Value};
 ghost use Rattle.ion_symtab.specs.declared.catalog.Catalog.{Catalog};
 ghost use Rattle.ion_symtab.specs.declared.limits.Limits.{Limits};
 ghost use Rattle.ion_symtab.specs.Cause.{IsReadCause};
-ghost use Rattle.ion_streams.specs.Formats.{format_of};
-ghost use Rattle.ion_streams.specs.Outcomes.{EndsWell, EndsRefused};
 ghost use Rattle.ion_streams.specs.reading.Read.{IsFresh, IsReady, IsWithin, NoReadFailed, GaveSoFar};
-ghost use Rattle.ion_streams.specs.reading.Reached.{IsSpent};
-ghost use Rattle.ion_streams.specs.reading.Standing.{IfOpen, IfClosed, MatchClosed, work_of, reads_of, Stood};
+ghost use Rattle.ion_streams.specs.reading.Standing.{IfOpen, IfClosed, work_of, reads_of, Stood};
 ghost use Rattle.ion_values.specs.Readable.{CanGoOn};
 ghost use Rattle.ion_values.specs.Given.{HasGiven, IsNext, WentOn, settled, given_by, answer_of, IfAnswered};
 
 use crate::each::Each;
 use crate::stop::Stop;
 use ion_model::Value;
-use ion_streams::{Reached, Source, Standing, last, value_of};
+use ion_streams::{Source, Standing};
 use ion_symtab::{Fault, Inlet, Items};
 use std::alloc::Global;
-use std::mem;
 
 /// A document whose values are asked for one by one: `items` takes up the octets, which come from a device. It
 /// holds one piece of octets, and what the reader keeps of the value that it reads.
@@ -161,47 +157,8 @@ fn go_on<I: Items + Drop, R: Inlet>(
         Stood R.Inlet I.Items g l first reader.old place.old s →
         GaveSoFar R.Inlet I.Items g l first reader.new s) }
 {
-    match place {
-        Standing::Open(source) => match source.read_on(reader) {
-            Ok(Reached::Value(value)) => Ok(Some(value)),
-            Ok(Reached::Refused(refusal)) => {
-                *place = Standing::Refused(refusal);
-                Ok(None)
-            }
-            Ok(Reached::End) => Ok(value_of(close(place)?)),
-            Err(fault) => {
-                *place = Standing::Ended;
-                Err(fault)
-            }
-        },
-        Standing::Ended => Ok(None),
-        Standing::Refused(_) => Ok(None),
-    }
-}
-
-/// Closes a document whose octets were all used: it stands where `last` says, and gives what that
-/// gives. At a fault, which is `Memory`, it is closed, too.
-fn close<I: Items + Drop>(place: &mut Standing<I>) -> Result<Option<(Value, u64)>, Fault>
-    requires { IfOpen place.old (IsSpent I.Items) }
-    ensures ends { IfOk result (λ found. IfOpen place.old (λ source.
-        (u : List ℕ) (given : List (Value × ℕ)) → I.stands source.items u given →
-        MatchClosed place.new
-        (EndsWell (format_of I.Items (I.catalog source.items) (I.limits source.items)) u
-        (given ++ option_to_list found))
-        (λ refusal. (found ≡ None) × EndsRefused
-        (format_of I.Items (I.catalog source.items) (I.limits source.items)) u given refusal))) }
-    ensures closed { IfOpen place.new (λ source. ⊥) }
-    ensures cause { IfErr result (λ fault. fault ≡ Fault.Memory) }
-{
-    match mem::replace(place, Standing::Ended) {
-        Standing::Open(source) => {
-            let (now, found) = last(source)?;
-            *place = now;
-            Ok(found)
-        }
-        closed => {
-            *place = closed;
-            Ok(None)
-        }
+    match place.advance::<Value, R>(reader)? {
+        None => Ok(None),
+        Some((value, _)) => Ok(Some(value)),
     }
 }

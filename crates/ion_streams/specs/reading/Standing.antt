@@ -1,5 +1,5 @@
 -- Where a document stands.
-use Rattle.std.specs.Prelude.{ℕ, ◌+◌, List}
+use Rattle.std.specs.Prelude.{◌≡◌, ℕ, ◌+◌, List, [], ◌∷◌, ◌++◌, Option, Some, None, Result, Ok, Err}
 use Rattle.ion_model.specs.declared.value.Value.{Value}
 use Rattle.ion_atoms.specs.declared.refusal.Refusal.{Refusal}
 use Rattle.ion_symtab.specs.declared.catalog.Catalog.{Catalog}
@@ -62,3 +62,19 @@ abbrev pub StoodEach : {S X : Type 0} → Inlet S → Items X → Catalog → Li
 StoodEach R I g l first now (Open source) given = ReadsEach R I g l first now source given
 StoodEach R I g l first now Ended given = ToldEach R (format_of I g l) first now given
 StoodEach R I g l first now (Refused refusal) given = ToldRefusedEach R (format_of I g l) first now given refusal
+
+abbrev pub IfRefused : {X : Type 0} → Standing X → Type 0 → Type 0
+IfRefused (Open source) P = Unit {0}
+IfRefused Ended P = Unit {0}
+IfRefused (Refused refusal) P = P
+
+-- Behind these values no more was found; or one more was, with the total of octets when it came, of which this is told, and nothing was refused.
+abbrev pub GaveNext : {S X A : Type 0} → (Value → A) → Inlet S → Items X → Catalog → Limits → S → S → Standing X → List (Value × ℕ) → Option (A × ℕ) → Type 0
+GaveNext of R I g l first now place given None = StoodEach R I g l first now place given
+GaveNext of R I g l first now place given (Some found) = (value : Value) × (of value ≡ found.0) × StoodEach R I g l first now place (given ++ (value, found.1) ∷ []) × IfRefused place ⊥
+
+-- this answer, or the refusal of what is no document
+abbrev pub answered : {X A : Type 0} → Standing X → A → Result A Refusal
+answered (Open source) a = Ok a
+answered Ended a = Ok a
+answered (Refused refusal) a = Err refusal

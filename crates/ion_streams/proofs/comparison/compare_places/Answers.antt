@@ -1,10 +1,11 @@
-use Rattle.std.proofs.Common.{rules, ◌⊎◌, ◌++◌, [], ◌∷◌, Some, inl, inr, arith, refl, ap, sym, subst, option_to_list}
+use Rattle.std.proofs.Common.{rules, ◌⊎◌, ◌++◌, [], ◌∷◌, Some, inl, inr, arith, refl, ap, sym, subst, option_to_list, None}
 use Rattle.ion_streams.specs.declared.source.Standing.{Standing}
 use Rattle.ion_streams.specs.reading.Courses.{count_of}
 use Rattle.ion_streams.specs.reading.Read.{IsWithin}
 use Rattle.ion_streams.specs.reading.Standing.{IfOpen, IsOpen, work_of, reads_of, Stood}
 use Rattle.ion_streams.proofs.Alongside.{past_open, past_closed, past_ready, past_less, past_reads, past_within, past_stood}
 use Rattle.ion_streams.proofs.Courses.{Meets, meets_begun, meets_more, left_refused, closed_verdict, count_met, works_less, true_case, false_case}
+use Rattle.ion_streams.proofs.Passes.{stood_next, closed_same, none_of}
 use Rattle.ion_streams.proofs.Unfailed.{StandsHeard, heard_past, heard_alone, heard_since, stands_heard}
 use Rattle.ion_streams.proofs.comparison.compare_places.Goals.{else-not-is_open-via-then-not-is_open+else-not-is_open-2, else-not-is_open-via-else-not-is_open}
 use Rattle.ion_streams.proofs.comparison.compare_places.Goals as goal
@@ -36,10 +37,12 @@ returns-in-Refused-clause-verdict g c =
     let stays = c.go_alike.ensures.stays (search rules) in
     let left_stood : Stood g.L.Inlet g.I.Items left_catalog left_limits c.args.left.now c.loop-left_place.left c.go_alike.new.left i.0 = rw stays.1 i.2 in
     let right_stood : Stood g.R.Inlet g.J.Items right_catalog right_limits c.args.right.now c.loop-left_place.right c.go_alike.new.right i.1 = rw stays.2 i.3 in
+    let l = c.in_ok-advance.ensures in
+    let left_closed = l.closed in
     left_refused g.L.Inlet g.I.Items g.R.Inlet g.J.Items
     left_catalog right_catalog left_limits right_limits
-    c.args.left.now c.advance.new.reader c.args.right.now c.loop-left_place.right c.go_alike.new.right (i.0 ++ option_to_list c.in_ok-left_value.left_value) i.1 c.in-Refused.refusal
-    (rw c.in-Refused.is at (c.in_ok-left_value.ensures.gives _ _ _ i.0 left_stood)) right_stood
+    c.args.left.now c.advance.new.reader c.args.right.now c.loop-left_place.right c.go_alike.new.right (i.0 ++ option_to_list c.value_of-left_value.result) i.1 c.in-Refused.refusal
+    (rw c.in-Refused.is at (stood_next g.L.Inlet g.I.Items left_catalog left_limits c.args.left.now c.loop-left_place.left c.advance.new.reader c.go_alike.new.left c.advance.new.self i.0 c.in_ok-advance.field-0 c.value_of-left_value.result c.value_of-left_value.ensures left_closed (l.gives left_catalog left_limits c.args.left.now) left_stood)) right_stood
 
 pub returns-then-not-is_open-2-clause-verdict : goal.returns-then-not-is_open-2-clause-verdict
 returns-then-not-is_open-2-clause-verdict g c =
@@ -49,14 +52,19 @@ returns-then-not-is_open-2-clause-verdict g c =
     let left_stood : Stood g.L.Inlet g.I.Items left_catalog left_limits c.args.left.now c.loop-left_place.left c.go_alike.new.left i.0 = rw stays.1 i.2 in
     let right_stood : Stood g.R.Inlet g.J.Items right_catalog right_limits c.args.right.now c.loop-left_place.right c.go_alike.new.right i.1 = rw stays.2 i.3 in
     let meets : Meets c.go_alike.new.course c.go_alike.new.left c.go_alike.new.right i.0 i.1 = rw (stays.0, stays.1, stays.2) i.4 in
-    let l = c.in_ok-left_value.ensures in
+    let l = c.in_ok-advance.ensures in
     let r = c.in-Ok.ensures in
+    let left_closed = l.closed in
+    let right_closed = r.closed in
+    let left_same = closed_same c.loop-left_place.left c.advance.new.reader c.go_alike.new.left c.advance.new.self c.in_ok-advance.field-0 c.value_of-left_value.result c.value_of-left_value.ensures left_closed in
+    let right_same = closed_same c.loop-left_place.right c.advance-in-loop-left_place.new.reader c.go_alike.new.right c.advance-in-loop-left_place.new.self c.in-Ok.found c.value_of-right_value.result c.value_of-right_value.ensures right_closed in
     let verdict = closed_verdict g.L.Inlet g.I.Items g.R.Inlet g.J.Items
     left_catalog right_catalog left_limits right_limits
     c.args.left.now c.advance.new.reader c.args.right.now c.advance-in-loop-left_place.new.reader c.advance.new.self c.advance-in-loop-left_place.new.self c.meet-met.new.self
-    (i.0 ++ option_to_list c.in_ok-left_value.left_value) (i.1 ++ option_to_list c.in-Ok.value)
-    (l.gives _ _ _ i.0 left_stood) (r.gives _ _ _ i.1 right_stood)
-    (meets_more c.go_alike.new.course c.meet-met.new.self c.go_alike.new.left c.advance.new.self c.go_alike.new.right c.advance-in-loop-left_place.new.self i.0 i.1 c.in_ok-left_value.left_value c.in-Ok.value c.in_ok-met.ensures meets l.closed r.closed l.none r.none)
+    (i.0 ++ option_to_list c.value_of-left_value.result) (i.1 ++ option_to_list c.value_of-right_value.result)
+    (stood_next g.L.Inlet g.I.Items left_catalog left_limits c.args.left.now c.loop-left_place.left c.advance.new.reader c.go_alike.new.left c.advance.new.self i.0 c.in_ok-advance.field-0 c.value_of-left_value.result c.value_of-left_value.ensures left_closed (l.gives left_catalog left_limits c.args.left.now) left_stood)
+    (stood_next g.R.Inlet g.J.Items right_catalog right_limits c.args.right.now c.loop-left_place.right c.advance-in-loop-left_place.new.reader c.go_alike.new.right c.advance-in-loop-left_place.new.self i.1 c.in-Ok.found c.value_of-right_value.result c.value_of-right_value.ensures right_closed (r.gives right_catalog right_limits c.args.right.now) right_stood)
+    (meets_more c.go_alike.new.course c.meet-met.new.self c.go_alike.new.left c.advance.new.self c.go_alike.new.right c.advance-in-loop-left_place.new.self i.0 i.1 c.value_of-left_value.result c.value_of-right_value.result c.in_ok-met.ensures meets left_same right_same (λ none. l.none (none_of c.in_ok-advance.field-0 c.value_of-left_value.result c.value_of-left_value.ensures none)) (λ none. r.none (none_of c.in-Ok.found c.value_of-right_value.result c.value_of-right_value.ensures none)))
     c.in_default.not-Refused (false_case c.is_open.result _ _ c.is_open.ensures (search rules)) (false_case c.is_open-then-not-is_open.result _ _ c.is_open-then-not-is_open.ensures (search rules)) in
     rw c.verdict.ensures verdict
 
@@ -102,10 +110,14 @@ loop-left_place-preserved g c =
     let i = c.loop-left_place.invariant in
     let stays = c.go_alike.ensures.stays (search rules) in
     let open_still : IsOpen c.go_alike.new.left ⊎ IsOpen c.go_alike.new.right = rw (stays.1, stays.2) i.open_still in
-    let l = c.in_ok-left_value.ensures in
+    let l = c.in_ok-advance.ensures in
     let r = c.in-Ok.ensures in
+    let left_closed = l.closed in
+    let right_closed = r.closed in
+    let left_same = closed_same c.loop-left_place.left c.advance.new.reader c.go_alike.new.left c.advance.new.self c.in_ok-advance.field-0 c.value_of-left_value.result c.value_of-left_value.ensures left_closed in
+    let right_same = closed_same c.loop-left_place.right c.advance-in-loop-left_place.new.reader c.go_alike.new.right c.advance-in-loop-left_place.new.self c.in-Ok.found c.value_of-right_value.result c.value_of-right_value.ensures right_closed in
     let bound = i.bound in
-    let less = works_less g.I.Items g.J.Items c.go_alike.new.left c.advance.new.self c.go_alike.new.right c.advance-in-loop-left_place.new.self _ _ open_still l.less l.closed r.less r.closed in
+    let less = works_less g.I.Items g.J.Items c.go_alike.new.left c.advance.new.self c.go_alike.new.right c.advance-in-loop-left_place.new.self _ _ open_still l.spends left_same r.spends right_same in
     let left_work = ap (λ (x : Standing _). work_of g.I.Items x) stays.1 in
     let right_work = ap (λ (x : Standing _). work_of g.J.Items x) stays.2 in
     let left_reads = ap (λ (x : Standing _). reads_of x) stays.1 in
@@ -113,7 +125,7 @@ loop-left_place-preserved g c =
     let counted = ap count_of stays.0 in
     let left_heard = subst (λ (x : Standing _). StandsHeard g.I.Items g.L.Inlet x c.loop-left_place.left) (sym stays.1) i.left_heard in
     let right_heard = subst (λ (x : Standing _). StandsHeard g.J.Items g.R.Inlet x c.loop-left_place.right) (sym stays.2) (heard_alone g.J.Items g.R.Inlet c.loop-left_place.right_place c.args.right.now c.loop-left_place.right i.right_heard) in
-    let count = count_met c.go_alike.new.course c.meet-met.new.self c.in_ok-left_value.left_value c.in-Ok.value c.in_ok-met.ensures in
+    let count = count_met c.go_alike.new.course c.meet-met.new.self c.value_of-left_value.result c.value_of-right_value.result c.in_ok-met.ensures in
     record {
       left_ready = l.ready;
       right_ready = r.ready;
@@ -123,10 +135,10 @@ loop-left_place-preserved g c =
       right_within = λ reads h.
           let within : IfOpen c.go_alike.new.right (IsWithin g.R.Inlet reads c.args.right.now c.loop-left_place.right) = rw stays.2 (i.right_within reads h) in
           r.within c.args.right.now reads within;
-      left_asked = let asked = i.left_asked in omega (arith, asked, l.fewer_calls, left_reads);
-      right_asked = let asked = i.right_asked in omega (arith, asked, r.fewer_calls, right_reads);
-      left_handed = let handed = i.left_handed in omega (arith, handed, l.fewer_octets, left_reads);
-      right_handed = let handed = i.right_handed in omega (arith, handed, r.fewer_octets, right_reads);
+      left_asked = let asked = i.left_asked in omega (arith, asked, l.few_calls, left_reads);
+      right_asked = let asked = i.right_asked in omega (arith, asked, r.few_calls, right_reads);
+      left_handed = let handed = i.left_handed in omega (arith, handed, l.few_octets, left_reads);
+      right_handed = let handed = i.right_handed in omega (arith, handed, r.few_octets, right_reads);
       left_heard = record { either = inr (stands_heard g.I.Items g.L.Inlet c.loop-left_place.left c.advance.new.reader c.go_alike.new.left left_heard l.unasked l.no_read_failed) };
       right_heard = record { either = inr (stands_heard g.J.Items g.R.Inlet c.loop-left_place.right c.advance-in-loop-left_place.new.reader c.go_alike.new.right right_heard r.unasked r.no_read_failed) };
       bound = omega (arith, bound, less, count, left_work, right_work, counted);
@@ -139,11 +151,11 @@ loop-left_place-preserved g c =
           let left_stood : Stood g.L.Inlet g.I.Items left_catalog left_limits c.args.left.now c.loop-left_place.left c.go_alike.new.left w.0 = rw stays.1 w.2 in
           let right_stood : Stood g.R.Inlet g.J.Items right_catalog right_limits c.args.right.now c.loop-left_place.right c.go_alike.new.right w.1 = rw stays.2 w.3 in
           let meets : Meets c.go_alike.new.course c.go_alike.new.left c.go_alike.new.right w.0 w.1 = rw (stays.0, stays.1, stays.2) w.4 in (
-            w.0 ++ option_to_list c.in_ok-left_value.left_value,
-            w.1 ++ option_to_list c.in-Ok.value,
-            l.gives _ _ _ w.0 left_stood,
-            r.gives _ _ _ w.1 right_stood,
-            meets_more c.go_alike.new.course c.meet-met.new.self c.go_alike.new.left c.advance.new.self c.go_alike.new.right c.advance-in-loop-left_place.new.self w.0 w.1 c.in_ok-left_value.left_value c.in-Ok.value c.in_ok-met.ensures meets l.closed r.closed l.none r.none,
+            w.0 ++ option_to_list c.value_of-left_value.result,
+            w.1 ++ option_to_list c.value_of-right_value.result,
+            stood_next g.L.Inlet g.I.Items left_catalog left_limits c.args.left.now c.loop-left_place.left c.advance.new.reader c.go_alike.new.left c.advance.new.self w.0 c.in_ok-advance.field-0 c.value_of-left_value.result c.value_of-left_value.ensures left_closed (l.gives left_catalog left_limits c.args.left.now) left_stood,
+            stood_next g.R.Inlet g.J.Items right_catalog right_limits c.args.right.now c.loop-left_place.right c.advance-in-loop-left_place.new.reader c.go_alike.new.right c.advance-in-loop-left_place.new.self w.1 c.in-Ok.found c.value_of-right_value.result c.value_of-right_value.ensures right_closed (r.gives right_catalog right_limits c.args.right.now) right_stood,
+            meets_more c.go_alike.new.course c.meet-met.new.self c.go_alike.new.left c.advance.new.self c.go_alike.new.right c.advance-in-loop-left_place.new.self w.0 w.1 c.value_of-left_value.result c.value_of-right_value.result c.in_ok-met.ensures meets left_same right_same (λ none. l.none (none_of c.in_ok-advance.field-0 c.value_of-left_value.result c.value_of-left_value.ensures none)) (λ none. r.none (none_of c.in-Ok.found c.value_of-right_value.result c.value_of-right_value.ensures none)),
           );
     }
 
@@ -152,7 +164,7 @@ pub returns-in-Refused-clause-no_read_failed : goal.returns-in-Refused-clause-no
 returns-in-Refused-clause-no_read_failed g c =
     let i = c.loop-left_place.invariant in
     let stays = c.go_alike.ensures.stays (search rules) in
-    let l = c.in_ok-left_value.ensures in
+    let l = c.in_ok-advance.ensures in
     let left_heard = subst (λ (x : Standing _). StandsHeard g.I.Items g.L.Inlet x c.loop-left_place.left) (sym stays.1) i.left_heard in
     (stands_heard g.I.Items g.L.Inlet c.loop-left_place.left c.advance.new.reader c.go_alike.new.left left_heard l.unasked l.no_read_failed, heard_since g.J.Items g.R.Inlet c.loop-left_place.right_place c.args.right.now c.loop-left_place.right i.right_heard)
 
@@ -160,7 +172,7 @@ pub returns-then-not-is_open-2-clause-no_read_failed : goal.returns-then-not-is_
 returns-then-not-is_open-2-clause-no_read_failed g c =
     let i = c.loop-left_place.invariant in
     let stays = c.go_alike.ensures.stays (search rules) in
-    let l = c.in_ok-left_value.ensures in
+    let l = c.in_ok-advance.ensures in
     let r = c.in-Ok.ensures in
     let left_heard = subst (λ (x : Standing _). StandsHeard g.I.Items g.L.Inlet x c.loop-left_place.left) (sym stays.1) i.left_heard in
     let right_heard = subst (λ (x : Standing _). StandsHeard g.J.Items g.R.Inlet x c.loop-left_place.right) (sym stays.2) (heard_alone g.J.Items g.R.Inlet c.loop-left_place.right_place c.args.right.now c.loop-left_place.right i.right_heard) in (

@@ -1,56 +1,31 @@
-use Rattle.std.proofs.Common.{List, [], ◌∷◌, ◌++◌, refl, sym, subst, append-nil, true}
+use Rattle.std.proofs.Common.{◌≡◌, ℕ, List, [], ◌∷◌, ◌++◌, refl, subst, append-nil, Some, None, true}
 use Rattle.std.proofs.lemmas.Bool.{false≢true}
 use Rattle.ion_model.specs.declared.value.Value.{Value}
-use Rattle.ion_streams.specs.Formats.{format_of}
-use Rattle.ion_streams.specs.Outcomes.{ToldRefused}
-use Rattle.ion_streams.specs.reading.Read.{left_of, Reads}
-use Rattle.ion_streams.proofs.Steps.{on_err, gave_so_far, refused_plain, reads_next, stood_last}
-use Rattle.ion_values.proofs.Fronts.{front_open, front_ended}
-use Rattle.ion_values.proofs.Nexts.{refused_none, ended_of}
+use Rattle.ion_streams.specs.reading.Standing.{Stood}
+use Rattle.ion_streams.proofs.Passes.{stood_next, not_refused}
+use Rattle.ion_values.proofs.Nexts.{front_at, refused_not}
 use Rattle.ion_values.proofs.one_by_one.go_on.Goals as goal
 
-pub returns-in_err-close-in-Ok-End-clause-kept : goal.returns-in_err-close-in-Ok-End-clause-kept
-returns-in_err-close-in-Ok-End-clause-kept g c =
-    on_err c.from_residual.result _ (λ catalog limits first s h.
-    let read : Reads g.R.Inlet g.I.Items catalog limits first c.args.reader.now c.in-Open.source s = rw c.in-Open.is at h in
-    gave_so_far g.R.Inlet g.I.Items catalog limits first c.read_on.new.reader c.read_on.new.self.items (left_of c.read_on.new.self) true read.given s read.values
-    (rw c.in-Ok-End.field-0-is at (c.in-Ok-End.ensures.gives catalog limits first read.given read.each)))
-
-pub returns-in-Ok-Value-clause-gives : goal.returns-in-Ok-Value-clause-gives
-returns-in-Ok-Value-clause-gives g c = λ catalog limits first s h.
-    let read : Reads g.R.Inlet g.I.Items catalog limits first c.args.reader.now c.in-Open.source s = rw c.in-Open.is at h in
-    let stood = reads_next g.R.Inlet g.I.Items catalog limits first _ _ c.in-Open.source c.read_on.new.self s c.in-Ok-Value.value read
-    (rw c.in-Ok-Value.field-0-is at (c.in-Ok-Value.ensures.gives catalog limits first read.given read.each)) in
+pub returns-in-None-clause-gives : goal.returns-in-None-clause-gives
+returns-in-None-clause-gives g c = λ catalog limits first s h.
+    let next = c.in_ok-advance.ensures in
     record {
-      stood = stood;
-      front = λ some. front_open g.R.Inlet g.I.Items catalog limits (g.met.I.Items.settled catalog limits) g.met.I.Items.given_so_far g.met.I.Items.given_with_next
-          (g.met.I.Items.exact catalog limits) first c.read_on.new.reader c.read_on.new.self (s ++ c.in-Ok-Value.value ∷ []) (rw c.in-Ok-Value.field-0-is at c.in-Ok-Value.ensures.ready).begins stood;
-      refused = λ no. absurd no;
-    }
-
-pub returns-in-Ok-Refused-clause-gives : goal.returns-in-Ok-Refused-clause-gives
-returns-in-Ok-Refused-clause-gives g c = λ catalog limits first s h.
-    let read : Reads g.R.Inlet g.I.Items catalog limits first c.args.reader.now c.in-Open.source s = rw c.in-Open.is at h in
-    record {
-      stood = subst (λ (x : List Value). ToldRefused g.R.Inlet (format_of g.I.Items catalog limits) first c.read_on.new.reader x c.in-Ok-Refused.refusal) (sym (append-nil s))
-          (refused_plain g.R.Inlet g.I.Items catalog limits first c.read_on.new.reader c.in-Ok-Refused.refusal read.given s read.values
-          (rw c.in-Ok-Refused.field-0-is at (c.in-Ok-Refused.ensures.gives catalog limits first read.given read.each)));
+      stood = stood_next g.R.Inlet g.I.Items catalog limits first c.args.reader.now c.advance.new.reader c.args.place.now c.advance.new.self s None None refl (rw c.in-None.is at next.closed) (rw c.in-None.is at (next.gives catalog limits first)) h;
       front = λ no. absurd (false≢true no);
-      refused = λ _. refl;
+      refused = λ no. refl;
     }
 
-pub returns-in_ok-close-in-Ok-End-clause-gives : goal.returns-in_ok-close-in-Ok-End-clause-gives
-returns-in_ok-close-in-Ok-End-clause-gives g c = λ catalog limits first s h.
-    let read : Reads g.R.Inlet g.I.Items catalog limits first c.args.reader.now c.in-Open.source s = rw c.in-Open.is at h in
-    let end = rw c.in-Ok-End.field-0-is at (c.in-Ok-End.ensures.gives catalog limits first read.given read.each) in
-    let spent = rw c.in-Ok-End.field-0-is at c.in-Ok-End.ensures.ended in
-    let ends = c.in_ok-close-in-Ok-End.ensures.ends in
-    let stood = stood_last g.R.Inlet g.I.Items catalog limits first c.read_on.new.reader c.read_on.new.self c.close.new.place c.in_ok-close-in-Ok-End.field-0 c.value_of.result read.given s (sym c.value_of.ensures) read.values
-    spent.empty ends end in
-    let none = refused_none c.close.new.place _ _ c.in_ok-close-in-Ok-End.field-0 c.value_of.result (sym c.value_of.ensures) (ends end.u read.given end.stood) in
+pub returns-in-Some-clause-gives : goal.returns-in-Some-clause-gives
+returns-in-Some-clause-gives g c = λ catalog limits first s h.
+    let next = c.in_ok-advance.ensures in
+    let found : Value × ℕ = (c.in-Some.value, c.in-Some.field-0-1) in
+    let closed = rw c.in-Some.is at next.closed in
+    let gives = rw c.in-Some.is at (next.gives catalog limits first) in
+    let stood = stood_next g.R.Inlet g.I.Items catalog limits first c.args.reader.now c.advance.new.reader c.args.place.now c.advance.new.self s (Some found) (Some c.in-Some.value) refl closed gives h in
+    let fine = not_refused g.R.Inlet g.I.Items catalog limits first c.args.reader.now c.advance.new.reader c.args.place.now c.advance.new.self s found closed gives h in
     record {
       stood = stood;
-      front = λ some. front_ended g.R.Inlet g.I.Items catalog limits (g.met.I.Items.one_stream catalog limits) first c.read_on.new.reader _
-          (ended_of g.R.Inlet g.I.Items catalog limits first c.read_on.new.reader c.close.new.place _ c.in_ok-close-in-Ok-End.ensures.closed (λ refused. absurd (false≢true (rw (none refused) at some))) stood);
-      refused = none;
+      front = λ some. front_at g.R.Inlet g.I.Items catalog limits (g.met.I.Items.settled catalog limits) g.met.I.Items.given_so_far g.met.I.Items.given_with_next
+          (g.met.I.Items.exact catalog limits) (g.met.I.Items.one_stream catalog limits) first c.advance.new.reader c.advance.new.self (s ++ c.in-Some.value ∷ []) next.ready fine stood;
+      refused = λ refused. absurd (refused_not c.advance.new.self fine refused);
     }

@@ -1,8 +1,9 @@
-use Rattle.std.proofs.Common.{inl, inr, rules, ◌≢◌, false, arith, refl}
+use Rattle.std.proofs.Common.{inl, inr, rules, ◌≢◌, false, arith}
 use Rattle.ion_atoms.specs.declared.refusal.Reason.TheVariants as reasons
 use Rattle.std.proofs.lemmas.Result.{err_from_is_err_and}
 use Rattle.ion_streams.specs.reading.Read.{left_of}
-use Rattle.ion_streams.proofs.Steps.{gave_so_far, reads_went, reads_none, reads_failed, within_kept, on_err}
+use Rattle.ion_streams.proofs.Steps.{gave_so_far, reads_none, reads_failed, within_kept, on_err}
+use Rattle.ion_streams.proofs.Passes.{none_went, passes_on}
 use Rattle.ion_streams.proofs.Unfailed.{was_asked, gave_some}
 use Rattle.ion_streams.proofs.source.Source.read_on.Goals as goal
 
@@ -21,12 +22,9 @@ returns-in-Err-clause-gives g c =
 pub returns-in-Ok-Some-clause-gives : goal.returns-in-Ok-Some-clause-gives
 returns-in-Ok-Some-clause-gives g c =
     let t = c.in-Ok-Some.ensures in
-    λ catalog limits first given h. (
-      c.in-Ok-Some.value,
-      refl,
-      reads_went g.R.Inlet g.I.Items catalog limits first c.loop-refusal.reader c.loop-refusal.self c.take.new.self given _ (c.loop-refusal.invariant.reads catalog limits first given h)
-          (rw c.in-Ok-Some.field-0-is at t.gives) t.catalog t.limits,
-    )
+    λ catalog limits first given h.
+    passes_on g.A.Asked.of g.R.Inlet g.I.Items catalog limits first c.loop-refusal.reader c.loop-refusal.self c.take.new.self given c.in-Ok-Some.found
+    (c.loop-refusal.invariant.reads catalog limits first given h) (rw c.in-Ok-Some.field-0-is at t.gives) t.catalog t.limits
 
 pub returns-in-Ok-Some-clause-within : goal.returns-in-Ok-Some-clause-within
 returns-in-Ok-Some-clause-within g c = λ first reads h.
@@ -44,7 +42,7 @@ returns-in_err-refill-clause-kept g c =
     let from = c.loop-refusal.self in
     let mid = c.take.new.self in
     let t = c.in-Ok-None.ensures in
-    let gives = rw c.in-Ok-None.field-0-is at t.gives in
+    let gives = none_went g.A.Asked.of g.I.Items from mid _ c.in-Ok-None.field-0-is t.gives in
     on_err c.from_residual.result _ (λ catalog limits first s h.
     c.in_err-refill.ensures.kept catalog limits first s
     (record { given = h.given; each = reads_none g.R.Inlet g.I.Items catalog limits first c.loop-refusal.reader from mid h.given (i.reads catalog limits first h.given h.each) gives t.catalog t.limits; values = h.values }))
@@ -56,7 +54,7 @@ loop-refusal-preserved g c =
     let mid = c.take.new.self in
     let t = c.in-Ok-None.ensures in
     let f = c.in_ok-refill.ensures in
-    let gives = rw c.in-Ok-None.field-0-is at t.gives in
+    let gives = none_went g.A.Asked.of g.I.Items from mid _ c.in-Ok-None.field-0-is t.gives in
     let less = i.less in
     let asked = i.asked in
     let handed = i.handed in
@@ -78,13 +76,13 @@ returns-then-not-branch-clause-gives g c =
     let from = c.loop-refusal.self in
     let mid = c.take.new.self in
     let t = c.in-Ok-None.ensures in
-    let gives = rw c.in-Ok-None.field-0-is at t.gives in
+    let gives = none_went g.A.Asked.of g.I.Items from mid _ c.in-Ok-None.field-0-is t.gives in
     λ catalog limits first given h.
     c.in_ok-refill.ensures.ends (search rules) catalog limits first given (reads_none g.R.Inlet g.I.Items catalog limits first c.loop-refusal.reader from mid given (i.reads catalog limits first given h) gives t.catalog t.limits)
 
 pub returns-in-Ok-Some-clause-no_read_failed : goal.returns-in-Ok-Some-clause-no_read_failed
 returns-in-Ok-Some-clause-no_read_failed g c = λ h.
-    gave_some g.R.Inlet g.I.Items c.loop-refusal.reader c.loop-refusal.self _ c.in-Ok-Some.value c.in-Ok-Some.field-0-is c.in-Ok-Some.ensures.nothing (c.loop-refusal.invariant.heard h)
+    gave_some g.R.Inlet g.I.Items c.loop-refusal.reader c.loop-refusal.self _ c.in-Ok-Some.found c.in-Ok-Some.field-0-is c.in-Ok-Some.ensures.nothing (c.loop-refusal.invariant.heard h)
 
 pub returns-in-Err-clause-no_read_failed : goal.returns-in-Err-clause-no_read_failed
 returns-in-Err-clause-no_read_failed g c =

@@ -1,0 +1,17 @@
+use Rattle.std.proofs.Common.{◌≡◌, ℕ, ◌+◌, ◌*◌, ◌≤◌, ◌^◌, List, length}
+use Rattle.ion_model.specs.declared.value.Value.{Value}
+use Rattle.ion_streams.specs.reading.Standing.{work_of, reads_of, StoodEach}
+use Rattle.ion_streams.proofs.Driven.{Driven}
+use Rattle.ion_streams.proofs.checking.check_items.Given as goal
+
+abbrev pub invariant-loop-place : goal.invariant-loop-place
+invariant-loop-place g l = record {
+  driven : Driven g.R.Inlet g.I.Items l.fn.reads l.fn.reader l.reader l.place;
+  bound : l.values + work_of g.I.Items l.place ≤ 8193 * 2 ^ 32 + 1;
+  asked : g.R.Inlet.calls_made l.reader + reads_of l.place ≤ g.R.Inlet.calls_made l.fn.reader + l.fn.reads;
+  handed : length (g.R.Inlet.handed l.reader) + 4096 * reads_of l.place ≤ length (g.R.Inlet.handed l.fn.reader) + 4096 * l.fn.reads;
+  reads : (given : List (Value × ℕ)) × StoodEach g.R.Inlet g.I.Items (g.I.Items.catalog l.fn.items) (g.I.Items.limits l.fn.items) l.fn.reader l.reader l.place given × (length given ≡ l.values);
+}
+
+abbrev pub decreases-loop-place : goal.decreases-loop-place
+decreases-loop-place g l = work_of g.I.Items l.place
