@@ -1,6 +1,6 @@
-//! Amazon Ion 1.0 under one name: `use ion::{..}` gives values, documents read whole or one value after the other, what they
-//! are converted to, where two of them part, and lines and columns. Each name stands in one of the crates below, which
-//! `docs/API.md` shows.
+//! Amazon Ion 1.0 under one name: `use ion::{..}` gives values, documents read whole or one value
+//! after the other, what they are converted to, where two of them part, and lines and columns. Each
+//! name stands in one of the crates below, which `docs/API.md` shows.
 #![tactic(auto)]
 
 pub use ion_binary::BinaryWriter;

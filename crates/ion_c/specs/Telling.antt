@@ -20,4 +20,5 @@ pub record Tells (ending : Ending) (text : List ℕ) (answer : Answer) : Type 0 
 
 -- a pair's answer is right under the catalog and the limits that were asked for
 abbrev pub IsAnsweredPair : List ℕ → ℕ → ℕ → Pair → Answer → Type 0
-IsAnsweredPair catalog depth item pair answer = (e : Ending) × (text : List ℕ) × IsOutcome catalog depth item (IsCompared pair.left.now pair.right.now) e text × Tells e text answer
+IsAnsweredPair catalog depth item pair answer = (e : Ending) × (text : List ℕ) × IsOutcome catalog depth item (IsCompared pair.left.now pair.right.now) e text
+    × Tells e text answer

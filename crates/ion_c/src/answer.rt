@@ -8,14 +8,15 @@ use ion_memory::Outcome;
 #[repr(C)]
 #[derive(Clone, Copy, Debug)]
 pub struct Answer {
-    /// How many values there are (status 0), the number of the one that differs (1), or the octet that decides
-    /// (2).
+    /// How many values there are (status 0), the number of the one that differs (1), or the octet
+    /// that decides (2).
     pub number: u64,
     /// How many octets the text has, whether or not the buffer had room for it.
     pub length: u64,
     /// The status, 0 to 4.
     pub status: u32,
-    /// Whose octets were refused: 1 the only document, 2 the left, 3 the right, 4 the catalog; else 0.
+    /// Whose octets were refused: 1 the only document, 2 the left, 3 the right, 4 the catalog; else
+    /// 0.
     pub whose: u32,
     /// The number of the reason of a refusal, 1 to 22, or of a fault, 1 to 6; else 0.
     pub reason: u32,

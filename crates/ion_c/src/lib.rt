@@ -1,9 +1,10 @@
-//! Whole Ion documents in memory, for C and for every language that calls C: check, show, compare and convert.
+//! Whole Ion documents in memory, for C and for every language that calls C: check, show, compare
+//! and convert.
 //!
-//! Each call is given octets, tells what it found by an `Answer`, and returns the status, which is the command's:
-//! 0 accepted or equivalent, 1 different, 2 refused, 3 wrong limits, 4 a fault. Texts go into a buffer of the
-//! caller's, whole or not at all; `Answer::length` tells how long they are either way. `bindings/pureefjord.h`
-//! declares the calls.
+//! Each call is given octets, tells what it found by an `Answer`, and returns the status, which is
+//! the command's: 0 accepted or equivalent, 1 different, 2 refused, 3 wrong limits, 4 a fault.
+//! Texts go into a buffer of the caller's, whole or not at all; `Answer::length` tells how long
+//! they are either way. `bindings/pureefjord.h` declares the calls.
 #![tactic(auto)]
 
 mod answer;
@@ -58,7 +59,8 @@ pub extern "C" fn pureefjord_check(
     tell(&outcome, answer)
 }
 
-/// A line for each value of a document, `INDEX KIND depth DEPTH nodes NODES`, and after them `accepted VALUES`.
+/// A line for each value of a document, `INDEX KIND depth DEPTH nodes NODES`, and after them
+/// `accepted VALUES`.
 #[unsafe(no_mangle)]
 pub extern "C" fn pureefjord_show(
     alloc: Global,
@@ -78,8 +80,8 @@ pub extern "C" fn pureefjord_show(
     tell(&outcome, answer)
 }
 
-/// Whether two documents have equivalent streams, and else where they part: the number of the value, and in the
-/// buffer the path within it.
+/// Whether two documents have equivalent streams, and else where they part: the number of the
+/// value, and in the buffer the path within it.
 #[unsafe(no_mangle)]
 pub extern "C" fn pureefjord_compare(
     alloc: Global,
@@ -101,8 +103,8 @@ pub extern "C" fn pureefjord_compare(
     tell(&outcome, answer)
 }
 
-/// Compares as many of the pairs as there is room for answers, under one catalog, and answers how many. The path
-/// of a difference isn't told, but its length is.
+/// Compares as many of the pairs as there is room for answers, under one catalog, and answers how
+/// many. The path of a difference isn't told, but its length is.
 #[unsafe(no_mangle)]
 pub extern "C" fn pureefjord_compare_each(
     alloc: Global,
@@ -161,11 +163,12 @@ pub extern "C" fn pureefjord_to_binary(
     tell(&outcome, answer)
 }
 
-/// The name of the reason of this number into the buffer, whole or not at all, and how long it is; 0 where no
-/// reason has the number.
+/// The name of the reason of this number into the buffer, whole or not at all, and how long it is;
+/// 0 where no reason has the number.
 #[unsafe(no_mangle)]
 pub extern "C" fn pureefjord_reason_name(number: u32, buffer: &mut [u8]) -> usize
-    ensures named { 1 ≤ number → number ≤ 22 → (reason : AnyReason) × (reason_number reason ≡ number)
+    ensures named { 1 ≤ number → number ≤ 22 → (reason : AnyReason)
+        × (reason_number reason ≡ number)
         × (buffer.new ≡ laid (reason_name reason) buffer.old)
         × (result ≡ length (reason_name reason)) }
 {

@@ -18,8 +18,8 @@ pub struct Pair<'a> {
     pub right: &'a [u8],
 }
 
-/// Compares as many of the pairs as there is room for answers, under one catalog, and answers how many. The path
-/// of a difference isn't told, but its length is.
+/// Compares as many of the pairs as there is room for answers, under one catalog, and answers how
+/// many. The path of a difference isn't told, but its length is.
 pub fn compare_each(
     alloc: Global,
     pairs: &[Pair<'_>],

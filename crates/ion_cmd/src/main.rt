@@ -1,7 +1,7 @@
 //! The command: its words, the file system and the standard streams.
 #![tactic(auto)]
 
-use ion_run::{FileSystem, RandomHasher, run_arguments, refuse_words};
+use ion_run::{FileSystem, RandomHasher, refuse_words, run_arguments};
 use ion_symtab::ToWrite;
 use ion_words::WordsError;
 use std::env;

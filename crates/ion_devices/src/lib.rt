@@ -1,5 +1,5 @@
-//! Devices for tests: they give or take a few octets a call, and fail at one call, once, as if they would
-//! go on behind it.
+//! Devices for tests: they give or take a few octets a call, and fail at one call, once, as if they
+//! would go on behind it.
 #![tactic(auto)]
 
 use std::io;

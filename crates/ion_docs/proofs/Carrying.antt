@@ -27,7 +27,8 @@ some_each None f p = tt
 some_each (Some x) f p = f x p
 
 -- where nothing was carried, all is as it was
-pub as_it_was : {A B C : Type 0} {a now : A} {b encoder : B} {c writer : C} (P : A → B → C → Type 0) → (now ≡ a) × (encoder ≡ b) × (writer ≡ c) → P a b c → P now encoder writer
+pub as_it_was : {A B C : Type 0} {a now : A} {b encoder : B} {c writer : C} (P : A → B → C → Type 0) → (now ≡ a) × (encoder ≡ b) × (writer ≡ c) → P a b c
+    → P now encoder writer
 as_it_was P same p = rw (same.0, same.1, same.2) p
 
 -- the values s were put by a writer of binary documents
@@ -36,37 +37,54 @@ HasPut w s = w ≡ record { progress = behind nothing_yet s; failed = None }
 
 -- what such a writer wrote, as an encoder puts it
 module _ {T : Type 0} (W : Outlet T) (old new : Writing) (before now : T) (v : Value) where
-  pub wrote : (answer : Result (Unit {0}) Fault) → WritesValue W old new before now v answer → Rattle.std.specs.Result.OnOk answer ((s : List Value) → HasPut old s → TookBehind W before now (puts nothing_yet s) (puts nothing_yet (s ++ v ∷ [])))
-  wrote (Ok x) h = λ s put. (adds (behind nothing_yet s) v, puts_one nothing_yet s v, subst (λ (w : Writing). Took W.took W.written before now (adds w.progress v)) put h.ok)
+  pub wrote : (answer : Result (Unit {0}) Fault) → WritesValue W old new before now v answer
+      → Rattle.std.specs.Result.OnOk answer ((s : List Value) → HasPut old s → TookBehind W before now (puts nothing_yet s) (puts nothing_yet (s ++ v ∷ [])))
+  wrote (Ok x) h = λ s put. (
+    adds (behind nothing_yet s) v,
+    puts_one nothing_yet s v,
+    subst (λ (w : Writing). Took W.took W.written before now (adds w.progress v)) put h.ok,
+  )
   wrote (Err fault) h = tt
 
-  pub still_put : (answer : Result (Unit {0}) Fault) → WritesValue W old new before now v answer → Rattle.std.specs.Result.OnOk answer ((s : List Value) → HasPut old s → HasPut new (s ++ v ∷ []))
-  still_put (Ok x) h = λ s put. h.goes_on ∙ ap (λ (p : Progress). record { progress = p; failed = None }) (ap (λ (w : Writing). after w.progress v) put ∙ behind_one nothing_yet s v)
+  pub still_put : (answer : Result (Unit {0}) Fault) → WritesValue W old new before now v answer
+      → Rattle.std.specs.Result.OnOk answer ((s : List Value) → HasPut old s → HasPut new (s ++ v ∷ []))
+  still_put (Ok x) h = λ s put. h.goes_on ∙ ap (λ (p : Progress). record { progress = p; failed = None })
+      (ap (λ (w : Writing). after w.progress v) put ∙ behind_one nothing_yet s v)
   still_put (Err fault) h = tt
 
-  pub front : (answer : Result (Unit {0}) Fault) → WritesValue W old new before now v answer → OnErr answer ((s : List Value) → HasPut old s → TookSomeBehind W before now (puts nothing_yet s) (puts nothing_yet (s ++ v ∷ [])))
+  pub front : (answer : Result (Unit {0}) Fault) → WritesValue W old new before now v answer
+      → OnErr answer ((s : List Value) → HasPut old s → TookSomeBehind W before now (puts nothing_yet s) (puts nothing_yet (s ++ v ∷ [])))
   front (Ok x) h = tt
-  front (Err fault) h = λ s put. (adds (behind nothing_yet s) v, puts_one nothing_yet s v, subst (λ (w : Writing). TookFront W.took W.written before now (adds w.progress v)) put h.front)
+  front (Err fault) h = λ s put. (
+    adds (behind nothing_yet s) v,
+    puts_one nothing_yet s v,
+    subst (λ (w : Writing). TookFront W.took W.written before now (adds w.progress v)) put h.front,
+  )
 
-  pub cause : (answer : Result (Unit {0}) Fault) → WritesValue W old new before now v answer → (s : List Value) → HasPut old s → IfErr answer (IsPuttingFault binary_encoding (s ++ v ∷ []) (W.has_failed now))
+  pub cause : (answer : Result (Unit {0}) Fault) → WritesValue W old new before now v answer → (s : List Value) → HasPut old s
+      → IfErr answer (IsPuttingFault binary_encoding (s ++ v ∷ []) (W.has_failed now))
   cause (Ok x) h = λ s put. tt
   cause (Err fault) h = λ s put. binary_fault s v (W.has_failed now) fault (rw put at h.cause)
 
 -- what a writer of text documents wrote, as an encoder puts it
 module _ {T : Type 0} (W : Outlet T) (old new : Option Fault) (before now : T) (v : Value) where
-  pub text_wrote : (answer : Result (Unit {0}) Fault) → text.WritesValue W old new before now v answer → Rattle.std.specs.Result.OnOk answer ((s : List Value) → old ≡ None → TookBehind W before now (text_of s) (text_of (s ++ v ∷ [])))
+  pub text_wrote : (answer : Result (Unit {0}) Fault) → text.WritesValue W old new before now v answer
+      → Rattle.std.specs.Result.OnOk answer ((s : List Value) → old ≡ None → TookBehind W before now (text_of s) (text_of (s ++ v ∷ [])))
   text_wrote (Ok x) h = λ s put. (text_output.adds v, text_one s v, h.ok)
   text_wrote (Err fault) h = tt
 
-  pub text_still_put : (answer : Result (Unit {0}) Fault) → text.WritesValue W old new before now v answer → Rattle.std.specs.Result.OnOk answer ((s : List Value) → old ≡ None → new ≡ None)
+  pub text_still_put : (answer : Result (Unit {0}) Fault) → text.WritesValue W old new before now v answer
+      → Rattle.std.specs.Result.OnOk answer ((s : List Value) → old ≡ None → new ≡ None)
   text_still_put (Ok x) h = λ s put. h.goes_on
   text_still_put (Err fault) h = tt
 
-  pub text_front : (answer : Result (Unit {0}) Fault) → text.WritesValue W old new before now v answer → OnErr answer ((s : List Value) → old ≡ None → TookSomeBehind W before now (text_of s) (text_of (s ++ v ∷ [])))
+  pub text_front : (answer : Result (Unit {0}) Fault) → text.WritesValue W old new before now v answer
+      → OnErr answer ((s : List Value) → old ≡ None → TookSomeBehind W before now (text_of s) (text_of (s ++ v ∷ [])))
   text_front (Ok x) h = tt
   text_front (Err fault) h = λ s put. (text_output.adds v, text_one s v, h.front)
 
-  pub text_cause : (answer : Result (Unit {0}) Fault) → text.WritesValue W old new before now v answer → (s : List Value) → old ≡ None → IfErr answer (IsPuttingFault text_encoding (s ++ v ∷ []) (W.has_failed now))
+  pub text_cause : (answer : Result (Unit {0}) Fault) → text.WritesValue W old new before now v answer → (s : List Value) → old ≡ None
+      → IfErr answer (IsPuttingFault text_encoding (s ++ v ∷ []) (W.has_failed now))
   text_cause (Ok x) h = λ s put. tt
   text_cause (Err fault) h = λ s put. text_fault (s ++ v ∷ []) (W.has_failed now) fault h.cause
 
@@ -74,4 +92,5 @@ module _ {T : Type 0} (W : Outlet T) (old new : Option Fault) (before now : T) (
 module _ {S X Y T : Type 0} (R : Inlet S) (I : Items X) (E : Encoder Y) (W : Outlet T) (g : Catalog) (l : Limits) (first : S) (device : T) where
   abbrev pub Done : S → ℕ → Standing X → Y → T → Type 0
   Done now values place encoder writer =
-      (s : List Value) × Stood R I g l first now place s × (length s ≡ values) × E.has_put encoder s × Took W.took W.written device writer (E.puts s) × AreKept s
+      (s : List Value) × Stood R I g l first now place s × (length s ≡ values) × E.has_put encoder s × Took W.took W.written device writer (E.puts s)
+      × AreKept s

@@ -21,7 +21,8 @@ module _ (b : Bool) (g : Catalog) (l : Limits) where
       Answers (trace_in b g l) u s piece result → Answers (chosen g l) u s piece result
   answers_in u s piece (Ok step) begun h = gave step.used step.value h
     where
-      gave : (used : ℕ) (value : Option Value) → Answers (trace_in b g l) u s piece (Ok (record { used = used; value = value })) → Answers (chosen g l) u s piece (Ok (record { used = used; value = value }))
+      gave : (used : ℕ) (value : Option Value) → Answers (trace_in b g l) u s piece (Ok (record { used = used; value = value }))
+          → Answers (chosen g l) u s piece (Ok (record { used = used; value = value }))
       gave used None h = rw (chosen_in b g l (u ++ piece) begun) h
       gave used (Some v) h = rw (chosen_in b g l (u ++ piece) begun) h
   answers_in u s piece (Err refusal) begun h = λ other. rw (chosen_in b g l (u ++ piece) begun) (h other)
@@ -34,11 +35,13 @@ pub inside : (d : DocReader) (f : Format) (u : List ℕ) (s : List (Value × ℕ
 inside d f u s is h = let P : Format → Type 0 = λ f. FormatStands d f u s in subst P is h
 
 -- 2. A reader chosen before, for which Old holds; behind the step New does.
-module _ (d : DocReader) (b : Bool) (limits : Limits) (catalog : Catalog) (Old : List ℕ → List (Value × ℕ) → Type 0) (stood : (u : List ℕ) (s : List (Value × ℕ)) → DocStands d u s → Handed d b limits catalog (Old u s) u) where
+module _ (d : DocReader) (b : Bool) (limits : Limits) (catalog : Catalog) (Old : List ℕ → List (Value × ℕ) → Type 0)
+    (stood : (u : List ℕ) (s : List (Value × ℕ)) → DocStands d u s → Handed d b limits catalog (Old u s) u) where
   pub forward_stands : (more : Limits) (other : Catalog) (New : List ℕ → List (Value × ℕ) → Type 0) (piece : List ℕ) (result : Result Step Refusal) →
       IfOk result (λ step. (u : List ℕ) (s : List (Value × ℕ)) → Old u s → New (u ++ take step.used piece) (s ++ given_at step.value (length u + step.used))) →
       more ≡ limits → other ≡ catalog →
-      IfOk result (λ step. (u : List ℕ) (s : List (Value × ℕ)) → DocStands d u s → Handed d b more other (New (u ++ take step.used piece) (s ++ given_at step.value (length u + step.used))) (u ++ take step.used piece))
+      IfOk result (λ step. (u : List ℕ) (s : List (Value × ℕ)) → DocStands d u s
+      → Handed d b more other (New (u ++ take step.used piece) (s ++ given_at step.value (length u + step.used))) (u ++ take step.used piece))
   forward_stands more other New piece (Ok step) onward within under = λ u s stands.
       let h = stood u s stands in
       (onward u s h.0, begins_on b u (take step.used piece) h.1, within ∙ h.2, under ∙ h.3)
@@ -50,14 +53,17 @@ module _ (d : DocReader) (b : Bool) (limits : Limits) (catalog : Catalog) (Old :
   forward_answers piece result answers u s stands =
       let h = stood u s stands in
       answers_in b d.catalog.now d.limits u s piece result (begins_on b u piece h.1)
-      (let P : (List ℕ → Trace) → Type 0 = λ t. Answers t u s piece result in subst P (same_trace b catalog d.catalog.now limits d.limits h.3 h.2) (answers u s h.0))
+      (let P : (List ℕ → Trace) → Type 0 = λ t. Answers t u s piece result in
+      subst P (same_trace b catalog d.catalog.now limits d.limits h.3 h.2) (answers u s h.0))
 
   -- the same of a step that doesn't hand out its value
   pub forward_passed : (more : Limits) (other : Catalog) (New : List ℕ → List (Value × ℕ) → Type 0) (piece : List ℕ) (result : Result Passed Refusal) →
-      IfOk result (λ passed. (u : List ℕ) (s : List (Value × ℕ)) → Old u s → (value : Option Value) × (option_map outline_of value ≡ passed.outline) × New (u ++ take passed.used piece) (s ++ given_at value (length u + passed.used))) →
+      IfOk result (λ passed. (u : List ℕ) (s : List (Value × ℕ)) → Old u s → (value : Option Value) × (option_map outline_of value ≡ passed.outline)
+      × New (u ++ take passed.used piece) (s ++ given_at value (length u + passed.used))) →
       more ≡ limits → other ≡ catalog →
       IfOk result (λ passed. (u : List ℕ) (s : List (Value × ℕ)) → DocStands d u s →
-      (value : Option Value) × (option_map outline_of value ≡ passed.outline) × Handed d b more other (New (u ++ take passed.used piece) (s ++ given_at value (length u + passed.used))) (u ++ take passed.used piece))
+      (value : Option Value) × (option_map outline_of value ≡ passed.outline)
+      × Handed d b more other (New (u ++ take passed.used piece) (s ++ given_at value (length u + passed.used))) (u ++ take passed.used piece))
   forward_passed more other New piece (Ok passed) onward within under = λ u s stands.
       let h = stood u s stands in
       let on = onward u s h.0 in
@@ -84,40 +90,51 @@ begins_front b [] used h some = absurd h
 begins_front b (first ∷ rest) zero h some = absurd (omega arith)
 begins_front b (first ∷ rest) (suc used) h some = h
 
-module _ (d : DocReader) (b : Bool) (Old : List ℕ → List (Value × ℕ) → Type 0) (piece : List ℕ) (result : Result Step Refusal) (is : d.format ≡ Unbegun) (begins : Begins b piece) (stood : Old [] []) where
+module _ (d : DocReader) (b : Bool) (Old : List ℕ → List (Value × ℕ) → Type 0) (piece : List ℕ) (result : Result Step Refusal) (is : d.format ≡ Unbegun)
+    (begins : Begins b piece) (stood : Old [] []) where
   pub first_stands : (more : Limits) (other : Catalog) (New : List ℕ → List (Value × ℕ) → Type 0) →
       IfOk result (λ step. 0 < step.used) →
       IfOk result (λ step. (u : List ℕ) (s : List (Value × ℕ)) → Old u s → New (u ++ take step.used piece) (s ++ given_at step.value (length u + step.used))) →
       more ≡ d.limits → other ≡ d.catalog.now →
-      IfOk result (λ step. (u : List ℕ) (s : List (Value × ℕ)) → DocStands d u s → Handed d b more other (New (u ++ take step.used piece) (s ++ given_at step.value (length u + step.used))) (u ++ take step.used piece))
+      IfOk result (λ step. (u : List ℕ) (s : List (Value × ℕ)) → DocStands d u s
+      → Handed d b more other (New (u ++ take step.used piece) (s ++ given_at step.value (length u + step.used))) (u ++ take step.used piece))
   first_stands more other New = go result
     where
       go : (result : Result Step Refusal) → IfOk result (λ step. 0 < step.used) →
-          IfOk result (λ step. (u : List ℕ) (s : List (Value × ℕ)) → Old u s → New (u ++ take step.used piece) (s ++ given_at step.value (length u + step.used))) →
+          IfOk result (λ step. (u : List ℕ) (s : List (Value × ℕ)) → Old u s
+          → New (u ++ take step.used piece) (s ++ given_at step.value (length u + step.used))) →
           more ≡ d.limits → other ≡ d.catalog.now →
-          IfOk result (λ step. (u : List ℕ) (s : List (Value × ℕ)) → DocStands d u s → Handed d b more other (New (u ++ take step.used piece) (s ++ given_at step.value (length u + step.used))) (u ++ take step.used piece))
+          IfOk result (λ step. (u : List ℕ) (s : List (Value × ℕ)) → DocStands d u s
+          → Handed d b more other (New (u ++ take step.used piece) (s ++ given_at step.value (length u + step.used))) (u ++ take step.used piece))
       go (Ok step) some onward within under = λ u s stands.
           let h = inside d Unbegun u s is stands in
-          let P : List ℕ → Type 0 = λ u. Handed d b more other (New (u ++ take step.used piece) (s ++ given_at step.value (length u + step.used))) (u ++ take step.used piece) in
-          let Q : List (Value × ℕ) → Type 0 = λ s. Handed d b more other (New (take step.used piece) (s ++ given_at step.value (0 + step.used))) (take step.used piece) in
+          let P : List ℕ → Type 0 = λ u. Handed d b more other (New (u ++ take step.used piece) (s ++ given_at step.value (length u + step.used)))
+          (u ++ take step.used piece) in
+          let Q : List (Value × ℕ) → Type 0 = λ s. Handed d b more other (New (take step.used piece) (s ++ given_at step.value (0 + step.used)))
+          (take step.used piece) in
           subst P (sym h.0) (subst Q (sym h.1) (onward [] [] stood, begins_front b piece step.used begins some, within, under))
       go (Err refusal) some onward within under = tt
 
-  pub first_answers : (limits : Limits) (catalog : Catalog) → ((u : List ℕ) (s : List (Value × ℕ)) → Old u s → Answers (trace_in b catalog limits) u s piece result) → limits ≡ d.limits → catalog ≡ d.catalog.now →
+  pub first_answers : (limits : Limits) (catalog : Catalog)
+      → ((u : List ℕ) (s : List (Value × ℕ)) → Old u s → Answers (trace_in b catalog limits) u s piece result) → limits ≡ d.limits → catalog ≡ d.catalog.now →
       (u : List ℕ) (s : List (Value × ℕ)) → DocStands d u s → Answers (chosen d.catalog.now d.limits) u s piece result
   first_answers limits catalog answers within under u s stands =
       let h = inside d Unbegun u s is stands in
       let P : (List ℕ → Trace) → Type 0 = λ t. Answers t [] [] piece result in
       let Q : List ℕ → Type 0 = λ u. Answers (chosen d.catalog.now d.limits) u s piece result in
       let R : List (Value × ℕ) → Type 0 = λ s. Answers (chosen d.catalog.now d.limits) [] s piece result in
-      subst Q (sym h.0) (subst R (sym h.1) (answers_in b d.catalog.now d.limits [] [] piece result begins (subst P (same_trace b catalog d.catalog.now limits d.limits under within) (answers [] [] stood))))
+      subst Q (sym h.0) (subst R (sym h.1) (answers_in b d.catalog.now d.limits [] [] piece result begins
+      (subst P (same_trace b catalog d.catalog.now limits d.limits under within) (answers [] [] stood))))
 
 -- the reader that was chosen is kept
 pub first_kept : (d new : DocReader) (f : Format) (piece : List ℕ) (result : Result Step Refusal) → new ≡ record d { format = f } →
-    IfOk result (λ step. (u : List ℕ) (s : List (Value × ℕ)) → DocStands d u s → FormatStands d f (u ++ take step.used piece) (s ++ given_at step.value (length u + step.used))) →
-    IfOk result (λ step. (u : List ℕ) (s : List (Value × ℕ)) → DocStands d u s → DocStands new (u ++ take step.used piece) (s ++ given_at step.value (length u + step.used)))
+    IfOk result (λ step. (u : List ℕ) (s : List (Value × ℕ)) → DocStands d u s
+    → FormatStands d f (u ++ take step.used piece) (s ++ given_at step.value (length u + step.used))) →
+    IfOk result (λ step. (u : List ℕ) (s : List (Value × ℕ)) → DocStands d u s
+    → DocStands new (u ++ take step.used piece) (s ++ given_at step.value (length u + step.used)))
 first_kept d new f piece (Ok step) is h =
-    λ u s stands. let P : DocReader → Type 0 = λ x. DocStands x (u ++ take step.used piece) (s ++ given_at step.value (length u + step.used)) in subst P (sym is) (same f (u ++ take step.used piece) (s ++ given_at step.value (length u + step.used)) (h u s stands))
+    λ u s stands. let P : DocReader → Type 0 = λ x. DocStands x (u ++ take step.used piece) (s ++ given_at step.value (length u + step.used)) in
+    subst P (sym is) (same f (u ++ take step.used piece) (s ++ given_at step.value (length u + step.used)) (h u s stands))
   where
     same : (f : Format) (u : List ℕ) (s : List (Value × ℕ)) → FormatStands d f u s → FormatStands (record d { format = f }) f u s
     same Unbegun u s h = h
@@ -134,12 +151,15 @@ pub other_at_first : (piece : List ℕ) (octet : ℕ) → Some octet ≡ slice_g
 other_at_first [] octet e other = absurd cc
 other_at_first (first ∷ rest) octet e other = let same : octet ≡ first = cc in ne_eqb first 224 (λ is. other (same ∙ is))
 
-some_used : (b : Bool) (piece : List ℕ) (used : ℕ) (value : Option Value) → Begins b piece → (value ≡ None → used ≡ length piece) → (IsSome value → 0 < 0 + 2 * used) → 0 < used
+some_used : (b : Bool) (piece : List ℕ) (used : ℕ) (value : Option Value) → Begins b piece → (value ≡ None → used ≡ length piece)
+    → (IsSome value → 0 < 0 + 2 * used) → 0 < used
 some_used b [] used value begins all progress = absurd begins
 some_used b (first ∷ rest) used None begins all progress = let e = all refl in omega (arith, e)
 some_used b (first ∷ rest) used (Some v) begins all progress = let e = progress refl in omega (arith, e)
 
-pub first_used : (b : Bool) (piece : List ℕ) (result : Result Step Refusal) (pending : ℕ) → pending ≡ 0 → Begins b piece → IfOk result (UsesAll piece) → (new : ℕ) → IfOk result (λ step. IsSome step.value → new < pending + 2 * step.used) →
+pub first_used : (b : Bool) (piece : List ℕ) (result : Result Step Refusal) (pending : ℕ) → pending ≡ 0 → Begins b piece → IfOk result (UsesAll piece)
+    → (new : ℕ) → IfOk result (λ step. IsSome step.value → new < pending + 2 * step.used) →
     IfOk result (λ step. 0 < step.used)
-first_used b piece (Ok step) pending none begins all new progress = some_used b piece step.used step.value begins all (λ some. let h = progress some in omega (arith, h, none))
+first_used b piece (Ok step) pending none begins all new progress =
+    some_used b piece step.used step.value begins all (λ some. let h = progress some in omega (arith, h, none))
 first_used b piece (Err refusal) pending none begins all new progress = tt

@@ -40,15 +40,21 @@ module _ (g : Catalog) (k : Limits) (E : Encoding) (u : List ℕ) where
       (a.2 ∙ (ap E.document e.1 ∙ sym b.2), ap Err e.0)
 
   -- what was written of a document denotes its stream
-  pub conversion_denotes : (w : List ℕ) (values : ℕ) (s : List Value) → IsConversionOf g k E u w (Ok values) → Denotes g k u s → (h : Catalog) (m : Limits) → E.admits m s → Denotes h m w s
+  pub conversion_denotes : (w : List ℕ) (values : ℕ) (s : List Value) → IsConversionOf g k E u w (Ok values) → Denotes g k u s → (h : Catalog) (m : Limits)
+      → E.admits m s → Denotes h m w s
   conversion_denotes w values s c d h m fits =
       let e = one_document g k u c.0 s c.1 d in
       subst (λ (x : List Value). DenotesAnywhere E w x) e c.4 h m fits
 
   -- so the two are equivalent
-  pub conversion_equivalent : (reflexive : (v : Value) → same v v ≡ true) (w : List ℕ) (values : ℕ) → IsConversionOf g k E u w (Ok values) → ((s : List Value) → Denotes g k u s → E.admits k s) → SaysEquivalent g k u w values
+  pub conversion_equivalent : (reflexive : (v : Value) → same v v ≡ true) (w : List ℕ) (values : ℕ) → IsConversionOf g k E u w (Ok values)
+      → ((s : List Value) → Denotes g k u s → E.admits k s) → SaysEquivalent g k u w values
   conversion_equivalent reflexive w values c fits = record { s = c.0; t = c.0; left = c.1; right = c.4 g k (fits c.0 c.1); streams = (own reflexive c.0, c.2) }
 
   -- they are what the document of a stream is
-  pub conversion_is : ((s : List Value) → Denotes g k u s → DenotesAnywhere E (E.document s) s) → (w : List ℕ) (values : ℕ) → IsConversionOf g k E u w (Ok values) ↔ ((s : List Value) × Denotes g k u s × (length s ≡ values) × (w ≡ E.document s))
-  conversion_is again w values = (λ c. (c.0, c.1, c.2, c.3), λ c. (c.0, c.1, c.2, c.3, subst (λ (x : List ℕ). DenotesAnywhere E x c.0) (sym c.3) (again c.0 c.1)))
+  pub conversion_is : ((s : List Value) → Denotes g k u s → DenotesAnywhere E (E.document s) s) → (w : List ℕ) (values : ℕ)
+      → IsConversionOf g k E u w (Ok values) ↔ ((s : List Value) × Denotes g k u s × (length s ≡ values) × (w ≡ E.document s))
+  conversion_is again w values = (
+    λ c. (c.0, c.1, c.2, c.3),
+    λ c. (c.0, c.1, c.2, c.3, subst (λ (x : List ℕ). DenotesAnywhere E x c.0) (sym c.3) (again c.0 c.1)),
+  )

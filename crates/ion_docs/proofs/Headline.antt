@@ -50,7 +50,8 @@ one_on v w s t index e m n h = record {
   apart = h.apart;
 }
 
-parted_on : (v w : Value) (s t : List Value) (index : ℕ) (b : Bool) → same v w ≡ b → ((m : ℕ) → parts s t ≡ Some m → Parted m s t) → cond b (option_map (λ n. n + 1) (parts s t)) (Some 1) ≡ Some index → Parted index (v ∷ s) (w ∷ t)
+parted_on : (v w : Value) (s t : List Value) (index : ℕ) (b : Bool) → same v w ≡ b → ((m : ℕ) → parts s t ≡ Some m → Parted m s t)
+    → cond b (option_map (λ n. n + 1) (parts s t)) (Some 1) ≡ Some index → Parted index (v ∷ s) (w ∷ t)
 parted_on v w s t index true e rest k = let next = next_number (parts s t) index k in one_on v w s t index e next.0 next.2 (rest next.0 next.1)
 parted_on v w s t index false e rest k = let n : index ≡ 0 + 1 = cc in record { before = 0; number = n; agree = refl; apart = e }
 
@@ -71,7 +72,8 @@ both_second : (a b : Bool) → a && b ≡ true → b ≡ true
 both_second true b h = h
 both_second false b h = absurd cc
 
-parts_at : (before : ℕ) (s t : List Value) → pointwise same (take before s) (take before t) ≡ true → Apart (slice_get s before) (slice_get t before) → parts s t ≡ Some (before + 1)
+parts_at : (before : ℕ) (s t : List Value) → pointwise same (take before s) (take before t) ≡ true → Apart (slice_get s before) (slice_get t before)
+    → parts s t ≡ Some (before + 1)
 parts_at before [] [] agree apart = absurd apart
 parts_at zero [] (w ∷ t) agree apart = refl
 parts_at (suc before) [] (w ∷ t) agree apart = absurd cc
@@ -111,7 +113,13 @@ pub part_first : (index : ℕ) (path : List Part) (s t : List Value) → PartAt 
 part_first index path s t h =
     let p = parted s t index h.first in
     let e = before_it index p.before p.number in
-    record { before = p.before; number = p.number; agree = p.agree; there = there path (slice_get s p.before) (slice_get t p.before) p.apart (subst (λ n. IsPathOf path (slice_get s n) (slice_get t n)) e h.within) }
+    record {
+      before = p.before;
+      number = p.number;
+      agree = p.agree;
+      there =
+          there path (slice_get s p.before) (slice_get t p.before) p.apart (subst (λ n. IsPathOf path (slice_get s n) (slice_get t n)) e h.within);
+    }
 
 pub part_at : (index : ℕ) (path : List Part) (s t : List Value) → PartFirst index path s t → PartAt index path s t
 part_at index path s t h =
@@ -148,7 +156,8 @@ module _ (g : Catalog) (k : Limits) where
       inl (given, ((promised g k u).exact given).0 (record { last = last; ends = is; values = refl }))
   judged_by u (Err refusal) is =
       let h = promised g k u in
-      let ends = refused_late (documents g k) (λ u. (promised g k u).reasons) u (chosen g k u).given refusal (OpenAfter k) refl is h.refused h.shown (h.unfinished refusal) (λ s. (h.exact s).1) in
+      let ends = refused_late (documents g k) (λ u. (promised g k u).reasons) u (chosen g k u).given refusal (OpenAfter k) refl is h.refused h.shown
+      (h.unfinished refusal) (λ s. (h.exact s).1) in
       inr (plain (chosen g k u).given, refusal, ends.refused)
 
   judged : (u : List ℕ) → Judged u
@@ -166,8 +175,17 @@ module _ (g : Catalog) (k : Limits) where
     of_streams l r s t d e None is = (Equivalent (length s), record { s = s; t = t; left = d; right = e; streams = (none_parted s t is, refl) })
     of_streams l r s t d e (Some index) is =
         let p = parted s t index is in
-        let path = path_of (slice_get s p.before) (slice_get t p.before) p.apart in
-        (Different index path.0, record { s = s; t = t; left = d; right = e; streams = part_at index path.0 s t (record { before = p.before; number = p.number; agree = p.agree; there = path.1 }) })
+        let path = path_of (slice_get s p.before) (slice_get t p.before) p.apart in (
+          Different index path.0,
+          record {
+            s = s;
+            t = t;
+            left = d;
+            right = e;
+            streams =
+                part_at index path.0 s t (record { before = p.before; number = p.number; agree = p.agree; there = path.1 });
+          },
+        )
 
     of_both : (l r : List ℕ) → Judged l → Judged r → (v : Verdict) × IsVerdictOn g k l r v
     unfolding Judged

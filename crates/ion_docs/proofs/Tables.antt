@@ -54,7 +54,8 @@ module _ (F : Format) where
       ap (λ x. plain (t.given ++ given_last x total)) h.ends ∙ (map-append (λ (x : Value × ℕ). x.0) t.given (given_at h.last total) ∙
       (ap (λ x. plain t.given ++ x) (last_value h.last total) ∙ sym h.values))
 
-  pub document_of_tables : (octets : List ℕ) (tables : List Table) → ((s : List Value) → F.denotes octets s → Streams (F.trace octets) s) → IsDocumentOf F octets tables → IsCatalog F octets (Ok tables)
+  pub document_of_tables : (octets : List ℕ) (tables : List Table) → ((s : List Value) → F.denotes octets s → Streams (F.trace octets) s)
+      → IsDocumentOf F octets tables → IsCatalog F octets (Ok tables)
   document_of_tables octets tables exact h =
       let all = all_values (F.trace octets) (length octets) h.s (exact h.s h.denoted) in
       record {
@@ -69,7 +70,8 @@ module _ (l : Limits) where
   Loads octets = (answer : Result (List Table) Refusal) × IsCatalog (documents [] l) octets answer
 
   -- whose values all describe tables: by what the end answers
-  by_end : (octets : List ℕ) (tables : List Table) → catalog_of [] (given_all (documents [] l) octets) ≡ Ok tables → (ends : Result (Option Value) Refusal) → (chosen [] l octets).ends ≡ ends → Loads octets
+  by_end : (octets : List ℕ) (tables : List Table) → catalog_of [] (given_all (documents [] l) octets) ≡ Ok tables → (ends : Result (Option Value) Refusal)
+      → (chosen [] l octets).ends ≡ ends → Loads octets
   by_end octets tables described (Ok last) is =
       let t = chosen [] l octets in
       let streams : Streams t (plain t.given ++ option_to_list last) = record { last = last; ends = is; values = refl } in
@@ -84,7 +86,8 @@ module _ (l : Limits) where
       )
   by_end octets tables described (Err q) is =
       let h = promised [] l octets in
-      let ends = refused_late (documents [] l) (λ u. (promised [] l u).reasons) octets (chosen [] l octets).given q (OpenAfter l) refl is h.refused h.shown (h.unfinished q) (λ s. (h.exact s).1) in
+      let ends = refused_late (documents [] l) (λ u. (promised [] l u).reasons) octets (chosen [] l octets).given q (OpenAfter l) refl is h.refused h.shown
+      (h.unfinished q) (λ s. (h.exact s).1) in
       (Err q, inr (record { s = plain (chosen [] l octets).given; refused = ends.refused; tables = tables; described = described }))
 
   by_values : (octets : List ℕ) (answer : Result (List Table) Refusal) → catalog_of [] (given_all (documents [] l) octets) ≡ answer → Loads octets
@@ -95,15 +98,18 @@ module _ (l : Limits) where
   some_answer octets = by_values octets (catalog_of [] (given_all (documents [] l) octets)) refl
 
 -- 4. What is found in it.
-past : (named : Bool) (b : Table) (before all after : Option Table) → (if named then Some b else before) ≡ None → (before ≡ None → all ≡ after) → (if named then Some b else all) ≡ after
+past : (named : Bool) (b : Table) (before all after : Option Table) → (if named then Some b else before) ≡ None → (before ≡ None → all ≡ after)
+    → (if named then Some b else all) ≡ after
 past true b before all after e go = absurd cc
 past false b before all after e go = go e
 
 -- behind tables that have none of this name and version
-found_behind : (before : List Table) (u : Table) (after : List Table) (name : List ℕ) (version : ℕ) → find before name version ≡ None → find (before ++ u ∷ after) name version ≡ find (u ∷ after) name version
+found_behind : (before : List Table) (u : Table) (after : List Table) (name : List ℕ) (version : ℕ) → find before name version ≡ None
+    → find (before ++ u ∷ after) name version ≡ find (u ∷ after) name version
 found_behind [] u after name version none = refl
 found_behind (b ∷ before) u after name version none =
-    past (is_named name version b) b (find before name version) (find (before ++ u ∷ after) name version) (find (u ∷ after) name version) none (found_behind before u after name version)
+    past (is_named name version b) b (find before name version) (find (before ++ u ∷ after) name version) (find (u ∷ after) name version) none
+    (found_behind before u after name version)
 
 found_first : (u : Table) (after : List Table) → find (u ∷ after) u.name u.version ≡ Some u
 found_first u after =
@@ -111,15 +117,19 @@ found_first u after =
     rw named
 
 -- each of tables that are apart is found under its own name and version
-found_apart : (before tables : List Table) → AreApart before tables → (t : Table) (k : ℕ) → k < length tables → get_or tables k t ≡ t → find (before ++ tables) t.name t.version ≡ Some t
+found_apart : (before tables : List Table) → AreApart before tables → (t : Table) (k : ℕ) → k < length tables → get_or tables k t ≡ t
+    → find (before ++ tables) t.name t.version ≡ Some t
 found_apart before [] apart t k h e = absurd (omega arith)
 found_apart before (u ∷ tables) apart t zero h e =
-    subst (λ (x : Table). find (before ++ u ∷ tables) x.name x.version ≡ Some x) e (found_behind before u tables u.name u.version apart.0 ∙ found_first u tables)
+    subst (λ (x : Table). find (before ++ u ∷ tables) x.name x.version ≡ Some x) e (found_behind before u tables u.name u.version apart.0
+    ∙ found_first u tables)
 found_apart before (u ∷ tables) apart t (suc k) h e =
-    subst (λ (x : List Table). find x t.name t.version ≡ Some t) (append_assoc before (u ∷ []) tables) (found_apart (before ++ u ∷ []) tables apart.1 t k (omega arith) e)
+    subst (λ (x : List Table). find x t.name t.version ≡ Some t) (append_assoc before (u ∷ []) tables)
+    (found_apart (before ++ u ∷ []) tables apart.1 t k (omega arith) e)
 
 -- each table is one that a value describes
-value_of_table : (s : List Value) (tables : List Table) → map shared_table s ≡ map Ok tables → (t : Table) (k : ℕ) → k < length tables → get_or tables k t ≡ t → (v : Value) × Contains s v × (shared_table v ≡ Ok t)
+value_of_table : (s : List Value) (tables : List Table) → map shared_table s ≡ map Ok tables → (t : Table) (k : ℕ) → k < length tables → get_or tables k t ≡ t
+    → (v : Value) × Contains s v × (shared_table v ≡ Ok t)
 value_of_table [] [] each t k h e = absurd (omega arith)
 value_of_table [] (u ∷ tables) each t k h e = absurd cc
 value_of_table (v ∷ s) [] each t k h e = absurd cc
@@ -130,7 +140,8 @@ value_of_table (v ∷ s) (u ∷ tables) each t (suc k) h e =
     (found.0, Contains-append_right (v ∷ []) s found.0 found.1, found.2)
 
 -- and what a value describes is one of the tables
-table_of_value : (s : List Value) (tables : List Table) → map shared_table s ≡ map Ok tables → (v : Value) (k : ℕ) → k < length s → get_or s k v ≡ v → (t : Table) → shared_table v ≡ Ok t → Contains tables t
+table_of_value : (s : List Value) (tables : List Table) → map shared_table s ≡ map Ok tables → (v : Value) (k : ℕ) → k < length s → get_or s k v ≡ v
+    → (t : Table) → shared_table v ≡ Ok t → Contains tables t
 table_of_value [] tables each v k h e t d = absurd (omega arith)
 table_of_value (w ∷ s) [] each v k h e t d = absurd cc
 table_of_value (w ∷ s) (u ∷ tables) each v zero h e t d =

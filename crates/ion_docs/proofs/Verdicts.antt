@@ -33,12 +33,15 @@ one_refusal t p q (inr a) (inl b) = let c = a.0 in absurd cc
 one_refusal t p q (inr a) (inr b) = let c = a.1 in let d = b.1 in cc
 
 -- within a place there is one path
-path_of_one : (one : (p q : List Part) (v w : Value) → IsPath p v w → IsPath q v w → p ≡ q) (p q : List Part) (v w : Option Value) → IsPathOf p v w → IsPathOf q v w → p ≡ q
+path_of_one : (one : (p q : List Part) (v w : Value) → IsPath p v w → IsPath q v w → p ≡ q) (p q : List Part) (v w : Option Value) → IsPathOf p v w
+    → IsPathOf q v w → p ≡ q
 path_of_one one p q (Some v) (Some w) a b = one p q v w a b
 path_of_one one p q (Some v) None a b = a ∙ sym b
 path_of_one one p q None w a b = a ∙ sym b
 
-module _ (F G : Format) (one_path : (p q : List Part) (v w : Value) → IsPath p v w → IsPath q v w → p ≡ q) (left_one : (w : List ℕ) (s t : List Value) → F.denotes w s → F.denotes w t → s ≡ t) (right_one : (w : List ℕ) (s t : List Value) → G.denotes w s → G.denotes w t → s ≡ t) where
+module _ (F G : Format) (one_path : (p q : List Part) (v w : Value) → IsPath p v w → IsPath q v w → p ≡ q)
+    (left_one : (w : List ℕ) (s t : List Value) → F.denotes w s → F.denotes w t → s ≡ t) (right_one : (w : List ℕ) (s t : List Value) → G.denotes w s
+    → G.denotes w t → s ≡ t) where
   clash : (l r : List ℕ) (n i : ℕ) (p : List Part) → IsVerdict F G l r (Equivalent n) → IsVerdict F G l r (Different i p) → ⊥
   clash l r n i p a b =
       let same_left = left_one l a.s b.s a.left b.left in
@@ -70,4 +73,5 @@ module _ (F G : Format) (one_path : (p q : List Part) (v w : Value) → IsPath p
   verdicts_agree l r (Refused Right p) (Equivalent n) a b = absurd (a.1.1.none b.t b.right)
   verdicts_agree l r (Refused Right p) (Different j _) a b = absurd (a.1.1.none b.t b.right)
   verdicts_agree l r (Refused Right p) (Refused Left q) a b = absurd (b.1.none a.0.0 a.0.1)
-  verdicts_agree l r (Refused Right p) (Refused Right q) a b = ap (λ (x : Refusal). Refused Right x) (one_refusal (G.trace r) p q a.1.1.by_octets b.1.1.by_octets)
+  verdicts_agree l r (Refused Right p) (Refused Right q) a b =
+      ap (λ (x : Refusal). Refused Right x) (one_refusal (G.trace r) p q a.1.1.by_octets b.1.1.by_octets)

@@ -15,9 +15,11 @@ use Rattle.ion_streams.specs.Formats.{Format, format_of}
 use Rattle.ion_streams.specs.reading.Read.{GaveSoFar}
 use Rattle.ion_streams.specs.Outcomes.{ToldDocument, ToldRefused}
 
--- The octets that the device handed over denote a stream, and its document in this encoding was written; or they are no document, and that of the values before the refusal was written.
+-- The octets that the device handed over denote a stream, and its document in this encoding was written; or they are no document, and that of the values before
+-- the refusal was written.
 abbrev pub IsConverted : {S T : Type 0} → Inlet S → Outlet T → Encoding → Format → S → S → T → T → Result ℕ Refusal → Type 0
-IsConverted R W E F first now old new (Ok values) = (s : List Value) × ToldDocument R F first now s × (length s ≡ values) × Took W.took W.written old new (E.document s)
+IsConverted R W E F first now old new (Ok values) = (s : List Value) × ToldDocument R F first now s × (length s ≡ values)
+    × Took W.took W.written old new (E.document s)
 IsConverted R W E F first now old new (Err refusal) = (s : List Value) × ToldRefused R F first now s refusal × Took W.took W.written old new (E.document s)
 
 -- s was read of the document so far: it is being read, was refused, or has ended

@@ -13,12 +13,12 @@ use ion_streams::{read_items, read_octets};
 use ion_symtab::{Catalog, Fault, Inlet, Limits};
 use std::alloc::Global;
 
-/// All values of a document in order: the stream that the octets denote (Ion 1.0, "The Ion Data Model"), or
-/// their refusal, where they are no document within `limits`.
+/// All values of a document in order: the stream that the octets denote (Ion 1.0, "The Ion Data
+/// Model"), or their refusal, where they are no document within `limits`.
 ///
-/// Shared symbol tables are ordinary values here, and local ones are none. The offset of a refusal counts
-/// octets with which no document begins, or all of them. `Memory`, where a growth was refused, alone says
-/// nothing of the octets.
+/// Shared symbol tables are ordinary values here, and local ones are none. The offset of a refusal
+/// counts octets with which no document begins, or all of them. `Memory`, where a growth was
+/// refused, alone says nothing of the octets.
 pub fn read_all(
     alloc: Global,
     octets: &[u8],
@@ -40,15 +40,16 @@ pub fn read_all(
 
 /// The same of the octets of `reader`.
 ///
-/// Refusals and faults are those of `check`. The answer is right about whatever octets begin with those that
-/// `reader` handed over during the call, and end there where it answered its end.
+/// Refusals and faults are those of `check`. The answer is right about whatever octets begin with
+/// those that `reader` handed over during the call, and end there where it answered its end.
 pub fn read_document<R: Inlet>(
     alloc: Global,
     reader: &mut R,
     catalog: &Catalog,
     limits: Limits,
 ) -> Result<Result<Vec<Value>, Refusal>, Fault>
-    ensures stream { let F = documents catalog.now limits in IfOk result (λ answer. MatchResult answer
+    ensures stream { let F = documents catalog.now limits in
+        IfOk result (λ answer. MatchResult answer
         (λ values. ToldDocument R.Inlet F reader.old reader.new values.items)
         (λ refusal. (s : List Value) × ToldRefused R.Inlet F reader.old reader.new s refusal)) }
     ensures few_calls { R.calls_made reader.new ≤ R.calls_made reader.old + limits.reads }

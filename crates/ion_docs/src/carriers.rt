@@ -14,8 +14,8 @@ use std::hash::BuildHasher;
 
 /// A way from a reader to an encoder.
 pub(crate) trait Carrier<I: Items, E: Encoder> {
-    /// Takes up the octets of the value at the front of a piece and puts it, without building it. `None`,
-    /// with all as it was, where that isn't so; then the value is built.
+    /// Takes up the octets of the value at the front of a piece and puts it, without building it.
+    /// `None`, with all as it was, where that isn't so; then the value is built.
     fn carry<W: Outlet>(
         items: &mut I,
         piece: &[u8],
@@ -25,7 +25,8 @@ pub(crate) trait Carrier<I: Items, E: Encoder> {
         requires room { I.taken items.old + length piece.now < 2 ^ 63 }
         ensures carries { IfSome result (λ carried. (v : Value)
             × TookUp I.Items items.old items.new piece.now carried.used v
-            × PutValue E.Encoder W.Outlet encoder.old encoder.new out.old out.new v carried.written) }
+            × PutValue E.Encoder W.Outlet encoder.old encoder.new out.old out.new v
+            carried.written) }
         ensures stays { IsNone result →
             (items.new ≡ items.old) × (encoder.new ≡ encoder.old) × (out.new ≡ out.old) };
 }

@@ -10,14 +10,14 @@ use ion_streams::load_items;
 use ion_symtab::{Catalog, Fault, Inlet, Limits};
 use std::alloc::Global;
 
-/// The catalog of the shared symbol tables that the values of a document describe (Ion 1.0, "Symbols",
-/// "Shared Symbol Tables"). The document is read under a catalog of no tables.
+/// The catalog of the shared symbol tables that the values of a document describe (Ion 1.0,
+/// "Symbols", "Shared Symbol Tables"). The document is read under a catalog of no tables.
 ///
-/// Each value has to be a table that `SharedTable::from_value` takes, and no name and version may come
-/// twice; the first value that is none is refused at once: `BadTable`, `RepeatedField` and
-/// `DuplicateTable` carry the number of octets that were used when the value came, all octets where only
-/// the end showed it to be whole. Octets that are no document are refused as by `check`, and faults are
-/// those of `check`.
+/// Each value has to be a table that `SharedTable::from_value` takes, and no name and version may
+/// come twice; the first value that is none is refused at once: `BadTable`, `RepeatedField` and
+/// `DuplicateTable` carry the number of octets that were used when the value came, all octets where
+/// only the end showed it to be whole. Octets that are no document are refused as by `check`, and
+/// faults are those of `check`.
 ///
 /// The answer is right about whatever octets begin with those that `reader` handed over during the
 /// call, and end there where it answered its end.

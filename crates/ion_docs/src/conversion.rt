@@ -17,9 +17,9 @@ use std::alloc::Global;
 /// `reader` in at most `reads` calls. The answer is that of `check_items`.
 ///
 /// On a refusal the document of the values before it is written. The writer is flushed last, on a
-/// refusal too. At a fault some first octets of the document of the values read so far were written.
-/// Faults are `Memory`, `Read`, `TooManyReads`, `Write`, and `TooLarge` where a symbol would need an
-/// id above 2^31-1.
+/// refusal too. At a fault some first octets of the document of the values read so far were
+/// written. Faults are `Memory`, `Read`, `TooManyReads`, `Write`, and `TooLarge` where a symbol
+/// would need an id above 2^31-1.
 pub fn convert_items<E: Encoder + Drop, I: Items + Drop, R: Inlet, W: Outlet>(
     alloc: Global,
     encoder: E,
@@ -40,7 +40,8 @@ pub fn convert_items<E: Encoder + Drop, I: Items + Drop, R: Inlet, W: Outlet>(
     ensures passed_on { OnOk result (W.passed writer.new ≡ W.written writer.new) }
     ensures no_write_failed { OnOk result (W.has_failed writer.new ≡ false) }
     ensures few_calls { R.calls_made reader.new ≤ R.calls_made reader.old + reads }
-    ensures few_octets { length (R.handed reader.new) ≤ length (R.handed reader.old) + 4096 * reads }
+    ensures few_octets { length (R.handed reader.new) ≤ length (R.handed reader.old) + 4096 *
+        reads }
     ensures no_read_failed { OnOk result (R.has_failed reader.new ≡ false) }
     ensures so_far { OnErr result (ConvertsSoFar E.encoding
         (ReadSoFar R.Inlet I.Items (I.catalog items) (I.limits items) reader.old reader.new)
@@ -74,7 +75,8 @@ pub(crate) fn convert_by<C: Carrier<I, E>, E: Encoder + Drop, I: Items + Drop, R
     ensures passed_on { OnOk result (W.passed writer.new ≡ W.written writer.new) }
     ensures no_write_failed { OnOk result (W.has_failed writer.new ≡ false) }
     ensures few_calls { R.calls_made reader.new ≤ R.calls_made reader.old + reads }
-    ensures few_octets { length (R.handed reader.new) ≤ length (R.handed reader.old) + 4096 * reads }
+    ensures few_octets { length (R.handed reader.new) ≤ length (R.handed reader.old) + 4096 *
+        reads }
     ensures no_read_failed { OnOk result (R.has_failed reader.new ≡ false) }
     ensures so_far { OnErr result (ConvertsSoFar E.encoding
         (ReadSoFar R.Inlet I.Items (I.catalog items) (I.limits items) reader.old reader.new)

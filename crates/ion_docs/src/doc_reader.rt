@@ -85,8 +85,9 @@ impl<'a> DocReader<'a> {
         refusal
     }
 
-    /// Takes up the first octets, by the reader that the first of them chooses: `step` where no octet
-    /// has come. It stands by itself so that the other steps have no room for readers to clear.
+    /// Takes up the first octets, by the reader that the first of them chooses: `step` where no
+    /// octet has come. It stands by itself so that the other steps have no room for readers to
+    /// clear.
     #[inline(never)]
     fn begin(&mut self, piece: &[u8]) -> Result<Step, Refusal>
         requires unbegun { self.old.format ≡ Format.Unbegun }
@@ -139,9 +140,9 @@ impl<'a> DocReader<'a> {
 }
 
 impl<'a> DocReader<'a> {
-    /// Takes up the octets of the value at the front of a piece and writes it, without building it, as
-    /// `BinaryReader::carry` does, or of text as `BinaryWriter::put_visited`. `None`, with all as it was, also where
-    /// no octet has come.
+    /// Takes up the octets of the value at the front of a piece and writes it, without building it,
+    /// as `BinaryReader::carry` does, or of text as `BinaryWriter::put_visited`. `None`, with all
+    /// as it was, also where no octet has come.
     pub(crate) fn carry<S: BuildHasher + Drop, W: Outlet>(
         &mut self,
         piece: &[u8],
@@ -162,8 +163,8 @@ impl<'a> DocReader<'a> {
         }
     }
 
-    /// The same to text, as `TextReader::carry` does. `None`, with all as it was, also where the document isn't
-    /// text.
+    /// The same to text, as `TextReader::carry` does. `None`, with all as it was, also where the
+    /// document isn't text.
     pub(crate) fn carry_text<W: Outlet>(
         &mut self,
         piece: &[u8],

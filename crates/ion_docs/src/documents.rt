@@ -48,13 +48,13 @@ pub fn check<R: Inlet>(
     check_items(alloc, items, limits.reads(), reader)
 }
 
-/// Writes a line for each value of a document, `INDEX KIND depth DEPTH nodes NODES`, and behind them
-/// `accepted VALUES`, each with LF. The index counts from 1; numbers stop at 2^64-1.
+/// Writes a line for each value of a document, `INDEX KIND depth DEPTH nodes NODES`, and behind
+/// them `accepted VALUES`, each with LF. The index counts from 1; numbers stop at 2^64-1.
 ///
-/// The answer is that of `check`. On a refusal the lines of the values that the octets up to it show
-/// are written, and no last line. The writer is flushed last, on a refusal too. At a fault some
-/// first octets of the lines of the values read so far were written. Faults: those of `check`, and
-/// `Write` where a write or the flush failed.
+/// The answer is that of `check`. On a refusal the lines of the values that the octets up to it
+/// show are written, and no last line. The writer is flushed last, on a refusal too. At a fault
+/// some first octets of the lines of the values read so far were written. Faults: those of `check`,
+/// and `Write` where a write or the flush failed.
 pub fn show<R: Inlet, W: Outlet>(
     alloc: Global,
     reader: &mut R,
@@ -80,19 +80,20 @@ pub fn show<R: Inlet, W: Outlet>(
     show_items(alloc, items, limits.reads(), reader, writer)
 }
 
-/// Writes a document that denotes the stream of another (Ion 1.0, "The Ion Data Model"), in the encoding
-/// of `target`: the one spelling that `ion_binary` or `ion_text` gives a stream. It denotes that stream
-/// under every catalog and all limits that admit it: `item` at least the octets of each item written,
-/// `depth` at least that of each value; in binary ids up to 2^31-1, and `depth` at least 2 where a
-/// symbol table is written.
+/// Writes a document that denotes the stream of another (Ion 1.0, "The Ion Data Model"), in the
+/// encoding of `target`: the one spelling that `ion_binary` or `ion_text` gives a stream. It
+/// denotes that stream under every catalog and all limits that admit it: `item` at least the octets
+/// of each item written, `depth` at least that of each value; in binary ids up to 2^31-1, and
+/// `depth` at least 2 where a symbol table is written.
 ///
-/// The answer is that of `check`. On a refusal the conversion of the values that the octets up to it show
-/// is written, which denotes just those. The writer is flushed last, on a refusal too. At a fault some first octets of the
-/// conversion of the values read so far were written. Faults: those of `check`, `Write` where a write or
-/// the flush failed, and `TooLarge` where a symbol in binary would need an id above 2^31-1.
+/// The answer is that of `check`. On a refusal the conversion of the values that the octets up to
+/// it show is written, which denotes just those. The writer is flushed last, on a refusal too. At a
+/// fault some first octets of the conversion of the values read so far were written. Faults: those
+/// of `check`, `Write` where a write or the flush failed, and `TooLarge` where a symbol in binary
+/// would need an id above 2^31-1.
 ///
-/// Ids are found by a hash of a fixed seed, which is for documents that are trusted: texts that are chosen to
-/// collide make it slow. `convert_with_hasher` is for other ones.
+/// Ids are found by a hash of a fixed seed, which is for documents that are trusted: texts that are
+/// chosen to collide make it slow. `convert_with_hasher` is for other ones.
 pub fn convert<R: Inlet, W: Outlet>(
     alloc: Global,
     reader: &mut R,
@@ -124,7 +125,8 @@ pub fn convert<R: Inlet, W: Outlet>(
     convert_with_hasher(alloc, hasher, reader, writer, target, catalog, limits)
 }
 
-/// The same, where this hasher finds the ids of symbols in a binary document. What is written is the same.
+/// The same, where this hasher finds the ids of symbols in a binary document. What is written is
+/// the same.
 pub fn convert_with_hasher<H: BuildHasher + Drop, R: Inlet, W: Outlet>(
     alloc: Global,
     hasher: H,
@@ -173,17 +175,17 @@ pub fn convert_with_hasher<H: BuildHasher + Drop, R: Inlet, W: Outlet>(
 }
 
 /// Whether two documents have equivalent streams: as many values, and in each place values that are
-/// the same by the data model (Ion 1.0, "The Ion Data Model"). Where the streams part, the answer is the
-/// number of the first value that isn't, and the path within the two values of that number to where they
-/// part, which is empty where only one stream has that value.
+/// the same by the data model (Ion 1.0, "The Ion Data Model"). Where the streams part, the answer
+/// is the number of the first value that isn't, and the path within the two values of that number
+/// to where they part, which is empty where only one stream has that value.
 ///
 /// The verdict is right about whatever octets begin with those that the devices handed over during
 /// the call, and end there where one answered its end. Neither is asked on behind that end.
 ///
 /// One value of each is read in turn. A left side that is no document is refused at once; after the
-/// streams parted, and after the right side was refused, both are still read to the end, so that the
-/// left side is refused wherever it is no document, and the right where it alone is none. Offsets
-/// and faults are those of `check`.
+/// streams parted, and after the right side was refused, both are still read to the end, so that
+/// the left side is refused wherever it is no document, and the right where it alone is none.
+/// Offsets and faults are those of `check`.
 pub fn compare<L: Inlet, R: Inlet>(
     alloc: Global,
     left: &mut L,
@@ -196,7 +198,8 @@ pub fn compare<L: Inlet, R: Inlet>(
         left.old left.new right.old right.new) }
     ensures few_calls { (L.calls_made left.new ≤ L.calls_made left.old + limits.reads)
         × (R.calls_made right.new ≤ R.calls_made right.old + limits.reads) }
-    ensures few_octets { (length (L.handed left.new) ≤ length (L.handed left.old) + 4096 * limits.reads)
+    ensures few_octets { (length (L.handed left.new) ≤ length (L.handed left.old) + 4096 *
+        limits.reads)
         × (length (R.handed right.new) ≤ length (R.handed right.old) + 4096 * limits.reads) }
     ensures no_read_failed { OnOk result ((L.has_failed left.new ≡ false)
         × ((right.new ≡ right.old) ⊎ (R.has_failed right.new ≡ false))) }

@@ -1,5 +1,5 @@
-//! Whole Ion documents on devices: how many values they have, a line for each value, whether two have
-//! equivalent streams, and the conversion of one.
+//! Whole Ion documents on devices: how many values they have, a line for each value, whether two
+//! have equivalent streams, and the conversion of one.
 #![tactic(auto)]
 
 mod all_values;
@@ -14,6 +14,7 @@ mod memory;
 mod paths;
 mod writers;
 
+pub use all_values::{read_all, read_document};
 pub use catalogs::load_catalog;
 pub use conversion::convert_items;
 pub use doc_reader::DocReader;
@@ -21,7 +22,6 @@ pub use documents::{check, compare, convert, convert_with_hasher, show};
 pub use ion_streams::{
     Side, Verdict, check_items, compare_items, load_items, read_items, read_octets, show_items,
 };
-pub use all_values::{read_all, read_document};
 pub use ion_symtab::Target;
 pub use memory::in_memory;
 pub use paths::{PathText, path_text, spelling_of_path};

@@ -9,8 +9,8 @@ use ion_text::spelling_of;
 use std::alloc::Global;
 use std::fmt::{self, Display, Formatter};
 
-/// The parts of a path, one space between them: an item is its number in brackets, a name is spelled as
-/// symbols of text documents are (`symbol_text`). The path of no parts is no text.
+/// The parts of a path, one space between them: an item is its number in brackets, a name is
+/// spelled as symbols of text documents are (`symbol_text`). The path of no parts is no text.
 ///
 /// The only refusal is `Memory`.
 pub fn path_text(alloc: Global, path: &Path) -> Result<String, Reason>
@@ -28,8 +28,8 @@ pub struct PathText<'a> {
     path: &'a Path,
 }
 
-/// The path as what prints as its spelling, as in `println!(rt; "{}", spelling_of_path(&path))`: that of `path_text`. Takes
-/// no memory.
+/// The path as what prints as its spelling, as in `println!(rt; "{}", spelling_of_path(&path))`:
+/// that of `path_text`. Takes no memory.
 pub fn spelling_of_path(path: &Path) -> PathText<'_>
     ensures { result.path.now ≡ path.now }
 {

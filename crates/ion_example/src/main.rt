@@ -1,5 +1,5 @@
-//! The library in use: two documents compared, the values of one summed, one built and written in either
-//! encoding, and one that needs shared symbol tables.
+//! The library in use: two documents compared, the values of one summed, one built and written in
+//! either encoding, and one that needs shared symbol tables.
 #![tactic(auto)]
 
 mod building;

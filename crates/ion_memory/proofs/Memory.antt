@@ -26,7 +26,8 @@ use Rattle.ion_memory.specs.Octets.{IsRead, IsCount, IsListing, IsConversion}
 abbrev pub TellsOnly : {S : Type 0} → Inlet S → S → List ℕ → Type 0
 TellsOnly R first w = (octets : List ℕ) → R.tells first octets → octets ≡ w
 
-module _ {S : Type 0} (R : Inlet S) (some : (device : S) → (rest : List ℕ) × R.tells device rest) (w : List ℕ) (first now : S) (only : TellsOnly R first w) where
+module _ {S : Type 0} (R : Inlet S) (some : (device : S) → (rest : List ℕ) × R.tells device rest) (w : List ℕ) (first now : S)
+    (only : TellsOnly R first w) where
   -- what was heard is a front of them, and all of them where the end was answered
   pub heard_front : (octets : List ℕ) (ended : Bool) → Heard R first now octets ended → (more : List ℕ) × MayFollow ended more × (octets ++ more ≡ w)
   heard_front octets true h = ([], (λ e. refl), only (octets ++ []) (h.told.told [] h.answered.1))
@@ -66,11 +67,13 @@ module _ {S : Type 0} (R : Inlet S) (some : (device : S) → (rest : List ℕ) �
     counted_all E F (Ok values) (s, h, n, k) = (s, denoted F s h, n)
     counted_all E F (Err refusal) (s, h, k) = (s, refused F s refusal h)
 
-    spelled_all : (E : Encoding) (F : Format) (answer : Result ℕ Refusal) → IsConverted R W E F first now old new answer → (s : List Value) × IsRead F w answer s × (all ≡ E.document s)
+    spelled_all : (E : Encoding) (F : Format) (answer : Result ℕ Refusal) → IsConverted R W E F first now old new answer → (s : List Value)
+        × IsRead F w answer s × (all ≡ E.document s)
     spelled_all E F (Ok values) (s, h, n, k) = (s, denoted F s h, written_all (E.document s) k)
     spelled_all E F (Err refusal) (s, h, k) = (s, refused F s refusal h, written_all (E.document s) k)
 
-    pub converted_all : (E : Encoding) (g : Catalog) (l : Limits) (answer : Result ℕ Refusal) → IsConverted R W E (documents g l) first now old new answer → KeepsStream R W E g l first now old new answer → IsConversion E (documents g l) w answer all
+    pub converted_all : (E : Encoding) (g : Catalog) (l : Limits) (answer : Result ℕ Refusal) → IsConverted R W E (documents g l) first now old new answer
+        → KeepsStream R W E g l first now old new answer → IsConversion E (documents g l) w answer all
     converted_all E g l answer h (s, read, octets, k, anywhere) = record {
       counted = counted_all E (documents g l) answer h;
       same = (s, read_all (documents g l) answer s read, subst (λ (x : List ℕ). DenotesAnywhere E x s) (sym (written_all octets k)) anywhere);
@@ -78,7 +81,9 @@ module _ {S : Type 0} (R : Inlet S) (some : (device : S) → (rest : List ℕ) �
     }
 
 -- two devices of which the same is known
-pub compared_all : {S T : Type 0} (L : Inlet S) (R : Inlet T) (some_left : (device : S) → (rest : List ℕ) × L.tells device rest) (some_right : (device : T) → (rest : List ℕ) × R.tells device rest) (F G : Format) (v w : List ℕ) (left left_now : S) (right right_now : T) → TellsOnly L left v → TellsOnly R right w → (verdict : Verdict)
+pub compared_all : {S T : Type 0} (L : Inlet S) (R : Inlet T) (some_left : (device : S) → (rest : List ℕ) × L.tells device rest)
+    (some_right : (device : T) → (rest : List ℕ) × R.tells device rest) (F G : Format) (v w : List ℕ) (left left_now : S) (right right_now : T)
+    → TellsOnly L left v → TellsOnly R right w → (verdict : Verdict)
     → IsCompared L R F G left left_now right right_now verdict → IsVerdict F G v w verdict
 compared_all L R some_left some_right F G v w left left_now right right_now only_left only_right verdict h =
     let (more_l, follows_l, e) = heard_front L some_left v left left_now only_left h.l h.left_ended h.heard_left in

@@ -10,7 +10,12 @@ use Rattle.ion_docs.specs.Formats.{documents}
 pub nothing : (l : Limits) → IsDocumentOf (documents [] l) [] []
 nothing l = record {
   s = [];
-  denoted = in_text refl (record { tokens = []; context = system_slots; lexed = inl (record { pieces = []; each = tt; spelled = refl }); pieces = text.begins });
+  denoted = in_text refl (record {
+    tokens = [];
+    context = system_slots;
+    lexed = inl (record { pieces = []; each = tt; spelled = refl });
+    pieces = text.begins;
+  });
   each = refl;
   apart = tt;
 }

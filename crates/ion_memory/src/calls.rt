@@ -1,4 +1,5 @@
-//! Calls for other languages: the catalog is octets, the limits are numbers, and all that is told is one `Outcome`.
+//! Calls for other languages: the catalog is octets, the limits are numbers, and all that is told
+//! is one `Outcome`.
 ghost use Rattle.std.specs.Prelude.{◌≡◌, ◌⊎◌, ℕ, List, [], IfOk, IfErr};
 ghost use Rattle.ion_memory.specs.Outcomes.{IsOutcome, IsSetting, IsNoSetting, IsFault, IsChecked, IsShown, IsCompared, IsConverted, EndsVerdict};
 ghost use Rattle.ion_memory.specs.Endings.{ending_of, whose_side};
@@ -39,7 +40,8 @@ pub fn shown(alloc: Global, input: &[u8], catalog: &[u8], depth: u32, item: u64)
     }
 }
 
-/// Whether two documents have equivalent streams, as `compare` tells it; the text is the path to a difference.
+/// Whether two documents have equivalent streams, as `compare` tells it; the text is the path to a
+/// difference.
 pub fn compared(
     alloc: Global,
     left: &[u8],

@@ -1,4 +1,5 @@
-//! What octets in memory are as documents: the calls of `ion_docs` on devices that tell just these octets.
+//! What octets in memory are as documents: the calls of `ion_docs` on devices that tell just these
+//! octets.
 ghost use Rattle.std.specs.Prelude.{◌≡◌, ◌≢◌, [], IfOk, IfErr, Result};
 ghost use Rattle.ion_symtab.specs.declared.fault.Fault.TheVariants as faults;
 ghost use Rattle.ion_docs.specs.Encodings.{encoding_of};
@@ -22,12 +23,12 @@ pub struct Written {
     pub octets: Vec<u8>,
 }
 
-/// How many values a document has (Ion 1.0, "The Ion Data Model"), or its refusal, where the octets are no
-/// document within `limits`.
+/// How many values a document has (Ion 1.0, "The Ion Data Model"), or its refusal, where the octets
+/// are no document within `limits`.
 ///
-/// The offset of a refusal counts octets with which no document begins, or all of them; it is never `Memory`.
-/// Faults: `Memory`, where a growth was refused, and `TooManyReads`, where `limits` allow too few reads of
-/// 4 KiB each.
+/// The offset of a refusal counts octets with which no document begins, or all of them; it is never
+/// `Memory`. Faults: `Memory`, where a growth was refused, and `TooManyReads`, where `limits` allow
+/// too few reads of 4 KiB each.
 pub fn check(
     alloc: Global,
     input: &[u8],
@@ -43,8 +44,8 @@ pub fn check(
 /// A line for each value of a document, `INDEX KIND depth DEPTH nodes NODES`, and after them
 /// `accepted VALUES`, each with LF.
 ///
-/// The answer is that of `check`; on a refusal the lines are those of the values before it. Faults are those of
-/// `check`.
+/// The answer is that of `check`; on a refusal the lines are those of the values before it. Faults
+/// are those of `check`.
 pub fn show(
     alloc: Global,
     input: &[u8],
@@ -66,11 +67,11 @@ pub fn show(
     }
 }
 
-/// A document of the same stream in the encoding of `target`, which denotes it under every catalog and all
-/// limits that admit it.
+/// A document of the same stream in the encoding of `target`, which denotes it under every catalog
+/// and all limits that admit it.
 ///
-/// The answer is that of `check`; on a refusal the document is that of the values before it. Faults are those of
-/// `check`, and `TooLarge`, where a symbol in binary would need an id above 2^31-1.
+/// The answer is that of `check`; on a refusal the document is that of the values before it. Faults
+/// are those of `check`, and `TooLarge`, where a symbol in binary would need an id above 2^31-1.
 pub fn convert(
     alloc: Global,
     input: &[u8],
@@ -103,11 +104,12 @@ fn in_memory(fault: Fault) -> Fault
     }
 }
 
-/// Whether two documents have equivalent streams (Ion 1.0, "The Ion Data Model"); where the streams part, the
-/// number of the first value that isn't equivalent, and the path within the two values of that number.
+/// Whether two documents have equivalent streams (Ion 1.0, "The Ion Data Model"); where the streams
+/// part, the number of the first value that isn't equivalent, and the path within the two values of
+/// that number.
 ///
-/// A left side that is no document is refused; else a right side that is none. Offsets and faults are those of
-/// `check`.
+/// A left side that is no document is refused; else a right side that is none. Offsets and faults
+/// are those of `check`.
 pub fn compare(
     alloc: Global,
     left: &[u8],
@@ -123,9 +125,9 @@ pub fn compare(
     ion_docs::compare(alloc, &mut left, &mut right, catalog, limits)
 }
 
-/// The catalog of the shared symbol tables that the values of a document describe (Ion 1.0, "Symbols",
-/// "Shared Symbol Tables"), or its refusal: `BadTable`, `RepeatedField`, `DuplicateTable` of a value, or that
-/// of `check`.
+/// The catalog of the shared symbol tables that the values of a document describe (Ion 1.0,
+/// "Symbols", "Shared Symbol Tables"), or its refusal: `BadTable`, `RepeatedField`,
+/// `DuplicateTable` of a value, or that of `check`.
 ///
 /// No octets are a document of no tables, for which no reader is made. Faults are those of `check`.
 pub fn load_catalog(

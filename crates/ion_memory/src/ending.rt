@@ -88,7 +88,8 @@ impl Ending {
         }
     }
 
-    /// How many values there are, the number of the one that differs, or the offset of the refusal; else 0.
+    /// How many values there are, the number of the one that differs, or the offset of the refusal;
+    /// else 0.
     pub fn number(self) -> u64
         ensures { result ≡ number_of self }
     {

@@ -1,9 +1,10 @@
-//! Whole Ion documents that lie in memory: how many values they have, a line for each value, whether two have
-//! equivalent streams, and the conversion of one. The contracts speak of the octets alone.
+//! Whole Ion documents that lie in memory: how many values they have, a line for each value,
+//! whether two have equivalent streams, and the conversion of one. The contracts speak of the
+//! octets alone.
 //!
-//! `check`, `show`, `compare` and `convert` are given a catalog and limits. `checked`, `shown`, `compared` and
-//! `converted` are given the octets of a catalog and numbers, and tell everything by an `Outcome`, for callers
-//! in other languages.
+//! `check`, `show`, `compare` and `convert` are given a catalog and limits. `checked`, `shown`,
+//! `compared` and `converted` are given the octets of a catalog and numbers, and tell everything by
+//! an `Outcome`, for callers in other languages.
 #![tactic(auto)]
 
 mod calls;

@@ -18,7 +18,8 @@ pub struct Setting {
 
 /// The catalog that these octets describe, and these limits; or how a call ends that has none.
 ///
-/// No octets are a catalog of no tables. `depth` is 1 to 128 and `item` 1 to 2^30, or the limits are wrong.
+/// No octets are a catalog of no tables. `depth` is 1 to 128 and `item` 1 to 2^30, or the limits
+/// are wrong.
 pub fn set_up(alloc: Global, catalog: &[u8], depth: u32, item: u64) -> Result<Setting, Ending>
     ensures some { IfOk result (λ setting.
         IsSetting catalog.now depth item setting.catalog setting.limits) }

@@ -14,9 +14,15 @@ module _ {T : Type 0} (W : Outlet T) where
   Reports-failed old new line front fails = record { front = front; whole = λ works. not_both _ fails works; passed_on = λ works. not_both _ fails works }
 
   -- the whole of the line, passed on unless the device has failed
-  pub Reports-written : {A E : Type 0} (old mid new : T) (line : List ℕ) (result : Result A E) → Took W.took W.written old mid line → Took W.took W.written mid new [] → OnOk result (W.passed new ≡ W.written new) → OnErr result (W.has_failed new ≡ true) →
+  pub Reports-written : {A E : Type 0} (old mid new : T) (line : List ℕ) (result : Result A E) → Took W.took W.written old mid line
+      → Took W.took W.written mid new [] → OnOk result (W.passed new ≡ W.written new) → OnErr result (W.has_failed new ≡ true) →
       Reports W old new line
-  Reports-written old mid new line (Ok value) whole kept passed fails = record { front = Front-all W.took W.written old mid new line whole kept; whole = λ _. Took-kept W.took W.written old mid new line whole kept; passed_on = λ _. passed }
+  Reports-written old mid new line (Ok value) whole kept passed fails =
+      record {
+        front = Front-all W.took W.written old mid new line whole kept;
+        whole = λ _. Took-kept W.took W.written old mid new line whole kept;
+        passed_on = λ _. passed;
+      }
   Reports-written old mid new line (Err error) whole kept passed fails = record {
     front = Front-all W.took W.written old mid new line whole kept;
     whole = λ works. not_both _ fails works;
@@ -40,6 +46,7 @@ pub ok_both : {A E Q : Type 0} {P R : A → Type 0} (result : Result A E) → ((
 ok_both (Ok value) f p q = f value p q
 ok_both (Err error) f p q = tt
 
-pub err_both : {A E : Type 0} {P Q R : E → Type 0} (result : Result A E) → ((error : E) → P error → Q error → R error) → IfErr result P → IfErr result Q → IfErr result R
+pub err_both : {A E : Type 0} {P Q R : E → Type 0} (result : Result A E) → ((error : E) → P error → Q error → R error) → IfErr result P → IfErr result Q
+    → IfErr result R
 err_both (Ok value) f p q = tt
 err_both (Err error) f p q = f error p q

@@ -40,7 +40,8 @@ module _ {T : Type 0} (W : Outlet T) where
   -- `compare` ends so with this verdict: with the line of two documents, passed on, and with nothing where one is refused
   abbrev pub EndsCompared : T → T → Verdict → Ending → Type 0
   EndsCompared old new (verdicts.Equivalent values) ending = (ending ≡ Accepted) × Took W.took W.written old new (equivalent_line values) × IsPassedOn new
-  EndsCompared old new (verdicts.Different index path) ending = (ending ≡ Different) × Took W.took W.written old new (different_line index path) × IsPassedOn new
+  EndsCompared old new (verdicts.Different index path) ending = (ending ≡ Different) × Took W.took W.written old new (different_line index path)
+      × IsPassedOn new
   EndsCompared old new (verdicts.Refused side refusal) ending = (ending ≡ Refused (One side) refusal) × Took W.took W.written old new []
 
   -- between old and new a device that had passed on all that it took has passed on all again

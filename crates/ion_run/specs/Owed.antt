@@ -86,10 +86,12 @@ module _ {X : Type 0} (R : Inlet X) (gives : Name → X → Type 0) where
     IsDone (compare left right) g l ending = (l_first : X) × (l_now : X) × gives left l_first × (r_first : X) × (r_now : X) × gives right r_first
         × (verdict : Verdict) × IsCompared R R (documents g l) (documents g l) l_first l_now r_first r_now verdict × EndsCompared W old new verdict ending
 
-    -- What was asked for was answered, and ended so: done under its catalog, with all of its names opened; or the catalog was refused, and none but that opened.
+    -- What was asked for was answered, and ended so: done under its catalog, with all of its names opened; or the catalog was refused, and none but that
+    -- opened.
     pub data IsAnswered (opens : List Name → Type 0) (asked : Asked) (l : Limits) (ending : Ending) : Type 0 where
       is_done : (g : the_catalog) → IsCatalog asked.catalog l (Ok g) → IsDone asked.job g l ending → opens (names_of asked) → IsAnswered opens asked l ending
-      no_catalog : (refusal : the_refusal) → IsCatalog asked.catalog l (Err refusal) → ending ≡ Refused Catalog refusal → Took W.took W.written old new [] → opens (names_with asked.catalog []) → IsAnswered opens asked l ending
+      no_catalog : (refusal : the_refusal) → IsCatalog asked.catalog l (Err refusal) → ending ≡ Refused Catalog refusal → Took W.took W.written old new []
+          → opens (names_with asked.catalog []) → IsAnswered opens asked l ending
 
   -- a front went out of what the job puts out for readers that the names gave
   module _ {Y T : Type 0} (I : Items Y) (W : Outlet T) (old new : T) where
@@ -100,7 +102,8 @@ module _ {X : Type 0} (R : Inlet X) (gives : Name → X → Type 0) where
     WroteFront (convert file to) g l = (first : X) × (now : X) × gives file first
         × ConvertsSoFar (encoding_of to) (ReadSoFar R I g l first now) W old new
     WroteFront (compare left right) g l = (l_first : X) × (l_now : X) × gives left l_first × (r_first : X) × (r_now : X) × gives right r_first
-        × (verdict : Verdict) × IsCompared R R (documents g l) (documents g l) l_first l_now r_first r_now verdict × TookFront W.took W.written old new (verdict_line verdict)
+        × (verdict : Verdict) × IsCompared R R (documents g l) (documents g l) l_first l_now r_first r_now verdict
+        × TookFront W.took W.written old new (verdict_line verdict)
 
     -- before a fault nothing went out, or such a front under the catalog that was loaded
     abbrev pub WroteSoFar : Asked → Limits → Type 0
@@ -123,16 +126,19 @@ module _ {X : Type 0} (R : Inlet X) (gives : Name → X → Type 0) (refuses : N
   -- `large` why that can't be written
   abbrev pub IsStopped : Limits → List Name → Type 0 → Type 0 → Bool → Fault → Type 0
   IsStopped l names lacking large failed Memory = ⊤
-  IsStopped l names lacking large failed Read = ((name : Name) × Contains names name × (first : X) × (now : X) × gives name first × IsReadCause R l.reads first now Read) ⊎ lacking
+  IsStopped l names lacking large failed Read = ((name : Name) × Contains names name × (first : X) × (now : X) × gives name first
+      × IsReadCause R l.reads first now Read) ⊎ lacking
   IsStopped l names lacking large failed Write = failed ≡ true
-  IsStopped l names lacking large failed TooManyReads = (name : Name) × Contains names name × (first : X) × (now : X) × gives name first × IsReadCause R l.reads first now TooManyReads
+  IsStopped l names lacking large failed TooManyReads = (name : Name) × Contains names name × (first : X) × (now : X) × gives name first
+      × IsReadCause R l.reads first now TooManyReads
   IsStopped l names lacking large failed TooLarge = large
   IsStopped l names lacking large failed Open = (name : Name) × Contains names name × refuses name
 
   -- why what is asked for was stopped: at the catalog, where no other name was opened; or at the documents, once the catalog was loaded
   abbrev pub IsStoppedAt : {Y : Type 0} → (List Name → Type 0) → Type 0 → Items Y → Asked → Limits → Bool → Fault → Type 0
   IsStoppedAt opens none I asked l failed fault = IsStopped l (names_with asked.catalog []) ⊥ ⊥ false fault × opens (names_with asked.catalog [])
-      ⊎ ((g : the_catalog) × IsCatalog R gives asked.catalog l (Ok g) × IsStopped l (names_of_job asked.job) (JobLacksHasher none asked.job) (NeedsLarge R gives I asked.job g l) failed fault
+      ⊎ ((g : the_catalog) × IsCatalog R gives asked.catalog l (Ok g)
+      × IsStopped l (names_of_job asked.job) (JobLacksHasher none asked.job) (NeedsLarge R gives I asked.job g l) failed fault
       × OpensUpTo opens (names_of asked) fault)
 
 -- what is told on the errors where a command ended so: whose refusal it was, or nothing
@@ -141,7 +147,8 @@ TellsErrors V err err_now Accepted = Took V.took V.written err err_now []
 TellsErrors V err err_now Different = Took V.took V.written err err_now []
 TellsErrors V err err_now (Refused whose refusal) = Reports V err err_now (refusal_line whose refusal)
 
-module _ {X Y T D : Type 0} (R : Inlet X) (gives : Name → X → Type 0) (refuses : Name → Type 0) (opens : List Name → Type 0) (none : Type 0) (I : Items Y) (W : Outlet T) (V : Outlet D) where
+module _ {X Y T D : Type 0} (R : Inlet X) (gives : Name → X → Type 0) (refuses : Name → Type 0) (opens : List Name → Type 0) (none : Type 0) (I : Items Y)
+    (W : Outlet T) (V : Outlet D) where
   -- What the program owes for words: its status, which names were opened, and what went to the output and to the errors; `none` is that no hasher can be had.
   pub data OwesWithHasher (asked : Option Asked) (out out_now : T) (err err_now : D) (status : ℕ) : Type 0 where
     -- they ask for nothing
@@ -165,8 +172,10 @@ module _ {X Y T D : Type 0} (R : Inlet X) (gives : Name → X → Type 0) (refus
 
   -- where there are no words: the usage line for an argument that is no text, and a fault for want of memory
   abbrev pub OwesWithout : WordsError → T → T → D → D → ℕ → Type 0
-  OwesWithout words_errors.Usage out out_now err err_now status = (status ≡ 3) × opens [] × Took W.took W.written out out_now [] × PassesOn W out out_now × Reports V err err_now usage_line
-  OwesWithout words_errors.Memory out out_now err err_now status = (status ≡ 4) × opens [] × Took W.took W.written out out_now [] × PassesOn W out out_now × Reports V err err_now (fault_line Memory)
+  OwesWithout words_errors.Usage out out_now err err_now status = (status ≡ 3) × opens [] × Took W.took W.written out out_now [] × PassesOn W out out_now
+      × Reports V err err_now usage_line
+  OwesWithout words_errors.Memory out out_now err err_now status = (status ≡ 4) × opens [] × Took W.took W.written out out_now [] × PassesOn W out out_now
+      × Reports V err err_now (fault_line Memory)
 
   -- What the program owes for the arguments of the process: what it owes for the words that they are, or for want of words.
   abbrev pub OwesFor : Result Arguments Error → T → T → D → D → ℕ → Type 0
@@ -174,5 +183,6 @@ module _ {X Y T D : Type 0} (R : Inlet X) (gives : Name → X → Type 0) (refus
   OwesFor (Err why) out out_now err err_now status = OwesWithout (no_words why) out out_now err err_now status
 
 -- What it owes where a hasher can always be had.
-abbrev pub Owes : {X Y T D : Type 0} → Inlet X → (Name → X → Type 0) → (Name → Type 0) → (List Name → Type 0) → Items Y → Outlet T → Outlet D → Option Asked → T → T → D → D → ℕ → Type 0
+abbrev pub Owes : {X Y T D : Type 0} → Inlet X → (Name → X → Type 0) → (Name → Type 0) → (List Name → Type 0) → Items Y → Outlet T → Outlet D → Option Asked → T
+    → T → D → D → ℕ → Type 0
 Owes R gives refuses opens I W V = OwesWithHasher R gives refuses opens ⊥ I W V

@@ -12,9 +12,9 @@ use std::alloc::Global;
 use std::env::Args;
 use std::io;
 
-/// Does what the arguments of the process ask for, as the runtime gave them, and answers its status: that of
-/// `run_with_hasher` over the words behind the program's name. Where they are no words, `err` says so, as `refuse_words`
-/// does.
+/// Does what the arguments of the process ask for, as the runtime gave them, and answers its
+/// status: that of `run_with_hasher` over the words behind the program's name. Where they are no
+/// words, `err` says so, as `refuse_words` does.
 pub fn run_arguments<N: Sources, H: Hashers, O: Outlet, E: Outlet>(
     alloc: Global,
     arguments: io::Result<Args>,

@@ -93,8 +93,8 @@ pub fn run<S: AsStr, N: Sources, O: Outlet, E: Outlet>(
     run_with_hasher(alloc, words, sources, &FixedHasher, out, err)
 }
 
-/// The same, where a conversion to binary finds the ids of symbols by a hasher that is asked for then. Where
-/// none can be had, that is the fault `Read`.
+/// The same, where a conversion to binary finds the ids of symbols by a hasher that is asked for
+/// then. Where none can be had, that is the fault `Read`.
 pub fn run_with_hasher<S: AsStr, N: Sources, H: Hashers, O: Outlet, E: Outlet>(
     alloc: Global,
     words: &[S],
@@ -116,8 +116,10 @@ pub fn run_with_hasher<S: AsStr, N: Sources, H: Hashers, O: Outlet, E: Outlet>(
 
 /// Tells on `err` why the words ask for nothing, and answers the status.
 pub fn refuse_words<E: Outlet>(error: WordsError, err: &mut E) -> Status
-    ensures usage { error ≡ WordsError.Usage → (result ≡ Status.WrongWords) × Reports E.Outlet err.old err.new usage_line }
-    ensures memory { error ≡ WordsError.Memory → (result ≡ Status.Fault) × Reports E.Outlet err.old err.new (fault_line Fault.Memory) }
+    ensures usage { error ≡ WordsError.Usage → (result ≡ Status.WrongWords)
+        × Reports E.Outlet err.old err.new usage_line }
+    ensures memory { error ≡ WordsError.Memory → (result ≡ Status.Fault)
+        × Reports E.Outlet err.old err.new (fault_line Fault.Memory) }
 {
     match error {
         WordsError::Usage => {
@@ -138,8 +140,10 @@ fn tell_fault<E: Outlet>(fault: Fault, err: &mut E) -> Status
 
 fn tell_refusal<E: Outlet>(alloc: Global, whose: Whose, refusal: Refusal, err: &mut E) -> Status
     ensures status { result ≡ Status.Refused ⊎ result ≡ Status.Fault }
-    ensures refused { result ≡ Status.Refused → Reports E.Outlet err.old err.new (refusal_line whose refusal) }
-    ensures fault { result ≡ Status.Fault → Reports E.Outlet err.old err.new (fault_line Fault.Memory) }
+    ensures refused { result ≡ Status.Refused
+        → Reports E.Outlet err.old err.new (refusal_line whose refusal) }
+    ensures fault { result ≡ Status.Fault
+        → Reports E.Outlet err.old err.new (fault_line Fault.Memory) }
 {
     match refusal_line(alloc, whose, refusal) {
         Ok(line) => {
@@ -289,7 +293,8 @@ fn checked<R: Inlet, O: Outlet>(
         ⊎ (answer : Result ℕ Refusal)
         × IsChecked R.Inlet (documents catalog.now limits) reader.old reader.new answer
         × TookFront O.took O.written out.old out.new (answer_line answer)) }
-    ensures cause { IfErr result (λ fault. IsReadCause R.Inlet limits.reads reader.old reader.new fault
+    ensures cause { IfErr result (λ fault. IsReadCause R.Inlet limits.reads reader.old reader.new
+        fault
         ⊎ IsWriteCause O.Outlet out.new fault) }
 {
     match check(alloc, reader, catalog, limits)? {
@@ -315,7 +320,8 @@ fn shown<R: Inlet, O: Outlet>(
     ensures passed_on { OnOk result (PassesOn O.Outlet out.old out.new) }
     ensures so_far { OnErr result (ShowsSoFar R.Inlet ⟦<DocReader<'static> as Items>⟧ O.Outlet
         catalog.now limits reader.old reader.new out.old out.new) }
-    ensures cause { IfErr result (λ fault. IsReadCause R.Inlet limits.reads reader.old reader.new fault
+    ensures cause { IfErr result (λ fault. IsReadCause R.Inlet limits.reads reader.old reader.new
+        fault
         ⊎ IsWriteCause O.Outlet out.new fault) }
 {
     match show(alloc, reader, out, catalog, limits)? {
@@ -343,7 +349,8 @@ fn converted<H: Hashers, R: Inlet, O: Outlet>(
     ensures so_far { OnErr result (ConvertsSoFar (encoding_of target)
         (ReadSoFar R.Inlet ⟦<DocReader<'static> as Items>⟧ catalog.now limits reader.old reader.new)
         O.Outlet out.old out.new) }
-    ensures cause { IfErr result (λ fault. IsReadCause R.Inlet limits.reads reader.old reader.new fault
+    ensures cause { IfErr result (λ fault. IsReadCause R.Inlet limits.reads reader.old reader.new
+        fault
         ⊎ IsConvertCause (encoding_of target)
         (ReadSoFar R.Inlet ⟦<DocReader<'static> as Items>⟧ catalog.now limits reader.old reader.new)
         (O.has_failed out.new) fault
@@ -373,7 +380,8 @@ fn conversion<H: Hashers, R: Inlet, O: Outlet>(
     ensures so_far { OnErr result (ConvertsSoFar (encoding_of target)
         (ReadSoFar R.Inlet ⟦<DocReader<'static> as Items>⟧ catalog.now limits reader.old reader.new)
         O.Outlet out.old out.new) }
-    ensures cause { IfErr result (λ fault. IsReadCause R.Inlet limits.reads reader.old reader.new fault
+    ensures cause { IfErr result (λ fault. IsReadCause R.Inlet limits.reads reader.old reader.new
+        fault
         ⊎ IsConvertCause (encoding_of target)
         (ReadSoFar R.Inlet ⟦<DocReader<'static> as Items>⟧ catalog.now limits reader.old reader.new)
         (O.has_failed out.new) fault

@@ -59,13 +59,14 @@ impl Sources for FileSystem<'_> {
 
     type Input = FromRead<Opened>;
 
-    /// The standard input by the name `-`, a file by any other. What it holds isn't known; its reader
-    /// has handed nothing over yet.
+    /// The standard input by the name `-`, a file by any other. What it holds isn't known; its
+    /// reader has handed nothing over yet.
     ghost gives = { λ _ name input. IsNamed name (reader_of input)
-        × (⟦<FromRead<Opened> as Inlet>⟧.handed input ≡ []) × (⟦<FromRead<Opened> as Inlet>⟧.ends input ≡ []) };
+        × (⟦<FromRead<Opened> as Inlet>⟧.handed input ≡ [])
+        × (⟦<FromRead<Opened> as Inlet>⟧.ends input ≡ []) };
 
-    /// Any name of a file may be refused, since nothing is known of what can be opened; the standard
-    /// input never is.
+    /// Any name of a file may be refused, since nothing is known of what can be opened; the
+    /// standard input never is.
     ghost refuses = { λ _ name. name ≢ codes "-" };
 
     ghost opened = { λ system. system.opened };
@@ -109,7 +110,8 @@ impl Hashers for RandomHasher<'_> {
     }
 }
 
-/// The words among the arguments of the process that `env::args` gave: those behind the program's name.
+/// The words among the arguments of the process that `env::args` gave: those behind the program's
+/// name.
 ///
 /// `Usage` where an argument is no UTF-8 text, and `Memory` where a growth was refused.
 pub fn words_given(alloc: Global, arguments: io::Result<Args>) -> Result<Vec<String>, WordsError>

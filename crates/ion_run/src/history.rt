@@ -8,8 +8,8 @@ use std::marker::Model;
 
 /// Names, in the order in which they were opened.
 ///
-/// In clauses it is their list. It takes no memory and its methods do nothing at run time: the list is what `add`
-/// was called with.
+/// In clauses it is their list. It takes no memory and its methods do nothing at run time: the list
+/// is what `add` was called with.
 #[derive(Drop)]
 pub struct NameHistory {
     tag: Tag,

@@ -1,5 +1,5 @@
-//! What the command does with its words: over the files and the standard streams of a process, or over any sources and
-//! devices.
+//! What the command does with its words: over the files and the standard streams of a process, or
+//! over any sources and devices.
 #![tactic(auto)]
 
 mod arguments;

@@ -79,8 +79,8 @@ pub fn equivalent_line(alloc: Global, values: u64) -> Result<String, AllocError>
     format!(in alloc; "equivalent {values}\n")
 }
 
-/// The line of two documents that part at this value, counted from 1, and within it at this path. The
-/// only fault is `Memory`.
+/// The line of two documents that part at this value, counted from 1, and within it at this path.
+/// The only fault is `Memory`.
 pub fn different_line(alloc: Global, index: u64, path: &Path) -> Result<String, Fault>
     ensures line { IfOk result (λ line. string_bytes line ≡ different_line index path.now) }
     ensures memory { IfErr result (λ fault. fault ≡ Fault.Memory) }

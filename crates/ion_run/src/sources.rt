@@ -17,8 +17,8 @@ pub trait Sources {
     /// All names that `source` was called with, in order, also those that gave no reader.
     ghost opened: { Self → List Name };
 
-    /// The reader of this name, from its first octet on; `-` names the standard input, which is to be
-    /// taken once.
+    /// The reader of this name, from its first octet on; `-` names the standard input, which is to
+    /// be taken once.
     ///
     /// `Open` where the name gives no reader, and `Memory` where a growth was refused.
     fn source(&mut self, name: &str) -> Result<Self::Input, Fault>

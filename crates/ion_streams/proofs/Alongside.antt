@@ -19,21 +19,26 @@ none_begins None rest h = tt
 none_begins (Some b) rest h = absurd cc
 
 -- so many octets of the piece were used, and the last of them gave this value
-pub past : {X : Type 0} (I : Items X) (counted : (r : X) (u : List ℕ) (s : List (Value × ℕ)) → I.stands r u s → I.taken r ≡ length u) (before after : Source X) (used : ℕ) (v : Value) →
+pub past : {X : Type 0} (I : Items X) (counted : (r : X) (u : List ℕ) (s : List (Value × ℕ)) → I.stands r u s → I.taken r ≡ length u) (before after : Source X)
+    (used : ℕ) (v : Value) →
     IsReady I before → used ≤ length (left_of before) → I.catalog after.items ≡ I.catalog before.items → I.limits after.items ≡ I.limits before.items →
     I.taken after.items ≡ I.taken before.items + used → I.pending after.items < I.pending before.items + 2 * used → IsNone (I.awaits after.items) →
-    ((u : List ℕ) (s : List (Value × ℕ)) → I.stands before.items u s → I.stands after.items (u ++ take used (left_of before)) (s ++ (v, length u + used) ∷ [])) →
-    after.piece.items ≡ before.piece.items → after.at ≡ before.at + used → after.end ≡ before.end → after.used ≡ before.used + used → after.reads ≡ before.reads → WentPast I before after v
+    ((u : List ℕ) (s : List (Value × ℕ)) → I.stands before.items u s → I.stands after.items (u ++ take used (left_of before)) (s ++ (v, length u + used) ∷ []))
+    →
+    after.piece.items ≡ before.piece.items → after.at ≡ before.at + used → after.end ≡ before.end → after.used ≡ before.used + used → after.reads ≡ before.reads
+    → WentPast I before after v
 past I counted before after used v ready fits under within taken less none go piece at end more reads =
     let inside : used ≤ before.end - before.at = omega (arith, fits, length-take {A = ℕ}, length-drop {A = ℕ}) in
     let same = ready.counted in
     let room = ready.room in
     let rest : left_of after ≡ between before.piece.items (before.at + used) before.end =
-    ap (λ x. between x after.at after.end) piece ∙ (ap (λ x. between before.piece.items x after.end) at ∙ ap (λ x. between before.piece.items (before.at + used) x) end) in
+    ap (λ x. between x after.at after.end) piece ∙ (ap (λ x. between before.piece.items x after.end) at ∙ ap
+    (λ x. between before.piece.items (before.at + used) x) end) in
     record {
       went = λ u given h.
           let total = counted before.items u given h in
-          went I u given before.piece.items before.at before.end used (length u + used) after (Some v) inside rest (omega (arith, total, same, more)) (go u given h);
+          went I u given before.piece.items before.at before.end used (length u + used) after (Some v) inside rest (omega (arith, total, same, more))
+          (go u given h);
       under = under;
       within = within;
       ready = record {
@@ -83,14 +88,16 @@ module _ {X : Type 0} (I : Items X) where
   past_reads Ended after v h = absurd h
   past_reads (Refused r) after v h = absurd h
 
-  pub past_within : {S : Type 0} (R : Inlet S) (reads : ℕ) (first now : S) (place after : Standing X) (v : Value) → StandingPast I place after v → IfOpen place (IsWithin R reads first now) → IfOpen after (IsWithin R reads first now)
+  pub past_within : {S : Type 0} (R : Inlet S) (reads : ℕ) (first now : S) (place after : Standing X) (v : Value) → StandingPast I place after v
+      → IfOpen place (IsWithin R reads first now) → IfOpen after (IsWithin R reads first now)
   past_within R reads first now (Open from) (Open to) v h w = let rest = w.rest in record { made = w.made; were = w.were; rest = omega (arith, rest, h.reads) }
   past_within R reads first now (Open from) Ended v h w = tt
   past_within R reads first now (Open from) (Refused r) v h w = tt
   past_within R reads first now Ended after v h w = absurd h
   past_within R reads first now (Refused r) after v h w = absurd h
 
-  pub past_stood : {S : Type 0} (R : Inlet S) (g : Catalog) (l : Limits) (first now : S) (place after : Standing X) (v : Value) (s : List Value) → StandingPast I place after v → Stood R I g l first now place s → Stood R I g l first now after (s ++ v ∷ [])
+  pub past_stood : {S : Type 0} (R : Inlet S) (g : Catalog) (l : Limits) (first now : S) (place after : Standing X) (v : Value) (s : List Value)
+      → StandingPast I place after v → Stood R I g l first now place s → Stood R I g l first now after (s ++ v ∷ [])
   past_stood R g l first now (Open from) (Open to) v s h stood =
       record {
         given = stood.given ++ (v, to.used) ∷ [];

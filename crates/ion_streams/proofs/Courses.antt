@@ -66,12 +66,14 @@ met_both n v w (Alike values) s t later_s later_t a b met h =
 met_both n v w (Parted index path) s t later_s later_t a b met h =
     let place : index - 1 ≡ n = omega (arith, met.1) in
     record {
-      first = h ∙ (ap (λ x. option_map (λ k. k + n) (cond x (option_map (λ k. k + 1) (parts later_s later_t)) (Some 1))) met.0 ∙ ap Some (omega (arith, met.1)));
+      first = h ∙ (ap (λ x. option_map (λ k. k + n) (cond x (option_map (λ k. k + 1) (parts later_s later_t)) (Some 1))) met.0
+          ∙ ap Some (omega (arith, met.1)));
       within = rw (place, at_length s later_s v n a, at_length t later_t w n b) met.2;
     }
 
 -- only the right one has another value
-met_right : (n : ℕ) (w : Value) (s t later_s later_t : List Value) → length s ≡ n → later_s ≡ [] → Onward (Alike n) (s ++ later_s) (t ++ w ∷ later_t) later_s (w ∷ later_t) →
+met_right : (n : ℕ) (w : Value) (s t later_s later_t : List Value) → length s ≡ n → later_s ≡ []
+    → Onward (Alike n) (s ++ later_s) (t ++ w ∷ later_t) later_s (w ∷ later_t) →
     PartAt (n + 1) [] (s ++ later_s) (t ++ w ∷ later_t)
 met_right n w s t later_s later_t a none h =
     let place : (n + 1) - 1 ≡ n = omega arith in
@@ -82,7 +84,8 @@ met_right n w s t later_s later_t a none h =
     }
 
 -- only the left one has another value
-met_left : (n : ℕ) (v : Value) (s t later_s later_t : List Value) → length s ≡ n → length t ≡ n → later_t ≡ [] → Onward (Alike n) (s ++ v ∷ later_s) (t ++ later_t) (v ∷ later_s) later_t →
+met_left : (n : ℕ) (v : Value) (s t later_s later_t : List Value) → length s ≡ n → length t ≡ n → later_t ≡ []
+    → Onward (Alike n) (s ++ v ∷ later_s) (t ++ later_t) (v ∷ later_s) later_t →
     PartAt (n + 1) [] (s ++ v ∷ later_s) (t ++ later_t)
 met_left n v s t later_s later_t a b none h =
     let place : (n + 1) - 1 ≡ n = omega arith in
@@ -92,21 +95,26 @@ met_left n v s t later_s later_t a b none h =
       within = rw (place, at_length s later_s v n a, past) refl;
     }
 
-met_onward : (course after : Course) (v w : Option Value) (s t later_s later_t : List Value) → IfAlike course (λ values. (length s ≡ values) × (length t ≡ values)) → IsMet course v w after →
+met_onward : (course after : Course) (v w : Option Value) (s t later_s later_t : List Value)
+    → IfAlike course (λ values. (length s ≡ values) × (length t ≡ values)) → IsMet course v w after →
     (v ≡ None → later_s ≡ []) → (w ≡ None → later_t ≡ []) →
     Onward course (s ++ (option_to_list v ++ later_s)) (t ++ (option_to_list w ++ later_t)) (option_to_list v ++ later_s) (option_to_list w ++ later_t) →
     Onward after (s ++ (option_to_list v ++ later_s)) (t ++ (option_to_list w ++ later_t)) later_s later_t
 met_onward (Parted index path) after v w s t later_s later_t counted met h k onward = rw met onward
 met_onward (Alike n) after None None s t later_s later_t counted met h k onward = rw met onward
-met_onward (Alike n) after (Some v) (Some w) s t later_s later_t counted met h k onward = met_both n v w after s t later_s later_t counted.0 counted.1 met onward
+met_onward (Alike n) after (Some v) (Some w) s t later_s later_t counted met h k onward =
+    met_both n v w after s t later_s later_t counted.0 counted.1 met onward
 met_onward (Alike n) after None (Some w) s t later_s later_t counted met h k onward = rw met (met_right n w s t later_s later_t counted.0 (h refl) onward)
-met_onward (Alike n) after (Some v) None s t later_s later_t counted met h k onward = rw met (met_left n v s t later_s later_t counted.0 counted.1 (k refl) onward)
+met_onward (Alike n) after (Some v) None s t later_s later_t counted met h k onward =
+    rw met (met_left n v s t later_s later_t counted.0 counted.1 (k refl) onward)
 
-counted_both : (n : ℕ) (v w : Value) (after : Course) (s t : List Value) → length s ≡ n → length t ≡ n → MetBoth n v w after → IfAlike after (λ values. (length (s ++ v ∷ []) ≡ values) × (length (t ++ w ∷ []) ≡ values))
+counted_both : (n : ℕ) (v w : Value) (after : Course) (s t : List Value) → length s ≡ n → length t ≡ n → MetBoth n v w after
+    → IfAlike after (λ values. (length (s ++ v ∷ []) ≡ values) × (length (t ++ w ∷ []) ≡ values))
 counted_both n v w (Alike values) s t a b met = (omega (arith, met.1, length-append s (v ∷ [])), omega (arith, met.1, length-append t (w ∷ [])))
 counted_both n v w (Parted index path) s t a b met = tt
 
-counted_more : (course after : Course) (v w : Option Value) (s t : List Value) → IfAlike course (λ values. (length s ≡ values) × (length t ≡ values)) → IsMet course v w after →
+counted_more : (course after : Course) (v w : Option Value) (s t : List Value) → IfAlike course (λ values. (length s ≡ values) × (length t ≡ values))
+    → IsMet course v w after →
     IfAlike after (λ values. (length (s ++ option_to_list v) ≡ values) × (length (t ++ option_to_list w) ≡ values))
 counted_more (Parted index path) after v w s t h met = rw met tt
 counted_more (Alike n) after None None s t h met = rw (met, append-nil s, append-nil t) h
@@ -115,25 +123,31 @@ counted_more (Alike n) after None (Some w) s t h met = rw met tt
 counted_more (Alike n) after (Some v) None s t h met = rw met tt
 
 -- nothing followed behind a document that is closed, and without a value it is closed
-closed_before : {X : Type 0} (before after : Standing X) (v : Option Value) (s : List Value) → IfClosed before ((after ≡ before) × (v ≡ None)) → IfClosed after (s ≡ []) → IfClosed before (option_to_list v ++ s ≡ [])
+closed_before : {X : Type 0} (before after : Standing X) (v : Option Value) (s : List Value) → IfClosed before ((after ≡ before) × (v ≡ None))
+    → IfClosed after (s ≡ []) → IfClosed before (option_to_list v ++ s ≡ [])
 closed_before (TheStanding.Open source) after v s h k = tt
 closed_before TheStanding.Ended after v s h k = ap (λ (x : Option Value). option_to_list x ++ s) h.1 ∙ subst (λ (x : Standing _). IfClosed x (s ≡ [])) h.0 k
-closed_before (TheStanding.Refused refusal) after v s h k = ap (λ (x : Option Value). option_to_list x ++ s) h.1 ∙ subst (λ (x : Standing _). IfClosed x (s ≡ [])) h.0 k
+closed_before (TheStanding.Refused refusal) after v s h k = ap (λ (x : Option Value). option_to_list x ++ s) h.1
+    ∙ subst (λ (x : Standing _). IfClosed x (s ≡ [])) h.0 k
 
-closed_after : {X : Type 0} (after : Standing X) (v : Option Value) (s : List Value) → (v ≡ None → IfOpen after (λ source. ⊥)) → IfClosed after (s ≡ []) → v ≡ None → s ≡ []
+closed_after : {X : Type 0} (after : Standing X) (v : Option Value) (s : List Value) → (v ≡ None → IfOpen after (λ source. ⊥)) → IfClosed after (s ≡ [])
+    → v ≡ None → s ≡ []
 closed_after (TheStanding.Open source) v s h k none = absurd (h none)
 closed_after TheStanding.Ended v s h k none = k
 closed_after (TheStanding.Refused refusal) v s h k none = k
 
-pub meets_more : {X Y : Type 0} (course after : Course) (left left' : Standing X) (right right' : Standing Y) (s t : List Value) (v w : Option Value) → IsMet course v w after → Meets course left right s t →
-    IfClosed left ((left' ≡ left) × (v ≡ None)) → IfClosed right ((right' ≡ right) × (w ≡ None)) → (v ≡ None → IfOpen left' (λ source. ⊥)) → (w ≡ None → IfOpen right' (λ source. ⊥)) →
+pub meets_more : {X Y : Type 0} (course after : Course) (left left' : Standing X) (right right' : Standing Y) (s t : List Value) (v w : Option Value)
+    → IsMet course v w after → Meets course left right s t →
+    IfClosed left ((left' ≡ left) × (v ≡ None)) → IfClosed right ((right' ≡ right) × (w ≡ None)) → (v ≡ None → IfOpen left' (λ source. ⊥))
+    → (w ≡ None → IfOpen right' (λ source. ⊥)) →
     Meets after left' right' (s ++ option_to_list v) (t ++ option_to_list w)
 meets_more course after left left' right right' s t v w met h was_left was_right left_ends right_ends =
     record {
       onward = λ s' t' a b.
           rw (append_assoc s (option_to_list v) s', append_assoc t (option_to_list w) t')
           (met_onward course after v w s t s' t' h.counted met (closed_after left' v s' left_ends a) (closed_after right' w t' right_ends b)
-          (h.onward (option_to_list v ++ s') (option_to_list w ++ t') (closed_before left left' v s' was_left a) (closed_before right right' w t' was_right b)));
+          (h.onward (option_to_list v ++ s') (option_to_list w ++ t') (closed_before left left' v s' was_left a)
+          (closed_before right right' w t' was_right b)));
       counted = counted_more course after v w s t h.counted met;
     }
 
@@ -148,7 +162,8 @@ parts_none [] (w ∷ t) e = absurd cc
 parts_none (v ∷ s) [] e = absurd cc
 parts_none (v ∷ s) (w ∷ t) e = none_same (same v w) (parts s t) (pointwise same s t) e (parts_none s t)
 
-both_ended : (F G : Format) (course : Course) (s t : List Value) (l r : List ℕ) → F.denotes l s → G.denotes r t → Onward course s t [] [] → IfAlike course (λ values. (length s ≡ values) × (length t ≡ values)) →
+both_ended : (F G : Format) (course : Course) (s t : List Value) (l r : List ℕ) → F.denotes l s → G.denotes r t → Onward course s t [] []
+    → IfAlike course (λ values. (length s ≡ values) × (length t ≡ values)) →
     IsVerdict F G l r (verdict_on course)
 both_ended F G (Alike n) s t l r h k e counted = record { s = s; t = t; left = h; right = k; streams = (parts_none s t e, counted.0) }
 both_ended F G (Parted i path) s t l r h k e counted = record { s = s; t = t; left = h; right = k; streams = e }
@@ -161,11 +176,14 @@ module _ {S X T Y : Type 0} (L : Inlet S) (I : Items X) (R : Inlet T) (J : Items
   -- both are closed and the left is no refused one
   pub closed_verdict : (left left_now : S) (right right_now : T) (left_place : Standing X) (right_place : Standing Y) (course : Course) (s t : List Value) →
       Stood L I g k left left_now left_place s → Stood R J h l right right_now right_place t →
-      Meets course left_place right_place s t → ((refusal : Refusal) → left_place ≡ TheStanding.Refused refusal → ⊥) → IfOpen left_place (λ source. ⊥) → IfOpen right_place (λ source. ⊥) →
+      Meets course left_place right_place s t → ((refusal : Refusal) → left_place ≡ TheStanding.Refused refusal → ⊥) → IfOpen left_place (λ source. ⊥)
+      → IfOpen right_place (λ source. ⊥) →
       IsCompared L R (format_of I g k) (format_of J h l) left left_now right right_now (verdict_of right_place course)
   closed_verdict left left_now right right_now (TheStanding.Open source) right_place course s t a b meets kept closed_left closed_right = absurd closed_left
-  closed_verdict left left_now right right_now (TheStanding.Refused refusal) right_place course s t a b meets kept closed_left closed_right = absurd (kept refusal refl)
-  closed_verdict left left_now right right_now TheStanding.Ended (TheStanding.Open source) course s t a b meets kept closed_left closed_right = absurd closed_right
+  closed_verdict left left_now right right_now (TheStanding.Refused refusal) right_place course s t a b meets kept closed_left closed_right =
+      absurd (kept refusal refl)
+  closed_verdict left left_now right right_now TheStanding.Ended (TheStanding.Open source) course s t a b meets kept closed_left closed_right =
+      absurd closed_right
   closed_verdict left left_now right right_now TheStanding.Ended (TheStanding.Refused refusal) course s t a b meets kept closed_left closed_right =
       record {
         l = a.octets;
@@ -191,14 +209,17 @@ module _ {S X T Y : Type 0} (L : Inlet S) (I : Items X) (R : Inlet T) (J : Items
       }
 
   -- what was heard of a device, wherever its document stands
-  stood_heard : (right right_now : T) (right_place : Standing Y) (t : List Value) → Stood R J h l right right_now right_place t → (octets : List ℕ) × (ended : Bool) × Heard R right right_now octets ended
+  stood_heard : (right right_now : T) (right_place : Standing Y) (t : List Value) → Stood R J h l right right_now right_place t → (octets : List ℕ)
+      × (ended : Bool) × Heard R right right_now octets ended
   stood_heard right right_now (TheStanding.Open source) t b = (b.each.u ++ left_of source, false, b.each.heard)
   stood_heard right right_now TheStanding.Ended t b = (b.octets, true, b.heard)
   stood_heard right right_now (TheStanding.Refused refusal) t b = (b.octets, b.ended, b.heard)
 
   -- the left is refused, wherever the right stands
-  pub left_refused : (left left_now : S) (right right_now : T) (right_place : Standing Y) (s t : List Value) (refusal : Refusal) → ToldRefused L (format_of I g k) left left_now s refusal →
-      Stood R J h l right right_now right_place t → IsCompared L R (format_of I g k) (format_of J h l) left left_now right right_now (TheVerdict.Refused Left refusal)
+  pub left_refused : (left left_now : S) (right right_now : T) (right_place : Standing Y) (s t : List Value) (refusal : Refusal)
+      → ToldRefused L (format_of I g k) left left_now s refusal →
+      Stood R J h l right right_now right_place t → IsCompared L R (format_of I g k) (format_of J h l) left left_now right right_now
+      (TheVerdict.Refused Left refusal)
   left_refused left left_now right right_now right_place s t refusal a b =
       let heard = stood_heard right right_now right_place t b in
       record {
@@ -222,12 +243,14 @@ count_met (Alike n) after (Some v) (Some w) met = count_both n v w after met
 count_met (Alike n) after None (Some w) met = rw met (omega arith)
 count_met (Alike n) after (Some v) None met = rw met (omega arith)
 
-work_kept : {X : Type 0} (I : Items X) (before after : Standing X) (P : Type 0) → IfOpen before (λ source. work_of I after < work_of I before) → IfClosed before ((after ≡ before) × P) → work_of I after ≤ work_of I before
+work_kept : {X : Type 0} (I : Items X) (before after : Standing X) (P : Type 0) → IfOpen before (λ source. work_of I after < work_of I before)
+    → IfClosed before ((after ≡ before) × P) → work_of I after ≤ work_of I before
 work_kept I (TheStanding.Open source) after P h k = omega (arith, h)
 work_kept I TheStanding.Ended after P h k = let e = ap (λ (x : Standing _). work_of I x) k.0 in omega (arith, e)
 work_kept I (TheStanding.Refused refusal) after P h k = let e = ap (λ (x : Standing _). work_of I x) k.0 in omega (arith, e)
 
-work_open : {X : Type 0} (I : Items X) (before after : Standing X) → IsOpen before → IfOpen before (λ source. work_of I after < work_of I before) → work_of I after < work_of I before
+work_open : {X : Type 0} (I : Items X) (before after : Standing X) → IsOpen before → IfOpen before (λ source. work_of I after < work_of I before)
+    → work_of I after < work_of I before
 work_open I (TheStanding.Open source) after opened h = h
 work_open I TheStanding.Ended after opened h = absurd opened
 work_open I (TheStanding.Refused refusal) after opened h = absurd opened

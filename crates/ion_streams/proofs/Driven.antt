@@ -32,7 +32,8 @@ pub record IsNew {X : Type 0} (items : X) (reads : ℕ) (source : Source X) : Ty
   pub few : source.reads ≡ reads
 
 module _ {S X : Type 0} (R : Inlet S) (I : Items X) where
-  pub driven_begun : (now : S) (items : X) (reads : ℕ) (source : Source X) → IsFresh I items → I.taken items ≡ 0 → I.failed items ≡ None → reads ≤ 2 ^ 32 → IsNew items reads source → Driven R I reads now now (Open source)
+  pub driven_begun : (now : S) (items : X) (reads : ℕ) (source : Source X) → IsFresh I items → I.taken items ≡ 0 → I.failed items ≡ None → reads ≤ 2 ^ 32
+      → IsNew items reads source → Driven R I reads now now (Open source)
   driven_begun now items reads source fresh taken fine most new =
       let few = new.few in
       record {
@@ -42,14 +43,16 @@ module _ {S X : Type 0} (R : Inlet S) (I : Items X) where
       }
 
   -- no value was given yet
-  pub stood_begun : (now : S) (items : X) (reads : ℕ) (source : Source X) → IsFresh I items → IsNew items reads source → ReadsEach R I (I.catalog items) (I.limits items) now now source []
+  pub stood_begun : (now : S) (items : X) (reads : ℕ) (source : Source X) → IsFresh I items → IsNew items reads source
+      → ReadsEach R I (I.catalog items) (I.limits items) now now source []
   stood_begun now items reads source fresh new =
       let at = new.nothing.0 in
       let end = new.nothing.1 in
       each_begun R I now source items fresh.stood new.same (between_nil source.piece.items source.at source.end (omega (arith, at, end)))
 
   -- so many values may come
-  pub work_begun : (items : X) (reads : ℕ) (source : Source X) → IsFresh I items → reads ≤ 2 ^ 32 → IsNew items reads source → work_of I (Open source) ≤ 8193 * 2 ^ 32 + 1
+  pub work_begun : (items : X) (reads : ℕ) (source : Source X) → IsFresh I items → reads ≤ 2 ^ 32 → IsNew items reads source
+      → work_of I (Open source) ≤ 8193 * 2 ^ 32 + 1
   work_begun items reads source fresh most new =
       let few = new.few in
       let at = new.nothing.0 in
@@ -58,7 +61,8 @@ module _ {S X : Type 0} (R : Inlet S) (I : Items X) where
       omega (arith, few, at, end, pending, most)
 
   -- it was read on
-  pub driven_on : (reads : ℕ) (first old now : S) (place after : Standing X) → Driven R I reads first old place → IfOpen after (IsReady I) → NoReadFailed R old now → IfOpen place (λ source. NoneFailed R I old source → R.has_failed now ≡ false) →
+  pub driven_on : (reads : ℕ) (first old now : S) (place after : Standing X) → Driven R I reads first old place → IfOpen after (IsReady I)
+      → NoReadFailed R old now → IfOpen place (λ source. NoneFailed R I old source → R.has_failed now ≡ false) →
       ((first : S) (reads : ℕ) → IfOpen place (IsWithin R reads first old) → IfOpen after (IsWithin R reads first now)) → Driven R I reads first now after
   driven_on reads first old now place after d ready unasked answered within =
       record {
@@ -68,7 +72,9 @@ module _ {S X : Type 0} (R : Inlet S) (I : Items X) where
       }
 
   -- what is answered of a document that can't be read on
-  pub checked_at : (g : Catalog) (l : Limits) (first now : S) (place : Standing X) (given : List (Value × ℕ)) (values : ℕ) → IfOpen place (λ source. ⊥) → length given ≡ values → StoodEach R I g l first now place given → IsChecked R (format_of I g l) first now (answered place values)
+  pub checked_at : (g : Catalog) (l : Limits) (first now : S) (place : Standing X) (given : List (Value × ℕ)) (values : ℕ) → IfOpen place (λ source. ⊥)
+      → length given ≡ values → StoodEach R I g l first now place given → IsChecked R (format_of I g l) first now (answered place values)
   checked_at g l first now (Open source) given values closed count h = absurd closed
-  checked_at g l first now Ended given values closed count h = (plain given, stood_plain R I g l first now Ended given h, length-map given (λ (x : Value × ℕ). x.0) ∙ count)
+  checked_at g l first now Ended given values closed count h =
+      (plain given, stood_plain R I g l first now Ended given h, length-map given (λ (x : Value × ℕ). x.0) ∙ count)
   checked_at g l first now (Refused refusal) given values closed count h = (plain given, stood_plain R I g l first now (Refused refusal) given h)

@@ -20,21 +20,27 @@ use Rattle.ion_streams.specs.declared.source.Standing.TheVariants as TheStanding
 
 lines_more : (index : ℕ) (s t : List Value) → lines_from index (s ++ t) ≡ lines_from index s ++ lines_from (index + length s) t
 lines_more index [] t = ap (λ n. lines_from n t) (omega arith)
-lines_more index (v ∷ s) t = ap (λ x. line_of index (outline_of v) ++ x) (lines_more (index + 1) s t) ∙ (sym (append_assoc (line_of index (outline_of v)) (lines_from (index + 1) s) (lines_from (index + 1 + length s) t))
+lines_more index (v ∷ s) t = ap (λ x. line_of index (outline_of v) ++ x) (lines_more (index + 1) s t)
+    ∙ (sym (append_assoc (line_of index (outline_of v)) (lines_from (index + 1) s) (lines_from (index + 1 + length s) t))
     ∙ ap (λ n. (line_of index (outline_of v) ++ lines_from (index + 1) s) ++ lines_from n t) (omega arith))
 
 -- the lines of what a document gave, and of one value more, of which this is told
-pub line_next : (given : List (Value × ℕ)) (v : Value) (total : ℕ) (o : Outline) (n : ℕ) → length given ≡ n → outline_of v ≡ o → lines_of (plain given) ++ line_of (n + 1) o ≡ lines_of (plain (given ++ (v, total) ∷ []))
+pub line_next : (given : List (Value × ℕ)) (v : Value) (total : ℕ) (o : Outline) (n : ℕ) → length given ≡ n → outline_of v ≡ o
+    → lines_of (plain given) ++ line_of (n + 1) o ≡ lines_of (plain (given ++ (v, total) ∷ []))
 line_next given v total o n count told =
     let all : plain (given ++ (v, total) ∷ []) ≡ plain given ++ v ∷ [] = map-append (λ (x : Value × ℕ). x.0) given ((v, total) ∷ []) in
     let same : length (plain given) ≡ n = length-map given (λ (x : Value × ℕ). x.0) ∙ count in
     let index : n + 1 ≡ 1 + length (plain given) = omega (arith, same) in
-    let line : line_of (n + 1) o ≡ lines_from (1 + length (plain given)) (v ∷ []) = ap (line_of (n + 1)) (sym told) ∙ (ap (λ (k : ℕ). line_of k (outline_of v)) index ∙ sym (append-nil (line_of (1 + length (plain given)) (outline_of v)))) in
+    let line : line_of (n + 1) o ≡ lines_from (1 + length (plain given)) (v ∷ []) =
+    ap (line_of (n + 1)) (sym told) ∙ (ap (λ (k : ℕ). line_of k (outline_of v)) index
+    ∙ sym (append-nil (line_of (1 + length (plain given)) (outline_of v)))) in
     ap (λ x. lines_of (plain given) ++ x) line ∙ (sym (lines_more 1 (plain given) (v ∷ [])) ∙ ap lines_of (sym all))
 
 module _ {S X T : Type 0} (R : Inlet S) (I : Items X) (W : Outlet T) (g : Catalog) (l : Limits) where
   -- a front of the lines so far, wherever the document stands
-  pub so_far : (first now : S) (old new : T) (place : Standing X) (s : List Value) → Stood R I g l first now place s → TookFront W.took W.written old new (lines_of s) → ShowsSoFar R I W g l first now old new
-  so_far first now old new (TheStanding.Open source) s h front = in_reading s (record { items = source.items; left = left_of source; ended = false; gave = h }) front
+  pub so_far : (first now : S) (old new : T) (place : Standing X) (s : List Value) → Stood R I g l first now place s
+      → TookFront W.took W.written old new (lines_of s) → ShowsSoFar R I W g l first now old new
+  so_far first now old new (TheStanding.Open source) s h front =
+      in_reading s (record { items = source.items; left = left_of source; ended = false; gave = h }) front
   so_far first now old new (TheStanding.Refused refusal) s h front = at_refusal s refusal h front
   so_far first now old new TheStanding.Ended s h front = at_end s h (Front-more W.took W.written old new (lines_of s) (accepted_line (length s)) front)

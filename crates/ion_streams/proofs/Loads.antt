@@ -19,15 +19,18 @@ use Rattle.ion_streams.specs.declared.source.Standing.{Standing}
 use Rattle.ion_streams.specs.declared.source.Standing.TheVariants as TheStanding
 
 -- values behind others that describe tables
-ok_behind : (r : Result (List Table) Reason) (total : ℕ) (f g : List Table → Result (List Table) Refusal) (h : List Table → Result (List Table) Refusal) (tables : List Table) →
+ok_behind : (r : Result (List Table) Reason) (total : ℕ) (f g : List Table → Result (List Table) Refusal) (h : List Table → Result (List Table) Refusal)
+    (tables : List Table) →
     ((more : List Table) → f more ≡ Ok tables → g more ≡ h tables) → then_at total r f ≡ Ok tables → then_at total r g ≡ h tables
 ok_behind (Ok more) total f g h tables go e = go more e
 ok_behind (Err reason) total f g h tables go e = absurd cc
 
-pub catalog_ok : (before : List Table) (given later : List (Value × ℕ)) (tables : List Table) → catalog_of before given ≡ Ok tables → catalog_of before (given ++ later) ≡ catalog_of tables later
+pub catalog_ok : (before : List Table) (given later : List (Value × ℕ)) (tables : List Table) → catalog_of before given ≡ Ok tables
+    → catalog_of before (given ++ later) ≡ catalog_of tables later
 catalog_ok before [] later tables e = let same : before ≡ tables = cc in ap (λ x. catalog_of x later) same
 catalog_ok before (x ∷ given) later tables e =
-    ok_behind (added before x.0) x.1 (λ more. catalog_of more given) (λ more. catalog_of more (given ++ later)) (λ more. catalog_of more later) tables (λ more. catalog_ok more given later tables) e
+    ok_behind (added before x.0) x.1 (λ more. catalog_of more given) (λ more. catalog_of more (given ++ later)) (λ more. catalog_of more later) tables
+    (λ more. catalog_ok more given later tables) e
 
 -- values behind one that is refused
 err_behind : (r : Result (List Table) Reason) (total : ℕ) (f g : List Table → Result (List Table) Refusal) (refusal : Refusal) →
@@ -35,13 +38,16 @@ err_behind : (r : Result (List Table) Reason) (total : ℕ) (f g : List Table �
 err_behind (Ok more) total f g refusal go e = go more e
 err_behind (Err reason) total f g refusal go e = e
 
-pub catalog_err : (before : List Table) (given later : List (Value × ℕ)) (refusal : Refusal) → catalog_of before given ≡ Err refusal → catalog_of before (given ++ later) ≡ Err refusal
+pub catalog_err : (before : List Table) (given later : List (Value × ℕ)) (refusal : Refusal) → catalog_of before given ≡ Err refusal
+    → catalog_of before (given ++ later) ≡ Err refusal
 catalog_err before [] later refusal e = absurd cc
 catalog_err before (x ∷ given) later refusal e =
-    err_behind (added before x.0) x.1 (λ more. catalog_of more given) (λ more. catalog_of more (given ++ later)) refusal (λ more. catalog_err more given later refusal) e
+    err_behind (added before x.0) x.1 (λ more. catalog_of more given) (λ more. catalog_of more (given ++ later)) refusal
+    (λ more. catalog_err more given later refusal) e
 
 -- the values given so far are the first that the octets give, whatever follows
-front_of : (T : List ℕ → Trace) → ((u w : List ℕ) → Grows (T u) (T (u ++ w))) → (awaits : Option ℕ) (u left more : List ℕ) (given : List (Value × ℕ)) → Begins awaits left →
+front_of : (T : List ℕ → Trace) → ((u w : List ℕ) → Grows (T u) (T (u ++ w))) → (awaits : Option ℕ) (u left more : List ℕ) (given : List (Value × ℕ))
+    → Begins awaits left →
     (IsNone awaits → (T u).given ≡ given) → IfSome awaits (λ octet. IsFront given (T (u ++ octet ∷ [])).given) → IsFront given (T ((u ++ left) ++ more)).given
 front_of T settled None u left more given begins so_far with_next =
     let e = so_far refl in
@@ -62,8 +68,10 @@ module _ {S X : Type 0} (R : Inlet S) (I : Items X) (g : Catalog) (l : Limits) w
   -- a value is refused, wherever the document stands
   pub value_refused : ((u w : List ℕ) → Grows (I.trace g l u) (I.trace g l (u ++ w))) →
       ((r : X) (u : List ℕ) (given : List (Value × ℕ)) → I.stands r u given → IsNone (I.awaits r) → (I.trace (I.catalog r) (I.limits r) u).given ≡ given) →
-      ((r : X) (u : List ℕ) (given : List (Value × ℕ)) → I.stands r u given → IfSome (I.awaits r) (λ octet. IsFront given (I.trace (I.catalog r) (I.limits r) (u ++ octet ∷ [])).given)) →
-      (first now : S) (place : Standing X) (given : List (Value × ℕ)) (refusal : Refusal) → StoodEach R I g l first now place given → IfOpen place (IsReady I) → catalog_of [] given ≡ Err refusal →
+      ((r : X) (u : List ℕ) (given : List (Value × ℕ)) → I.stands r u given
+      → IfSome (I.awaits r) (λ octet. IsFront given (I.trace (I.catalog r) (I.limits r) (u ++ octet ∷ [])).given)) →
+      (first now : S) (place : Standing X) (given : List (Value × ℕ)) (refusal : Refusal) → StoodEach R I g l first now place given → IfOpen place (IsReady I)
+      → catalog_of [] given ≡ Err refusal →
       IsLoaded R (format_of I g l) first now (Err refusal)
   value_refused settled so_far with_next first now (TheStanding.Open source) given refusal h ready e =
       record {
@@ -88,7 +96,8 @@ module _ {S X : Type 0} (R : Inlet S) (I : Items X) (g : Catalog) (l : Limits) w
       record { octets = h.octets; ended = h.ended; heard = h.heard; decided = λ more may. inl (ap (λ x. catalog_of [] x) (h.ends more may).all ∙ e) }
 
   -- all values describe tables, and the octets are no document
-  pub document_refused : (first now : S) (given : List (Value × ℕ)) (tables : List Table) (refusal : Refusal) → StoodEach R I g l first now (TheStanding.Refused refusal) given → catalog_of [] given ≡ Ok tables →
+  pub document_refused : (first now : S) (given : List (Value × ℕ)) (tables : List Table) (refusal : Refusal)
+      → StoodEach R I g l first now (TheStanding.Refused refusal) given → catalog_of [] given ≡ Ok tables →
       IsLoaded R (format_of I g l) first now (Err refusal)
   document_refused first now given tables refusal h e =
       record {
@@ -101,12 +110,14 @@ module _ {S X : Type 0} (R : Inlet S) (I : Items X) (g : Catalog) (l : Limits) w
       }
 
   -- all values describe tables, and the octets are a document
-  pub document_loaded : (first now : S) (given : List (Value × ℕ)) (tables : List Table) → StoodEach R I g l first now TheStanding.Ended given → catalog_of [] given ≡ Ok tables →
+  pub document_loaded : (first now : S) (given : List (Value × ℕ)) (tables : List Table) → StoodEach R I g l first now TheStanding.Ended given
+      → catalog_of [] given ≡ Ok tables →
       IsLoaded R (format_of I g l) first now (Ok tables)
   document_loaded first now given tables h e =
       record {
         octets = h.octets;
         ended = true;
         heard = h.heard;
-        decided = λ more none. ended_all (λ x. IsCatalog (format_of I g l) x (Ok tables)) h.octets more none (record { given = given; document = h.ends; described = e });
+        decided = λ more none. ended_all (λ x. IsCatalog (format_of I g l) x (Ok tables)) h.octets more none
+            (record { given = given; document = h.ends; described = e });
       }

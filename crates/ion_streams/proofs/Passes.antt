@@ -23,31 +23,36 @@ told_itself None = refl
 told_itself (Some v) = refl
 
 module _ {X A : Type 0} (of : Value → A) (I : Items X) (source after : Source X) where
-  without : (u : List ℕ) (given : List (Value × ℕ)) (value : Option Value) → option_map of value ≡ None → Went I u given (left_of source) after value → Went I u given (left_of source) after None
+  without : (u : List ℕ) (given : List (Value × ℕ)) (value : Option Value) → option_map of value ≡ None → Went I u given (left_of source) after value
+      → Went I u given (left_of source) after None
   without u given None e h = h
   without u given (Some v) e h = absurd cc
 
   -- where there was no value
-  pub none_went : (found : Option A) → found ≡ None → ((u : List ℕ) (given : List (Value × ℕ)) → I.stands source.items u given → (value : Option Value) × (option_map of value ≡ found) × Went I u given (left_of source) after value) →
+  pub none_went : (found : Option A) → found ≡ None → ((u : List ℕ) (given : List (Value × ℕ)) → I.stands source.items u given → (value : Option Value)
+      × (option_map of value ≡ found) × Went I u given (left_of source) after value) →
       (u : List ℕ) (given : List (Value × ℕ)) → I.stands source.items u given → Went I u given (left_of source) after None
   none_went found e go u given h = let w = go u given h in without u given w.0 (w.1 ∙ e) w.2
 
 module _ {S X A : Type 0} (of : Value → A) (R : Inlet S) (I : Items X) (g : Catalog) (l : Limits) where
-  one_more : (first now : S) (after : Source X) (given : List (Value × ℕ)) (found : A) (value : Option Value) → option_map of value ≡ Some found → ReadsEach R I g l first now after (given ++ given_at value after.used) →
+  one_more : (first now : S) (after : Source X) (given : List (Value × ℕ)) (found : A) (value : Option Value) → option_map of value ≡ Some found
+      → ReadsEach R I g l first now after (given ++ given_at value after.used) →
       Reaches of R I g l first now after given (AValue found)
   one_more first now after given found None e h = absurd cc
   one_more first now after given found (Some v) e h = (v, same_Some _ _ e, h)
 
   -- one more was found
   pub passes_on : (first now : S) (source after : Source X) (given : List (Value × ℕ)) (found : A) → ReadsEach R I g l first now source given →
-      ((u : List ℕ) (given : List (Value × ℕ)) → I.stands source.items u given → (value : Option Value) × (option_map of value ≡ Some found) × Went I u given (left_of source) after value) →
+      ((u : List ℕ) (given : List (Value × ℕ)) → I.stands source.items u given → (value : Option Value) × (option_map of value ≡ Some found)
+      × Went I u given (left_of source) after value) →
       I.catalog after.items ≡ I.catalog source.items → I.limits after.items ≡ I.limits source.items → Reaches of R I g l first now after given (AValue found)
   passes_on first now source after given found h go under within =
       let w = go h.u given h.stood in
       one_more first now after given found w.0 w.1 (reads_by R I g l first now source after given w.0 h w.2 under within)
 
   -- the end gave what is told
-  pub gave_last : (first now : S) (place : Standing X) (given : List (Value × ℕ)) (last : Option (Value × ℕ)) → IfRefused place (last ≡ None) → StoodEach R I g l first now place (given ++ option_to_list last) →
+  pub gave_last : (first now : S) (place : Standing X) (given : List (Value × ℕ)) (last : Option (Value × ℕ)) → IfRefused place (last ≡ None)
+      → StoodEach R I g l first now place (given ++ option_to_list last) →
       GaveNext of R I g l first now place given (option_map (λ (next : Value × ℕ). (of next.0, next.1)) last)
   gave_last first now place given None none h = subst (λ (x : List (Value × ℕ)). StoodEach R I g l first now place x) (append-nil given) h
   gave_last first now (Open source) given (Some next) none h = (next.0, refl, h, tt)
@@ -55,27 +60,33 @@ module _ {S X A : Type 0} (of : Value → A) (R : Inlet S) (I : Items X) (g : Ca
   gave_last first now (Refused refusal) given (Some next) none h = absurd cc
 
   -- no more was found
-  pub gave_none : (first now : S) (place : Standing X) (given : List (Value × ℕ)) (found : Option (A × ℕ)) → found ≡ None → GaveNext of R I g l first now place given found → StoodEach R I g l first now place given
+  pub gave_none : (first now : S) (place : Standing X) (given : List (Value × ℕ)) (found : Option (A × ℕ)) → found ≡ None
+      → GaveNext of R I g l first now place given found → StoodEach R I g l first now place given
   gave_none first now place given None none h = h
   gave_none first now place given (Some next) none h = absurd cc
 
 -- the value itself was found
-pub gave_itself : {S X : Type 0} (R : Inlet S) (I : Items X) (g : Catalog) (l : Limits) (first now : S) (place : Standing X) (given : List (Value × ℕ)) (found : Value × ℕ) → GaveNext (λ (v : Value). v) R I g l first now place given (Some found) →
+pub gave_itself : {S X : Type 0} (R : Inlet S) (I : Items X) (g : Catalog) (l : Limits) (first now : S) (place : Standing X) (given : List (Value × ℕ))
+    (found : Value × ℕ) → GaveNext (λ (v : Value). v) R I g l first now place given (Some found) →
     StoodEach R I g l first now place (given ++ found ∷ [])
 gave_itself R I g l first now place given found h = subst (λ (v : Value). StoodEach R I g l first now place (given ++ (v, found.1) ∷ [])) h.1 h.2
 
 -- the values alone, where the values themselves are asked for
 module _ {S X : Type 0} (R : Inlet S) (I : Items X) (g : Catalog) (l : Limits) where
-  gave_all : (first now : S) (place : Standing X) (given : List (Value × ℕ)) (found : Option (Value × ℕ)) → GaveNext (λ (v : Value). v) R I g l first now place given found → StoodEach R I g l first now place (given ++ option_to_list found)
+  gave_all : (first now : S) (place : Standing X) (given : List (Value × ℕ)) (found : Option (Value × ℕ))
+      → GaveNext (λ (v : Value). v) R I g l first now place given found → StoodEach R I g l first now place (given ++ option_to_list found)
   gave_all first now place given None h = subst (λ (x : List (Value × ℕ)). StoodEach R I g l first now place x) (sym (append-nil given)) h
   gave_all first now place given (Some found) h = gave_itself R I g l first now place given found h
 
-  stays_plain : (first old now : S) (place after : Standing X) (s : List Value) (value : Option Value) → value ≡ None → now ≡ old → after ≡ place → Stood R I g l first old place s → Stood R I g l first now after (s ++ option_to_list value)
+  stays_plain : (first old now : S) (place after : Standing X) (s : List Value) (value : Option Value) → value ≡ None → now ≡ old → after ≡ place
+      → Stood R I g l first old place s → Stood R I g l first now after (s ++ option_to_list value)
   stays_plain first old now place after s value none same kept h = rw (none, same, kept, append-nil s) h
 
-  pub stood_next : (first old now : S) (place after : Standing X) (s : List Value) (found : Option (Value × ℕ)) (value : Option Value) → value ≡ option_map (λ (x : Value × ℕ). x.0) found →
+  pub stood_next : (first old now : S) (place after : Standing X) (s : List Value) (found : Option (Value × ℕ)) (value : Option Value)
+      → value ≡ option_map (λ (x : Value × ℕ). x.0) found →
       IfClosed place ((◌≡◌ {A = Result (Option (Value × ℕ)) Fault} (Ok found) (Ok None)) × (now ≡ old) × (after ≡ place)) →
-      ((given : List (Value × ℕ)) → StoodEach R I g l first old place given → GaveNext (λ (v : Value). v) R I g l first now after given found) → Stood R I g l first old place s → Stood R I g l first now after (s ++ option_to_list value)
+      ((given : List (Value × ℕ)) → StoodEach R I g l first old place given → GaveNext (λ (v : Value). v) R I g l first now after given found)
+      → Stood R I g l first old place s → Stood R I g l first now after (s ++ option_to_list value)
   stood_next first old now (Open source) after s found value is closed gives h =
       subst (λ (x : List Value). Stood R I g l first now after x) (plain_next h.given found value s h.values (sym is))
       (stood_plain R I g l first now after (h.given ++ option_to_list found) (gave_all first now after h.given found (gives h.given h.each)))
@@ -88,24 +99,30 @@ module _ {S X : Type 0} (R : Inlet S) (I : Items X) (g : Catalog) (l : Limits) w
 
   pub stood_still : (first old now : S) (place after : Standing X) (s : List Value) (found : Option (Value × ℕ)) → found ≡ None →
       IfClosed place ((◌≡◌ {A = Result (Option (Value × ℕ)) Fault} (Ok found) (Ok None)) × (now ≡ old) × (after ≡ place)) →
-      ((given : List (Value × ℕ)) → StoodEach R I g l first old place given → GaveNext (λ (v : Value). v) R I g l first now after given found) → Stood R I g l first old place s → Stood R I g l first now after s
+      ((given : List (Value × ℕ)) → StoodEach R I g l first old place given → GaveNext (λ (v : Value). v) R I g l first now after given found)
+      → Stood R I g l first old place s → Stood R I g l first now after s
   stood_still first old now place after s found none closed gives h =
       subst (λ (x : List Value). Stood R I g l first now after x) (append-nil s)
       (stood_next first old now place after s found None (ap (λ (x : Option (Value × ℕ)). option_map (λ (y : Value × ℕ). y.0) x) (sym none)) closed gives h)
 
   -- a document that gave a value isn't refused
-  pub not_refused : (first old now : S) (place after : Standing X) (s : List Value) (found : Value × ℕ) → IfClosed place ((◌≡◌ {A = Result (Option (Value × ℕ)) Fault} (Ok (Some found)) (Ok None)) × (now ≡ old) × (after ≡ place)) →
-      ((given : List (Value × ℕ)) → StoodEach R I g l first old place given → GaveNext (λ (v : Value). v) R I g l first now after given (Some found)) → Stood R I g l first old place s → IfRefused after ⊥
+  pub not_refused : (first old now : S) (place after : Standing X) (s : List Value) (found : Value × ℕ)
+      → IfClosed place ((◌≡◌ {A = Result (Option (Value × ℕ)) Fault} (Ok (Some found)) (Ok None)) × (now ≡ old) × (after ≡ place)) →
+      ((given : List (Value × ℕ)) → StoodEach R I g l first old place given → GaveNext (λ (v : Value). v) R I g l first now after given (Some found))
+      → Stood R I g l first old place s → IfRefused after ⊥
   not_refused first old now (Open source) after s found closed gives h = (gives h.given h.each).3
   not_refused first old now Ended after s found closed gives h = let e = closed.0 in absurd cc
   not_refused first old now (Refused refusal) after s found closed gives h = let e = closed.0 in absurd cc
 
 -- a document that is closed stays as it is, and gives nothing
-pub closed_same : {S X : Type 0} (old now : S) (place after : Standing X) (found : Option (Value × ℕ)) (value : Option Value) → value ≡ option_map (λ (x : Value × ℕ). x.0) found →
-    IfClosed place ((◌≡◌ {A = Result (Option (Value × ℕ)) Fault} (Ok found) (Ok None)) × (now ≡ old) × (after ≡ place)) → IfClosed place ((after ≡ place) × (value ≡ None))
+pub closed_same : {S X : Type 0} (old now : S) (place after : Standing X) (found : Option (Value × ℕ)) (value : Option Value)
+    → value ≡ option_map (λ (x : Value × ℕ). x.0) found →
+    IfClosed place ((◌≡◌ {A = Result (Option (Value × ℕ)) Fault} (Ok found) (Ok None)) × (now ≡ old) × (after ≡ place))
+    → IfClosed place ((after ≡ place) × (value ≡ None))
 closed_same old now (Open source) after found value is h = tt
 closed_same old now Ended after found value is h = let none : found ≡ None = let e = h.0 in cc in (h.2, is ∙ ap (option_map (λ (x : Value × ℕ). x.0)) none)
-closed_same old now (Refused refusal) after found value is h = let none : found ≡ None = let e = h.0 in cc in (h.2, is ∙ ap (option_map (λ (x : Value × ℕ). x.0)) none)
+closed_same old now (Refused refusal) after found value is h = let none : found ≡ None = let e = h.0 in cc in
+    (h.2, is ∙ ap (option_map (λ (x : Value × ℕ). x.0)) none)
 
 pub none_of : (found : Option (Value × ℕ)) (value : Option Value) → value ≡ option_map (λ (x : Value × ℕ). x.0) found → value ≡ None → found ≡ None
 none_of None value is none = refl

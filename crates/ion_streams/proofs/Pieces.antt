@@ -10,23 +10,30 @@ use Rattle.ion_streams.specs.declared.source.Source.{Source}
 pub between_drop : (piece : List ℕ) (at end used : ℕ) → used ≤ end - at → drop used (between piece at end) ≡ between piece (at + used) end
 between_drop piece at end used h =
     let e : end - at ≡ used + (end - (at + used)) = omega arith in
-    ap (λ n. drop used (take n (drop at piece))) e ∙ (drop-take used (end - (at + used)) (drop at piece) ∙ ap (take (end - (at + used))) (drop-drop used at piece))
+    ap (λ n. drop used (take n (drop at piece))) e ∙ (drop-take used (end - (at + used)) (drop at piece)
+    ∙ ap (take (end - (at + used))) (drop-drop used at piece))
 
-pub between_cut : (piece : List ℕ) (at end used : ℕ) → used ≤ end - at → take used (between piece at end) ++ between piece (at + used) end ≡ between piece at end
-between_cut piece at end used h = ap (λ x. take used (between piece at end) ++ x) (sym (between_drop piece at end used h)) ∙ take-append-drop used (between piece at end)
+pub between_cut : (piece : List ℕ) (at end used : ℕ) → used ≤ end - at → take used (between piece at end) ++ between piece (at + used) end
+    ≡ between piece at end
+between_cut piece at end used h = ap (λ x. take used (between piece at end) ++ x) (sym (between_drop piece at end used h))
+    ∙ take-append-drop used (between piece at end)
 
 pub between_nil : (piece : List ℕ) (at end : ℕ) → end ≤ at → between piece at end ≡ []
 between_nil piece at end h = let e : end - at ≡ 0 = omega arith in ap (λ n. take n (drop at piece)) e
 
-pub went : {X : Type 0} (I : Items X) (u : List ℕ) (given : List (Value × ℕ)) (piece : List ℕ) (at end used total : ℕ) (after : Source X) (value : Option Value) →
-    used ≤ end - at → left_of after ≡ between piece (at + used) end → total ≡ after.used → I.stands after.items (u ++ take used (between piece at end)) (given ++ given_at value total) → Went I u given (between piece at end) after value
+pub went : {X : Type 0} (I : Items X) (u : List ℕ) (given : List (Value × ℕ)) (piece : List ℕ) (at end used total : ℕ) (after : Source X) (value : Option Value)
+    →
+    used ≤ end - at → left_of after ≡ between piece (at + used) end → total ≡ after.used
+    → I.stands after.items (u ++ take used (between piece at end)) (given ++ given_at value total) → Went I u given (between piece at end) after value
 went I u given piece at end used total after value fits rest same h = record {
   to = u ++ take used (between piece at end);
   stood = subst (λ (n : ℕ). I.stands after.items (u ++ take used (between piece at end)) (given ++ given_at value n)) same h;
-  octets = ap (λ x. (u ++ take used (between piece at end)) ++ x) rest ∙ (append_assoc u (take used (between piece at end)) (between piece (at + used) end) ∙ ap (λ x. u ++ x) (between_cut piece at end used fits));
+  octets = ap (λ x. (u ++ take used (between piece at end)) ++ x) rest
+      ∙ (append_assoc u (take used (between piece at end)) (between piece (at + used) end) ∙ ap (λ x. u ++ x) (between_cut piece at end used fits));
 }
 
-pub begins_drop : (awaits : Option ℕ) (piece : List ℕ) (at end used : ℕ) → used ≤ end - at → Begins awaits (drop used (between piece at end)) → Begins awaits (between piece (at + used) end)
+pub begins_drop : (awaits : Option ℕ) (piece : List ℕ) (at end used : ℕ) → used ≤ end - at → Begins awaits (drop used (between piece at end))
+    → Begins awaits (between piece (at + used) end)
 begins_drop None piece at end used fits h = h
 begins_drop (Some b) piece at end used fits h = (h.0, sym (between_drop piece at end used fits) ∙ h.1)
 

@@ -23,8 +23,10 @@ module _ {S X T : Type 0} (R : Inlet S) (I : Items X) (W : Outlet T) (g : Catalo
   count_plain given values e = length-map given (λ (x : Value × ℕ). x.0) ∙ e
 
   -- a front of the last line was written behind those of a document
-  pub shows_ok : (place : Standing X) (given : List (Value × ℕ)) (values answer : ℕ) → IfOpen place (λ source. ⊥) → length given ≡ values → answered place values ≡ Ok answer → StoodEach R I g l first now place given →
-      Took W.took W.written old mid (lines_of (plain given)) → TookFront W.took W.written mid new (accepted_line answer) → ShowsSoFar R I W g l first now old new
+  pub shows_ok : (place : Standing X) (given : List (Value × ℕ)) (values answer : ℕ) → IfOpen place (λ source. ⊥) → length given ≡ values
+      → answered place values ≡ Ok answer → StoodEach R I g l first now place given →
+      Took W.took W.written old mid (lines_of (plain given)) → TookFront W.took W.written mid new (accepted_line answer)
+      → ShowsSoFar R I W g l first now old new
   shows_ok (Open source) given values answer closed count is h took front = absurd closed
   shows_ok Ended given values answer closed count is h took front =
       let same : values ≡ answer = cc in
@@ -34,19 +36,31 @@ module _ {S X T : Type 0} (R : Inlet S) (I : Items X) (W : Outlet T) (g : Catalo
   shows_ok (Refused refusal) given values answer closed count is h took front = absurd cc
 
   -- all of it was
-  pub shown_ok : (place : Standing X) (given : List (Value × ℕ)) (values answer : ℕ) → IfOpen place (λ source. ⊥) → length given ≡ values → answered place values ≡ Ok answer → StoodEach R I g l first now place given →
-      Took W.took W.written old mid (lines_of (plain given)) → Took W.took W.written mid new (accepted_line answer) → IsShown R W (format_of I g l) first now old new (Ok answer)
+  pub shown_ok : (place : Standing X) (given : List (Value × ℕ)) (values answer : ℕ) → IfOpen place (λ source. ⊥) → length given ≡ values
+      → answered place values ≡ Ok answer → StoodEach R I g l first now place given →
+      Took W.took W.written old mid (lines_of (plain given)) → Took W.took W.written mid new (accepted_line answer)
+      → IsShown R W (format_of I g l) first now old new (Ok answer)
   shown_ok (Open source) given values answer closed count is h took wrote = absurd closed
   shown_ok Ended given values answer closed count is h took wrote =
-      let same : values ≡ answer = cc in
-      (plain given, stood_plain R I g l first now Ended given h, count_plain given values count ∙ same, Took-trans W.took W.written old mid new (lines_of (plain given)) (accepted_line answer) took wrote)
+      let same : values ≡ answer = cc in (
+        plain given,
+        stood_plain R I g l first now Ended given h,
+        count_plain given values count
+            ∙ same,
+        Took-trans W.took W.written old mid new (lines_of (plain given)) (accepted_line answer) took wrote,
+      )
   shown_ok (Refused refusal) given values answer closed count is h took wrote = absurd cc
 
   -- the document was refused
-  pub shown_err : (place : Standing X) (given : List (Value × ℕ)) (values : ℕ) (refusal : Refusal) → answered place values ≡ Err refusal → StoodEach R I g l first now place given →
+  pub shown_err : (place : Standing X) (given : List (Value × ℕ)) (values : ℕ) (refusal : Refusal) → answered place values ≡ Err refusal
+      → StoodEach R I g l first now place given →
       Took W.took W.written old new (lines_of (plain given)) → IsShown R W (format_of I g l) first now old new (Err refusal)
   shown_err (Open source) given values refusal is h took = absurd cc
   shown_err Ended given values refusal is h took = absurd cc
   shown_err (Refused why) given values refusal is h took =
       let same : why ≡ refusal = cc in
-      subst (λ (x : Refusal). IsShown R W (format_of I g l) first now old new (Err x)) same (plain given, stood_plain R I g l first now (Refused why) given h, took)
+      subst (λ (x : Refusal). IsShown R W (format_of I g l) first now old new (Err x)) same (
+        plain given,
+        stood_plain R I g l first now (Refused why) given h,
+        took,
+      )

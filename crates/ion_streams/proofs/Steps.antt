@@ -25,18 +25,23 @@ pub on_err : {A E : Type 0} (result : Result A E) (P : Type 0) → P → OnErr r
 on_err (Ok a) P p = tt
 on_err (Err e) P p = p
 
-plain_more : (given : List (Value × ℕ)) (found : Option (Value × ℕ)) → plain (given ++ option_to_list found) ≡ plain given ++ option_to_list (option_map (λ (x : Value × ℕ). x.0) found)
+plain_more : (given : List (Value × ℕ)) (found : Option (Value × ℕ)) → plain (given ++ option_to_list found) ≡ plain given
+    ++ option_to_list (option_map (λ (x : Value × ℕ). x.0) found)
 plain_more given None = map-append (λ (x : Value × ℕ). x.0) given []
 plain_more given (Some x) = map-append (λ (x : Value × ℕ). x.0) given (x ∷ [])
 
-pub plain_next : (given : List (Value × ℕ)) (found : Option (Value × ℕ)) (value : Option Value) (s : List Value) → plain given ≡ s → option_map (λ (x : Value × ℕ). x.0) found ≡ value → plain (given ++ option_to_list found) ≡ s ++ option_to_list value
+pub plain_next : (given : List (Value × ℕ)) (found : Option (Value × ℕ)) (value : Option Value) (s : List Value) → plain given ≡ s
+    → option_map (λ (x : Value × ℕ). x.0) found ≡ value → plain (given ++ option_to_list found) ≡ s ++ option_to_list value
 plain_next given found value s values same =
-    plain_more given found ∙ (ap (λ x. x ++ option_to_list (option_map (λ (x : Value × ℕ). x.0) found)) values ∙ ap (λ (x : Option Value). s ++ option_to_list x) same)
+    plain_more given found ∙ (ap (λ x. x ++ option_to_list (option_map (λ (x : Value × ℕ). x.0) found)) values
+    ∙ ap (λ (x : Option Value). s ++ option_to_list x) same)
 
 module _ {S X : Type 0} (R : Inlet S) (I : Items X) (g : Catalog) (l : Limits) where
   -- some octets were used
-  pub reads_by : (first now : S) (source after : Source X) (given : List (Value × ℕ)) (value : Option Value) (h : ReadsEach R I g l first now source given) → Went I h.u given (left_of source) after value →
-      I.catalog after.items ≡ I.catalog source.items → I.limits after.items ≡ I.limits source.items → ReadsEach R I g l first now after (given ++ given_at value after.used)
+  pub reads_by : (first now : S) (source after : Source X) (given : List (Value × ℕ)) (value : Option Value) (h : ReadsEach R I g l first now source given)
+      → Went I h.u given (left_of source) after value →
+      I.catalog after.items ≡ I.catalog source.items → I.limits after.items ≡ I.limits source.items
+      → ReadsEach R I g l first now after (given ++ given_at value after.used)
   reads_by first now source after given value h w under within =
       record {
         u = w.to;
@@ -48,16 +53,19 @@ module _ {S X : Type 0} (R : Inlet S) (I : Items X) (g : Catalog) (l : Limits) w
 
   pub reads_went : (first now : S) (source after : Source X) (given : List (Value × ℕ)) (value : Option Value) → ReadsEach R I g l first now source given →
       ((u : List ℕ) (given : List (Value × ℕ)) → I.stands source.items u given → Went I u given (left_of source) after value) →
-      I.catalog after.items ≡ I.catalog source.items → I.limits after.items ≡ I.limits source.items → ReadsEach R I g l first now after (given ++ given_at value after.used)
+      I.catalog after.items ≡ I.catalog source.items → I.limits after.items ≡ I.limits source.items
+      → ReadsEach R I g l first now after (given ++ given_at value after.used)
   reads_went first now source after given value h go under within = reads_by first now source after given value h (go h.u given h.stood) under within
 
   -- nothing was left, and the device was asked again
-  pub reads_filled : (first now new : S) (source after : Source X) (more : List ℕ) (ended : Bool) (given : List (Value × ℕ)) → ReadsEach R I g l first now source given → left_of source ≡ [] → Heard R now new more ended →
+  pub reads_filled : (first now new : S) (source after : Source X) (more : List ℕ) (ended : Bool) (given : List (Value × ℕ))
+      → ReadsEach R I g l first now source given → left_of source ≡ [] → Heard R now new more ended →
       left_of after ≡ more → after.items ≡ source.items → GaveEach R I g l first new after.items (left_of after) ended given
   reads_filled first now new source after more ended given h empty heard rest same =
       record {
         u = h.u;
-        heard = subst (λ (x : List ℕ). Heard R first new x ended) (ap (λ x. (h.u ++ x) ++ more) empty ∙ (ap (λ x. x ++ more) (append-nil h.u) ∙ ap (λ x. h.u ++ x) (sym rest)))
+        heard = subst (λ (x : List ℕ). Heard R first new x ended)
+            (ap (λ x. (h.u ++ x) ++ more) empty ∙ (ap (λ x. x ++ more) (append-nil h.u) ∙ ap (λ x. h.u ++ x) (sym rest)))
             (Heard-trans R first now new (h.u ++ left_of source) more ended h.heard heard);
         stood = subst (λ (x : X). I.stands x h.u given) (sym same) h.stood;
         under = ap (λ (x : X). I.catalog x) same ∙ h.under;
@@ -65,23 +73,28 @@ module _ {S X : Type 0} (R : Inlet S) (I : Items X) (g : Catalog) (l : Limits) w
       }
 
   -- the device told nothing more
-  pub reads_kept : (first now new : S) (source : Source X) (given : List (Value × ℕ)) → ReadsEach R I g l first now source given → Heard R now new [] false → ReadsEach R I g l first new source given
+  pub reads_kept : (first now new : S) (source : Source X) (given : List (Value × ℕ)) → ReadsEach R I g l first now source given → Heard R now new [] false
+      → ReadsEach R I g l first new source given
   reads_kept first now new source given h heard =
       record {
         u = h.u;
-        heard = subst (λ (x : List ℕ). Heard R first new x false) (append-nil (h.u ++ left_of source)) (Heard-trans R first now new (h.u ++ left_of source) [] false h.heard heard);
+        heard = subst (λ (x : List ℕ). Heard R first new x false) (append-nil (h.u ++ left_of source))
+            (Heard-trans R first now new (h.u ++ left_of source) [] false h.heard heard);
         stood = h.stood;
         under = h.under;
         within = h.within;
       }
 
   -- the values alone, as far as they were read
-  pub gave_so_far : (first now : S) (items : X) (left : List ℕ) (ended : Bool) (given : List (Value × ℕ)) (s : List Value) → plain given ≡ s → GaveEach R I g l first now items left ended given → GaveSoFar R I g l first now s
-  gave_so_far first now items left ended given s values each = record { items = items; left = left; ended = ended; gave = record { given = given; each = each; values = values } }
+  pub gave_so_far : (first now : S) (items : X) (left : List ℕ) (ended : Bool) (given : List (Value × ℕ)) (s : List Value) → plain given ≡ s
+      → GaveEach R I g l first now items left ended given → GaveSoFar R I g l first now s
+  gave_so_far first now items left ended given s values each =
+      record { items = items; left = left; ended = ended; gave = record { given = given; each = each; values = values } }
 
   -- a step refused
   pub reads_failed : (first now : S) (source : Source X) (given : List (Value × ℕ)) (r : Refusal) → ReadsEach R I g l first now source given →
-      ((u : List ℕ) (given : List (Value × ℕ)) → I.stands source.items u given → (more : List ℕ) → EndsRefused (format_of I g l) ((u ++ left_of source) ++ more) given r) → ToldRefusedEach R (format_of I g l) first now given r
+      ((u : List ℕ) (given : List (Value × ℕ)) → I.stands source.items u given → (more : List ℕ)
+      → EndsRefused (format_of I g l) ((u ++ left_of source) ++ more) given r) → ToldRefusedEach R (format_of I g l) first now given r
   reads_failed first now source given r h refused =
       record { octets = h.u ++ left_of source; ended = false; heard = h.heard; ends = λ more _. refused h.u given h.stood more }
 
@@ -94,14 +107,16 @@ module _ {S X : Type 0} (R : Inlet S) (I : Items X) (g : Catalog) (l : Limits) w
       let heard = heard_all first now h.u left h.heard empty in
       record { octets = h.u; told = Heard-end R first now h.u heard; heard = heard; ends = go h.u h.stood }
 
-  reads_stopped : (first now : S) (items : X) (left : List ℕ) (given : List (Value × ℕ)) (r : Refusal) → GaveEach R I g l first now items left true given → left ≡ [] →
+  reads_stopped : (first now : S) (items : X) (left : List ℕ) (given : List (Value × ℕ)) (r : Refusal) → GaveEach R I g l first now items left true given
+      → left ≡ [] →
       ((u : List ℕ) → I.stands items u given → EndsRefused (format_of I g l) u given r) → ToldRefusedEach R (format_of I g l) first now given r
   reads_stopped first now items left given r h empty refused =
       record {
         octets = h.u;
         ended = true;
         heard = heard_all first now h.u left h.heard empty;
-        ends = λ more none. subst (λ (x : List ℕ). EndsRefused (format_of I g l) x given r) (sym (ap (λ x. h.u ++ x) (none refl) ∙ append-nil h.u)) (refused h.u h.stood);
+        ends = λ more none. subst (λ (x : List ℕ). EndsRefused (format_of I g l) x given r) (sym (ap (λ x. h.u ++ x) (none refl) ∙ append-nil h.u))
+            (refused h.u h.stood);
       }
 
   -- some octets were used, and gave no value
@@ -112,7 +127,8 @@ module _ {S X : Type 0} (R : Inlet S) (I : Items X) (g : Catalog) (l : Limits) w
 
   -- the end of a document whose octets were all used
   pub last_gives : (first now : S) (source : Source X) (given : List (Value × ℕ)) (place : Standing X) (last : Option (Value × ℕ)) → left_of source ≡ [] →
-      ((u : List ℕ) (given : List (Value × ℕ)) → I.stands source.items u given → MatchClosed place (EndsWell (format_of I (I.catalog source.items) (I.limits source.items)) u (given ++ option_to_list last))
+      ((u : List ℕ) (given : List (Value × ℕ)) → I.stands source.items u given
+      → MatchClosed place (EndsWell (format_of I (I.catalog source.items) (I.limits source.items)) u (given ++ option_to_list last))
       (λ r. (last ≡ None) × EndsRefused (format_of I (I.catalog source.items) (I.limits source.items)) u given r)) →
       GaveEach R I g l first now source.items (left_of source) true given → StoodEach R I g l first now place (given ++ option_to_list last)
   last_gives first now source given (TheStanding.Open after) last empty ends h = absurd (ends h.u given h.stood)
@@ -127,7 +143,8 @@ module _ {S X : Type 0} (R : Inlet S) (I : Items X) (g : Catalog) (l : Limits) w
 
   -- one that is refused gives nothing
   pub last_refused : (first now : S) (source : Source X) (given : List (Value × ℕ)) (place : Standing X) (last : Option (Value × ℕ)) →
-      ((u : List ℕ) (given : List (Value × ℕ)) → I.stands source.items u given → MatchClosed place (EndsWell (format_of I (I.catalog source.items) (I.limits source.items)) u (given ++ option_to_list last))
+      ((u : List ℕ) (given : List (Value × ℕ)) → I.stands source.items u given
+      → MatchClosed place (EndsWell (format_of I (I.catalog source.items) (I.limits source.items)) u (given ++ option_to_list last))
       (λ r. (last ≡ None) × EndsRefused (format_of I (I.catalog source.items) (I.limits source.items)) u given r)) →
       GaveEach R I g l first now source.items (left_of source) true given → IfRefused place (last ≡ None)
   last_refused first now source given (TheStanding.Open after) last ends h = tt
@@ -135,13 +152,16 @@ module _ {S X : Type 0} (R : Inlet S) (I : Items X) (g : Catalog) (l : Limits) w
   last_refused first now source given (TheStanding.Refused r) last ends h = (ends h.u given h.stood).0
 
   -- the values alone, wherever the document stands
-  pub stood_plain : (first now : S) (place : Standing X) (given : List (Value × ℕ)) → StoodEach R I g l first now place given → Stood R I g l first now place (plain given)
+  pub stood_plain : (first now : S) (place : Standing X) (given : List (Value × ℕ)) → StoodEach R I g l first now place given
+      → Stood R I g l first now place (plain given)
   stood_plain first now (TheStanding.Open source) given h = record { given = given; each = h; values = refl }
   stood_plain first now TheStanding.Ended given h = record { octets = h.octets; told = h.told; heard = h.heard; denoted = h.ends.denoted }
-  stood_plain first now (TheStanding.Refused refusal) given h = record { octets = h.octets; ended = h.ended; heard = h.heard; refused = λ more may. (h.ends more may).refused }
+  stood_plain first now (TheStanding.Refused refusal) given h =
+      record { octets = h.octets; ended = h.ended; heard = h.heard; refused = λ more may. (h.ends more may).refused }
 
 -- nothing was read yet
-pub each_begun : {S X : Type 0} (R : Inlet S) (I : Items X) (now : S) (source : Source X) (items : X) → I.stands items [] [] → source.items ≡ items → left_of source ≡ [] →
+pub each_begun : {S X : Type 0} (R : Inlet S) (I : Items X) (now : S) (source : Source X) (items : X) → I.stands items [] [] → source.items ≡ items
+    → left_of source ≡ [] →
     ReadsEach R I (I.catalog items) (I.limits items) now now source []
 each_begun R I now source items stood same empty =
     record {
@@ -152,11 +172,13 @@ each_begun R I now source items stood same empty =
       within = ap (λ (x : _). I.limits x) same;
     }
 
-pub reads_begun : {S X : Type 0} (R : Inlet S) (I : Items X) (now : S) (source : Source X) (items : X) → I.stands items [] [] → source.items ≡ items → left_of source ≡ [] →
+pub reads_begun : {S X : Type 0} (R : Inlet S) (I : Items X) (now : S) (source : Source X) (items : X) → I.stands items [] [] → source.items ≡ items
+    → left_of source ≡ [] →
     Reads R I (I.catalog items) (I.limits items) now now source []
 reads_begun R I now source items stood same empty = record { given = []; each = each_begun R I now source items stood same empty; values = refl }
 
-pub ready_begun : {X : Type 0} (I : Items X) (source : Source X) (items : X) → I.taken items ≡ 0 → I.awaits items ≡ None → source.items ≡ items → (source.at ≡ 0) × (source.end ≡ 0) × (source.used ≡ 0) → length source.piece.items ≡ 4096 → source.reads ≤ 2 ^ 32 →
+pub ready_begun : {X : Type 0} (I : Items X) (source : Source X) (items : X) → I.taken items ≡ 0 → I.awaits items ≡ None → source.items ≡ items
+    → (source.at ≡ 0) × (source.end ≡ 0) × (source.used ≡ 0) → length source.piece.items ≡ 4096 → source.reads ≤ 2 ^ 32 →
     IsReady I source
 ready_begun I source items none free same empty piece few =
     let nothing : I.taken source.items ≡ 0 = ap (λ (x : _). I.taken x) same ∙ none in
@@ -173,8 +195,10 @@ pub within_begun : {S X : Type 0} (R : Inlet S) (now : S) (source : Source X) (r
 within_begun R now source reads e = record { made = 0; were = WereMade-nil R now; rest = omega arith }
 
 -- a device that wasn't asked
-pub within_kept : {S X : Type 0} (R : Inlet S) (reads : ℕ) (first now : S) (source after : Source X) → after.reads ≡ source.reads → IsWithin R reads first now source → IsWithin R reads first now after
+pub within_kept : {S X : Type 0} (R : Inlet S) (reads : ℕ) (first now : S) (source after : Source X) → after.reads ≡ source.reads
+    → IsWithin R reads first now source → IsWithin R reads first now after
 within_kept R reads first now source after e w = record { made = w.made; were = w.were; rest = ap (λ (n : ℕ). w.made + n) e ∙ w.rest }
 
-pub length_more : (s : List Value) (value : Option Value) (n m : ℕ) → length s ≡ n → m ≡ n + length (option_to_list value) → length (s ++ option_to_list value) ≡ m
+pub length_more : (s : List Value) (value : Option Value) (n m : ℕ) → length s ≡ n → m ≡ n + length (option_to_list value) → length (s ++ option_to_list value)
+    ≡ m
 length_more s value n m h e = length-append s (option_to_list value) ∙ (ap (λ k. k + length (option_to_list value)) h ∙ sym e)

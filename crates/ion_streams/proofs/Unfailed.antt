@@ -31,11 +31,13 @@ module _ {S X : Type 0} (R : Inlet S) (I : Items X) (now : S) where
       go (inl fine) = fine
       go (inr asks) = absurd (came asks)
 
-  pub gave_some : {A : Type 0} (source : Source X) (found : Option A) (v : A) → found ≡ Some v → (HasToAsk I source → found ≡ None) → NoneFailed R I now source → R.has_failed now ≡ false
+  pub gave_some : {A : Type 0} (source : Source X) (found : Option A) (v : A) → found ≡ Some v → (HasToAsk I source → found ≡ None) → NoneFailed R I now source
+      → R.has_failed now ≡ false
   gave_some source found v is nothing h = was_asked source (λ asks. let none = sym is ∙ nothing asks in absurd cc) h
 
 module _ {X : Type 0} (I : Items X) where
-  pub asks_begun : (source : Source X) (items : X) → I.failed items ≡ None → I.pending items ≡ 0 → source.items ≡ items → (source.at ≡ 0) × (source.end ≡ 0) × (source.used ≡ 0) → HasToAsk I source
+  pub asks_begun : (source : Source X) (items : X) → I.failed items ≡ None → I.pending items ≡ 0 → source.items ≡ items → (source.at ≡ 0) × (source.end ≡ 0)
+      × (source.used ≡ 0) → HasToAsk I source
   asks_begun source items fine owes same empty =
       record { used_up = empty.0 ∙ sym empty.1; owes = ap (λ x. I.pending x) same ∙ owes; not_failed = ap (λ x. I.failed x) same ∙ fine }
 
@@ -68,7 +70,8 @@ module _ {X : Type 0} (I : Items X) where
       IfOpen place (λ source. NoneFailed R I old source → R.has_failed now ≡ false) → R.has_failed now ≡ false
   stands_heard R old now place h unasked answered = go place h.either unasked.either answered
     where
-      go : (place : Standing X) → (StandsUnread I place) ⊎ (R.has_failed old ≡ false) → (now ≡ old) ⊎ (R.has_failed now ≡ false) → IfOpen place (λ source. NoneFailed R I old source → R.has_failed now ≡ false) → R.has_failed now ≡ false
+      go : (place : Standing X) → (StandsUnread I place) ⊎ (R.has_failed old ≡ false) → (now ≡ old) ⊎ (R.has_failed now ≡ false)
+          → IfOpen place (λ source. NoneFailed R I old source → R.has_failed now ≡ false) → R.has_failed now ≡ false
       go place h (inr fine) answered = fine
       go place (inr fine) (inl same) answered = ap (λ x. R.has_failed x) same ∙ fine
       go (Open source) (inl asks) (inl same) answered = answered (record { either = inr asks })
@@ -76,7 +79,8 @@ module _ {X : Type 0} (I : Items X) where
       go (Refused r) (inl asks) (inl same) answered = absurd asks
 
   -- it went past a value, so that it had asked
-  pub heard_past : {S : Type 0} (R : Inlet S) (now : S) (place after : Standing X) (v : Value) → StandingPast I place after v → StandsHeard R place now → R.has_failed now ≡ false
+  pub heard_past : {S : Type 0} (R : Inlet S) (now : S) (place after : Standing X) (v : Value) → StandingPast I place after v → StandsHeard R place now
+      → R.has_failed now ≡ false
   heard_past R now place after v past h = go h.either
     where
       go : (StandsUnread I place) ⊎ (R.has_failed now ≡ false) → R.has_failed now ≡ false
@@ -91,7 +95,8 @@ module _ {X : Type 0} (I : Items X) where
       go (inl both) = inl both.0
       go (inr fine) = inr fine
 
-  pub heard_since : {S : Type 0} (R : Inlet S) (place : Standing X) (first now : S) → StandsHeardSince R place first now → (now ≡ first) ⊎ (R.has_failed now ≡ false)
+  pub heard_since : {S : Type 0} (R : Inlet S) (place : Standing X) (first now : S) → StandsHeardSince R place first now → (now ≡ first)
+      ⊎ (R.has_failed now ≡ false)
   heard_since R place first now h = go h.either
     where
       go : (StandsUnread I place × (now ≡ first)) ⊎ (R.has_failed now ≡ false) → (now ≡ first) ⊎ (R.has_failed now ≡ false)

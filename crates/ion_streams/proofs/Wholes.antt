@@ -27,7 +27,8 @@ pub record IsTaken {X : Type 0} (I : Items X) (g : Catalog) (l : Limits) (octets
   pub begins : Begins (I.awaits items) (drop used octets)
   pub inside : used ≤ length octets
 
-plain_at : (given : List (Value × ℕ)) (value : Option Value) (total : ℕ) (s : List Value) → plain given ≡ s → plain (given ++ given_at value total) ≡ s ++ option_to_list value
+plain_at : (given : List (Value × ℕ)) (value : Option Value) (total : ℕ) (s : List Value) → plain given ≡ s → plain (given ++ given_at value total) ≡ s
+    ++ option_to_list value
 plain_at given None total s e = ap plain (append-nil given) ∙ (e ∙ sym (append-nil s))
 plain_at given (Some v) total s e = plain_next given (Some (v, total)) (Some v) s e refl
 
@@ -40,7 +41,8 @@ all_left octets used =
 begins_at : (awaits : Option ℕ) (octets : List ℕ) (used more : ℕ) → Begins awaits (drop more (drop used octets)) → Begins awaits (drop (used + more) octets)
 begins_at awaits octets used more h = subst (λ (x : List ℕ). Begins awaits x) (drop-drop more used octets) h
 
-module _ {X : Type 0} (I : Items X) (counted : (r : X) (u : List ℕ) (s : List (Value × ℕ)) → I.stands r u s → I.taken r ≡ length u) (g : Catalog) (l : Limits) (octets : List ℕ) where
+module _ {X : Type 0} (I : Items X) (counted : (r : X) (u : List ℕ) (s : List (Value × ℕ)) → I.stands r u s → I.taken r ≡ length u) (g : Catalog) (l : Limits)
+    (octets : List ℕ) where
   pub taken_none : (items : X) → IsFresh I items → I.catalog items ≡ g → I.limits items ≡ l → IsTaken I g l octets items 0 []
   taken_none items fresh under within =
       record {
@@ -59,15 +61,18 @@ module _ {X : Type 0} (I : Items X) (counted : (r : X) (u : List ℕ) (s : List 
       let inside = h.inside in
       omega (arith, total, inside, length-take {A = ℕ})
 
-  pub taken_more : (items after : X) (used more : ℕ) (value : Option Value) (s : List Value) → IsTaken I g l octets items used s → more ≤ length (drop used octets) →
+  pub taken_more : (items after : X) (used more : ℕ) (value : Option Value) (s : List Value) → IsTaken I g l octets items used s
+      → more ≤ length (drop used octets) →
       ((u : List ℕ) (t : List (Value × ℕ)) → I.stands items u t → I.stands after (u ++ take more (drop used octets)) (t ++ given_at value (length u + more))) →
-      I.catalog after ≡ I.catalog items → I.limits after ≡ I.limits items → Begins (I.awaits after) (drop more (drop used octets)) → IsTaken I g l octets after (used + more) (s ++ option_to_list value)
+      I.catalog after ≡ I.catalog items → I.limits after ≡ I.limits items → Begins (I.awaits after) (drop more (drop used octets))
+      → IsTaken I g l octets after (used + more) (s ++ option_to_list value)
   taken_more items after used more value s h fits go under within begins =
       let inside = h.inside in
       let total = length (take used octets) + more in
       record {
         given = h.given ++ given_at value total;
-        stood = subst (λ (x : List ℕ). I.stands after x (h.given ++ given_at value total)) (sym (take-add used more octets)) (go (take used octets) h.given h.stood);
+        stood = subst (λ (x : List ℕ). I.stands after x (h.given ++ given_at value total)) (sym (take-add used more octets))
+            (go (take used octets) h.given h.stood);
         values = plain_at h.given value total s h.values;
         under = under ∙ h.under;
         within = within ∙ h.within;
@@ -107,7 +112,8 @@ module _ {X : Type 0} (I : Items X) (counted : (r : X) (u : List ℕ) (s : List 
       (record { last = last; ends = end; values = ap (λ (x : List Value). x ++ option_to_list last) (sym (ap plain so_far ∙ h.values)) })
 
   -- the end was none of a document
-  pub taken_stopped : (items : X) (used : ℕ) (s : List Value) (r : Refusal) → IsTaken I g l octets items used s → length octets ≤ used → r.reason ≢ reasons.Memory →
+  pub taken_stopped : (items : X) (used : ℕ) (s : List Value) (r : Refusal) → IsTaken I g l octets items used s → length octets ≤ used
+      → r.reason ≢ reasons.Memory →
       ((u : List ℕ) (t : List (Value × ℕ)) → I.stands items u t → Finishes (I.trace (I.catalog items) (I.limits items)) u (Err r)) →
       ((u : List ℕ) (t : List (Value × ℕ)) → I.stands items u t → (I.trace (I.catalog items) (I.limits items) u).given ≡ t) →
       ((u : List ℕ) → HasReasons (I.trace g l u)) →

@@ -21,7 +21,8 @@ use Rattle.ion_streams.specs.Outcomes.{ToldDocument, ToldRefused}
 -- the line of the value with this index and outline
 unfoldable pub line_of : ℕ → Outline → List ℕ
 line_of index outline =
-    decimal index ++ (codes " " ++ (kind_name outline.kind ++ (codes " depth " ++ (decimal outline.depth ++ (codes " nodes " ++ (decimal outline.nodes ++ codes "\n"))))))
+    decimal index ++ (codes " " ++ (kind_name outline.kind ++
+    (codes " depth " ++ (decimal outline.depth ++ (codes " nodes " ++ (decimal outline.nodes ++ codes "\n"))))))
 
 -- the lines of values, the first of which has this index
 abbrev pub lines_from : ℕ → List Value → List ℕ
@@ -36,9 +37,11 @@ lines_of s = lines_from 1 s
 unfoldable pub accepted_line : ℕ → List ℕ
 accepted_line values = codes "accepted " ++ (decimal values ++ codes "\n")
 
--- The octets that the device handed over denote a stream, and its lines and the last line were written; or they are no document, and the lines of the values before the refusal were written.
+-- The octets that the device handed over denote a stream, and its lines and the last line were written; or they are no document, and the lines of the values
+-- before the refusal were written.
 abbrev pub IsShown : {S T : Type 0} → Inlet S → Outlet T → Format → S → S → T → T → Result ℕ Refusal → Type 0
-IsShown R W F first now old new (Ok values) = (s : List Value) × ToldDocument R F first now s × (length s ≡ values) × Took W.took W.written old new (lines_of s ++ accepted_line values)
+IsShown R W F first now old new (Ok values) = (s : List Value) × ToldDocument R F first now s × (length s ≡ values)
+    × Took W.took W.written old new (lines_of s ++ accepted_line values)
 IsShown R W F first now old new (Err refusal) = (s : List Value) × ToldRefused R F first now s refusal × Took W.took W.written old new (lines_of s)
 
 -- what a fault of writing says of its writer
@@ -50,9 +53,12 @@ IsWriteCause W new TooManyReads = ⊥
 IsWriteCause W new TooLarge = ⊥
 IsWriteCause W new Open = ⊥
 
--- At a fault nothing was begun; or the document gave s so far, and it was being read, was refused or had ended. Of what is written of it then, some first octets were written.
+-- At a fault nothing was begun; or the document gave s so far, and it was being read, was refused or had ended. Of what is written of it then, some first
+-- octets were written.
 pub data ShowsSoFar {S X T : Type 0} (R : Inlet S) (I : Items X) (W : Outlet T) (g : Catalog) (l : Limits) (first now : S) (old new : T) : Type 0 where
   at_start : TookFront W.took W.written old new [] → ShowsSoFar R I W g l first now old new
   in_reading : (s : List Value) → GaveSoFar R I g l first now s → TookFront W.took W.written old new (lines_of s) → ShowsSoFar R I W g l first now old new
-  at_refusal : (s : List Value) (refusal : Refusal) → ToldRefused R (format_of I g l) first now s refusal → TookFront W.took W.written old new (lines_of s) → ShowsSoFar R I W g l first now old new
-  at_end : (s : List Value) → ToldDocument R (format_of I g l) first now s → TookFront W.took W.written old new (lines_of s ++ accepted_line (length s)) → ShowsSoFar R I W g l first now old new
+  at_refusal : (s : List Value) (refusal : Refusal) → ToldRefused R (format_of I g l) first now s refusal → TookFront W.took W.written old new (lines_of s)
+      → ShowsSoFar R I W g l first now old new
+  at_end : (s : List Value) → ToldDocument R (format_of I g l) first now s → TookFront W.took W.written old new (lines_of s ++ accepted_line (length s))
+      → ShowsSoFar R I W g l first now old new

@@ -13,7 +13,8 @@ use Rattle.ion_streams.specs.Formats.{Format}
 abbrev pub SaysRefusal : Trace → Refusal → Type 0
 SaysRefusal t refusal = (t.refused ≡ Some refusal) ⊎ ((t.refused ≡ None) × (t.ends ≡ Err refusal))
 
--- The octets are no document. The refusal is the one that they give, neither for want of memory nor for a shared table; it counts octets with which no document begins, or all of them, and s is what those show.
+-- The octets are no document. The refusal is the one that they give, neither for want of memory nor for a shared table; it counts octets with which no document
+-- begins, or all of them, and s is what those show.
 pub record IsRefused (F : Format) (octets : List ℕ) (s : List Value) (refusal : Refusal) : Type 0 where
   pub within : refusal.offset ≤ length octets
   pub decided : BeginsNone F.denotes (take refusal.offset octets) ⊎ (refusal.offset ≡ length octets)

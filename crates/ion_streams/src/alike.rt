@@ -7,9 +7,10 @@ use ion_symtab::Items;
 
 /// A way to see that the next values of two readers are the same where they lie.
 pub trait Alike<I: Items, J: Items> {
-    /// Takes up a value at the front of the piece of each reader, where it lies whole in both and is seen to
-    /// be the same: how many octets of each. The value isn't handed out. `None`, with both readers as they
-    /// were, where that isn't so or isn't seen, and where either of them has refused; it needn't be seen.
+    /// Takes up a value at the front of the piece of each reader, where it lies whole in both and
+    /// is seen to be the same: how many octets of each. The value isn't handed out. `None`, with
+    /// both readers as they were, where that isn't so or isn't seen, and where either of them has
+    /// refused; it needn't be seen.
     fn pass(left: &mut I, piece: &[u8], right: &mut J, beside: &[u8]) -> Option<(usize, usize)>
         requires room { I.taken left.old + length piece.now < 2 ^ 63 }
         requires right_room { J.taken right.old + length beside.now < 2 ^ 63 }

@@ -12,10 +12,11 @@ use ion_model::{Reason, Refusal, Value};
 use ion_symtab::{Fault, Inlet, Items};
 use std::alloc::Global;
 
-/// All values of a document in order, whose octets `items` reads from `reader` in at most `reads` calls;
-/// or the refusal of octets that are no document.
+/// All values of a document in order, whose octets `items` reads from `reader` in at most `reads`
+/// calls; or the refusal of octets that are no document.
 ///
-/// Refusals are those of `items`, but never `Memory`. Faults are `Memory`, `Read` and `TooManyReads`.
+/// Refusals are those of `items`, but never `Memory`. Faults are `Memory`, `Read` and
+/// `TooManyReads`.
 pub fn read_items<I: Items + Drop, R: Inlet>(
     alloc: Global,
     items: I,
@@ -29,7 +30,8 @@ pub fn read_items<I: Items + Drop, R: Inlet>(
         (λ values. ToldDocument R.Inlet F reader.old reader.new values.items)
         (λ refusal. (s : List Value) × ToldRefused R.Inlet F reader.old reader.new s refusal)) }
     ensures few_calls { R.calls_made reader.new ≤ R.calls_made reader.old + reads }
-    ensures few_octets { length (R.handed reader.new) ≤ length (R.handed reader.old) + 4096 * reads }
+    ensures few_octets { length (R.handed reader.new) ≤ length (R.handed reader.old) + 4096 *
+        reads }
     ensures no_read_failed { OnOk result (R.has_failed reader.new ≡ false) }
     ensures cause { IfErr result (IsReadCause R.Inlet reads reader.old reader.new) }
 {
@@ -42,9 +44,11 @@ pub fn read_items<I: Items + Drop, R: Inlet>(
     Ok(place.answer(values))
 }
 
-/// All values of a document in order, whose octets are these; or their refusal, where they are no document.
+/// All values of a document in order, whose octets are these; or their refusal, where they are no
+/// document.
 ///
-/// Refusals are those of `items`. `Memory`, where a growth was refused, alone says nothing of the octets.
+/// Refusals are those of `items`. `Memory`, where a growth was refused, alone says nothing of the
+/// octets.
 pub fn read_octets<I: Items + Drop>(
     alloc: Global,
     items: I,
@@ -76,8 +80,8 @@ pub fn read_octets<I: Items + Drop>(
     }
 }
 
-/// Puts the next value behind the others, if there is one. `Memory` is the only refusal, at the number of
-/// octets used.
+/// Puts the next value behind the others, if there is one. `Memory` is the only refusal, at the
+/// number of octets used.
 fn keep_behind(values: &mut Vec<Value>, value: Option<Value>, used: usize) -> Result<(), Refusal>
     ensures more { OnOk result (values.new.items ≡ values.old.items ++ option_to_list value) }
     ensures memory { IfErr result (λ refusal.

@@ -13,8 +13,8 @@ pub trait Asked: Sized {
     /// What is told of this value.
     ghost of: { Value → Self };
 
-    /// Takes up octets of a piece as `Items::step` does: how many, and what is told of the value that the
-    /// last of them ends, if one does.
+    /// Takes up octets of a piece as `Items::step` does: how many, and what is told of the value
+    /// that the last of them ends, if one does.
     fn take<I: Items>(items: &mut I, piece: &[u8]) -> Result<(usize, Option<Self>), Refusal>
         requires room { IsNone (I.failed items.old) →
             I.taken items.old + length piece.now < 2 ^ 63 }

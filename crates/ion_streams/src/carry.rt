@@ -12,8 +12,8 @@ pub trait Carry<I: Items, E, W> {
     /// The encoder and the device became these by putting this value, with this answer.
     ghost puts: { E → E → W → W → Value → Result (Unit {0}) Fault → Type 0 };
 
-    /// Takes up the octets of the value at the front of a piece and puts it: how many octets, and the
-    /// answer. `None`, with all as it was, where that isn't so; then the value is to be built.
+    /// Takes up the octets of the value at the front of a piece and puts it: how many octets, and
+    /// the answer. `None`, with all as it was, where that isn't so; then the value is to be built.
     fn carry(
         items: &mut I,
         piece: &[u8],

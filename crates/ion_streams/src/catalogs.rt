@@ -11,9 +11,9 @@ use ion_model::{Reason, Refusal, Value};
 use ion_symtab::{Catalog, Fault, Inlet, Items, SharedTable};
 use std::alloc::Global;
 
-/// The catalog of the tables that the values of a document describe, whose octets `items` reads from
-/// `reader` in at most `reads` calls; or the refusal of octets that are no document of such values, as
-/// `load_catalog` answers it.
+/// The catalog of the tables that the values of a document describe, whose octets `items` reads
+/// from `reader` in at most `reads` calls; or the refusal of octets that are no document of such
+/// values, as `load_catalog` answers it.
 pub fn load_items<I: Items + Drop, R: Inlet>(
     alloc: Global,
     items: I,
@@ -25,7 +25,8 @@ pub fn load_items<I: Items + Drop, R: Inlet>(
     ensures loaded { IfOk result (IsLoaded R.Inlet
         (format_of I.Items (I.catalog items) (I.limits items)) reader.old reader.new) }
     ensures few_calls { R.calls_made reader.new ≤ R.calls_made reader.old + reads }
-    ensures few_octets { length (R.handed reader.new) ≤ length (R.handed reader.old) + 4096 * reads }
+    ensures few_octets { length (R.handed reader.new) ≤ length (R.handed reader.old) + 4096 *
+        reads }
     ensures no_read_failed { OnOk result (R.has_failed reader.new ≡ false) }
     ensures cause { IfErr result (IsReadCause R.Inlet reads reader.old reader.new) }
 {

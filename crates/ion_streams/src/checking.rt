@@ -10,10 +10,11 @@ use ion_model::{Outline, Refusal};
 use ion_symtab::{Fault, Inlet, Items};
 use std::alloc::Global;
 
-/// How many values a document has, whose octets `items` reads from `reader` in at most `reads` calls;
-/// or the refusal of octets that are no document.
+/// How many values a document has, whose octets `items` reads from `reader` in at most `reads`
+/// calls; or the refusal of octets that are no document.
 ///
-/// Refusals are those of `items`, but never `Memory`. Faults are `Memory`, `Read` and `TooManyReads`.
+/// Refusals are those of `items`, but never `Memory`. Faults are `Memory`, `Read` and
+/// `TooManyReads`.
 pub fn check_items<I: Items + Drop, R: Inlet>(
     alloc: Global,
     items: I,
@@ -25,7 +26,8 @@ pub fn check_items<I: Items + Drop, R: Inlet>(
     ensures verdict { IfOk result (IsChecked R.Inlet
         (format_of I.Items (I.catalog items) (I.limits items)) reader.old reader.new) }
     ensures few_calls { R.calls_made reader.new ≤ R.calls_made reader.old + reads }
-    ensures few_octets { length (R.handed reader.new) ≤ length (R.handed reader.old) + 4096 * reads }
+    ensures few_octets { length (R.handed reader.new) ≤ length (R.handed reader.old) + 4096 *
+        reads }
     ensures no_read_failed { OnOk result (R.has_failed reader.new ≡ false) }
     ensures cause { IfErr result (IsReadCause R.Inlet reads reader.old reader.new) }
 {

@@ -60,7 +60,8 @@ enum Course {
 }
 
 impl Course {
-    /// Goes on behind the next value of each, or the end of one; `Memory` where a growth was refused.
+    /// Goes on behind the next value of each, or the end of one; `Memory` where a growth was
+    /// refused.
     fn meet(
         &mut self,
         alloc: Global,
@@ -81,7 +82,8 @@ impl Course {
         }
     }
 
-    /// The verdict where the left side is a document, and the right one ended so; the path is taken out.
+    /// The verdict where the left side is a document, and the right one ended so; the path is taken
+    /// out.
     fn verdict<J>(&mut self, right: &Standing<J>) -> Verdict
         ensures { result ≡ verdict_of right.now self.old }
     {
@@ -106,7 +108,8 @@ fn behind(
     right: &Option<Value>,
 ) -> Result<Course, Fault>
     requires { values + 1 < 2 ^ 64 }
-    ensures { MatchResult result (IsMet (Course.Alike values) left.now right.now) (λ fault. fault ≡ Fault.Memory) }
+    ensures { MatchResult result (IsMet (Course.Alike values) left.now right.now)
+        (λ fault. fault ≡ Fault.Memory) }
 {
     let index = values + 1;
     match (left, right) {
@@ -141,8 +144,8 @@ fn value_of(found: Option<(Value, u64)>) -> Option<Value>
     }
 }
 
-/// Goes past the next value of both documents, where they are open, were the same so far, and have values
-/// there that are seen to be the same where they lie.
+/// Goes past the next value of both documents, where they are open, were the same so far, and have
+/// values there that are seen to be the same where they lie.
 fn go_alike<A: Alike<I, J>, I: Items, J: Items>(
     course: &mut Course,
     left: &mut Standing<I>,
@@ -194,7 +197,8 @@ fn compare_places<A: Alike<I, J>, I: Items + Drop, J: Items + Drop, L: Inlet, R:
         × (R.calls_made right.new ≤ R.calls_made right.old + reads_of right_place.old) }
     ensures few_octets { (length (L.handed left.new)
         ≤ length (L.handed left.old) + 4096 * reads_of left_place.old)
-        × (length (R.handed right.new) ≤ length (R.handed right.old) + 4096 * reads_of right_place.old) }
+        × (length (R.handed right.new) ≤ length (R.handed right.old) + 4096 * reads_of
+        right_place.old) }
     ensures no_read_failed { OnOk result ((L.has_failed left.new ≡ false)
         × ((right.new ≡ right.old) ⊎ (R.has_failed right.new ≡ false))) }
     ensures cause { IfErr result (λ fault. (reads : ℕ) →
@@ -232,15 +236,15 @@ fn compare_places<A: Alike<I, J>, I: Items + Drop, J: Items + Drop, L: Inlet, R:
     }
 }
 
-/// Whether two documents have equivalent streams: the octets of `left` are read by `left_items`, those
-/// of `right` by `right_items`, each device in at most `reads` calls.
+/// Whether two documents have equivalent streams: the octets of `left` are read by `left_items`,
+/// those of `right` by `right_items`, each device in at most `reads` calls.
 ///
 /// `Equivalent` where both are documents and the streams are equivalent (Ion 1.0, "The Ion Data
 /// Model"), `Different` where both are and the streams part, with the path to where the two values
 /// there part, `Refused` for the left side where that is no document, else for the right one. One
-/// value of each is read in turn. A refused left side is answered at once; after the streams parted,
-/// or the right side was refused, both are read to the end, since the left side may still be refused.
-/// Faults are `Memory`, `Read` and `TooManyReads`.
+/// value of each is read in turn. A refused left side is answered at once; after the streams
+/// parted, or the right side was refused, both are read to the end, since the left side may still
+/// be refused. Faults are `Memory`, `Read` and `TooManyReads`.
 pub fn compare_items<I: Items + Drop, J: Items + Drop, L: Inlet, R: Inlet>(
     alloc: Global,
     reads: u64,

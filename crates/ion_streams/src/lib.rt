@@ -1,5 +1,5 @@
-//! The streams of documents, read from devices by whatever reader: how many values they have, a line for each,
-//! all of them, the catalog that they describe, and whether two are equivalent.
+//! The streams of documents, read from devices by whatever reader: how many values they have, a
+//! line for each, all of them, the catalog that they describe, and whether two are equivalent.
 #![tactic(auto)]
 
 mod alike;

@@ -14,8 +14,8 @@ use ion_symtab::{Fault, Inlet, Items, Outlet, flushed, write_whole};
 use itoa::Buffer;
 use std::alloc::{AllocError, Global};
 
-/// Makes a text the line of a value: its index, kind, depth and number of nodes. One text is kept for all
-/// lines, so that they take its memory.
+/// Makes a text the line of a value: its index, kind, depth and number of nodes. One text is kept
+/// for all lines, so that they take its memory.
 fn set_line(text: &mut String, index: u64, outline: Outline) -> Result<(), AllocError>
     ensures { OnOk result (string_bytes text.new ≡ line_of index outline) }
 {
@@ -59,7 +59,8 @@ fn write_line<W: Outlet>(
     index: u64,
     outline: Outline,
 ) -> Result<(), Fault>
-    ensures wrote { OnOk result (Took W.took W.written writer.old writer.new (line_of index outline)) }
+    ensures wrote { OnOk result (Took W.took W.written writer.old writer.new
+        (line_of index outline)) }
     ensures front { OnErr result (TookFront W.took W.written writer.old writer.new
         (line_of index outline)) }
     ensures cause { IfErr result (IsWriteCause W.Outlet writer.new) }
@@ -70,10 +71,12 @@ fn write_line<W: Outlet>(
 
 /// Writes the last line, and makes the device pass on all.
 fn write_accepted<W: Outlet>(alloc: Global, writer: &mut W, values: u64) -> Result<(), Fault>
-    ensures wrote { OnOk result (Took W.took W.written writer.old writer.new (accepted_line values)) }
+    ensures wrote { OnOk result (Took W.took W.written writer.old writer.new
+        (accepted_line values)) }
     ensures passed_on { OnOk result (W.passed writer.new ≡ W.written writer.new) }
     ensures no_write_failed { OnOk result (W.has_failed writer.new ≡ false) }
-    ensures front { OnErr result (TookFront W.took W.written writer.old writer.new (accepted_line values)) }
+    ensures front { OnErr result (TookFront W.took W.written writer.old writer.new
+        (accepted_line values)) }
     ensures cause { IfErr result (IsWriteCause W.Outlet writer.new) }
 {
     let text = accepted(alloc, values)?;
@@ -84,7 +87,8 @@ fn write_accepted<W: Outlet>(alloc: Global, writer: &mut W, values: u64) -> Resu
 }
 
 /// Writes a line for each value of a document, whose octets `items` reads from `reader` in at most
-/// `reads` calls, and behind them `accepted` with their number. The answer is that of `check_items`.
+/// `reads` calls, and behind them `accepted` with their number. The answer is that of
+/// `check_items`.
 ///
 /// On a refusal the lines of the values before it are written, and no other line. The writer is
 /// flushed last, on a refusal too. At a fault some first octets of the lines of the values read so
@@ -106,7 +110,8 @@ pub fn show_items<I: Items + Drop, R: Inlet, W: Outlet>(
     ensures so_far { OnErr result (ShowsSoFar R.Inlet I.Items W.Outlet (I.catalog items)
         (I.limits items) reader.old reader.new writer.old writer.new) }
     ensures few_calls { R.calls_made reader.new ≤ R.calls_made reader.old + reads }
-    ensures few_octets { length (R.handed reader.new) ≤ length (R.handed reader.old) + 4096 * reads }
+    ensures few_octets { length (R.handed reader.new) ≤ length (R.handed reader.old) + 4096 *
+        reads }
     ensures no_read_failed { OnOk result (R.has_failed reader.new ≡ false) }
     ensures cause { IfErr result (λ fault.
         IsReadCause R.Inlet reads reader.old reader.new fault

@@ -45,8 +45,8 @@ pub struct Source<I> {
 }
 
 impl<I: Items + Drop> Source<I> {
-    /// A document of which nothing is read yet, whose device may be asked `reads` times. `Memory`, and
-    /// no other fault, where a growth was refused.
+    /// A document of which nothing is read yet, whose device may be asked `reads` times. `Memory`,
+    /// and no other fault, where a growth was refused.
     pub fn new(alloc: Global, items: I, reads: u64) -> Result<Source<I>, Fault>
         ensures items { IfOk result (λ source. source.items ≡ items) }
         ensures nothing { IfOk result (λ source.
@@ -66,7 +66,8 @@ impl<I: Items + Drop> Source<I> {
         })
     }
 
-    /// Takes up octets of the piece, up to the next value or to the piece's end: what is told of that value.
+    /// Takes up octets of the piece, up to the next value or to the piece's end: what is told of
+    /// that value.
     fn take<A: Asked>(&mut self) -> Result<Option<A>, Refusal>
         requires { IsReady I.Items self.old }
         ensures gives { IfOk result (λ found. (u : List ℕ) (given : List (Value × ℕ)) →
@@ -74,7 +75,8 @@ impl<I: Items + Drop> Source<I> {
             (value : Option Value) × (option_map A.of value ≡ found)
             × Went I.Items u given (left_of self.old) self.new value) }
         ensures refuses { IfErr result (λ refusal. refusal.reason ≢ reasons.Memory →
-            (u : List ℕ) (given : List (Value × ℕ)) → I.stands self.old.items u given → (more : List ℕ) →
+            (u : List ℕ) (given : List (Value × ℕ)) → I.stands self.old.items u given
+            → (more : List ℕ) →
             EndsRefused (format_of I.Items (I.catalog self.old.items) (I.limits self.old.items))
             ((u ++ left_of self.old) ++ more) given refusal) }
         ensures ready { IfOk result (λ found. IsReady I.Items self.new) }
@@ -119,7 +121,8 @@ impl<I: Items + Drop> Source<I> {
         ensures few_calls { R.calls_made reader.new ≤ R.calls_made reader.old + 1 }
         ensures few_octets { length (R.handed reader.new) ≤ length (R.handed reader.old) + 4096 }
         ensures no_read_failed { OnOk result (R.has_failed reader.new ≡ false) }
-        ensures cause { IfErr result (λ fault. (fault ≡ Fault.Read) × (R.has_failed reader.new ≡ true)) }
+        ensures cause { IfErr result (λ fault. (fault ≡ Fault.Read)
+            × (R.has_failed reader.new ≡ true)) }
     {
         self.reads -= 1;
         self.at = 0;
@@ -134,15 +137,16 @@ impl<I: Items + Drop> Source<I> {
         }
     }
 
-    /// Reads another piece where this one is used up; answers whether the device had more octets, or else
-    /// answered its end.
+    /// Reads another piece where this one is used up; answers whether the device had more octets,
+    /// or else answered its end.
     ///
     /// Faults are `Read` and `TooManyReads`.
     fn refill<R: Inlet>(&mut self, reader: &mut R) -> Result<bool, Fault>
         requires ready { IsReady I.Items self.old }
         requires used_up { self.old.at ≡ self.old.end }
         ensures ready { IfOk result (λ more. more ≡ true → IsReady I.Items self.new) }
-        ensures less { IfOk result (λ more. more ≡ true → work I.Items self.new ≤ work I.Items self.old) }
+        ensures less { IfOk result (λ more. more ≡ true
+            → work I.Items self.new ≤ work I.Items self.old) }
         ensures fewer { IfOk result (λ more. more ≡ true → self.new.reads < self.old.reads) }
         ensures within { IfOk result (λ more. more ≡ true → (first : R) (reads : ℕ) →
             IsWithin R.Inlet reads first reader.old self.old →
@@ -225,8 +229,8 @@ impl<I: Items + Drop> Source<I> {
         }
     }
 
-    /// Goes past the next value where `C` puts it without building it: what it answered. `None`, with all as it
-    /// was, where it doesn't.
+    /// Goes past the next value where `C` puts it without building it: what it answered. `None`,
+    /// with all as it was, where it doesn't.
     fn carry<C: Carry<I, E, W>, E, W>(
         &mut self,
         encoder: &mut E,
@@ -309,15 +313,12 @@ impl<I: Drop> Standing<I> {
 
 impl<I: Items + Drop> Standing<I> {
     /// Reads on up to the next value, or to the end, where the document is open; else it stays
-    /// where it stands. What is told of the value, with the number of octets used when it came. Without a value the
-    /// document isn't open any more.
+    /// where it stands. What is told of the value, with the number of octets used when it came.
+    /// Without a value the document isn't open any more.
     ///
     /// Faults are `Memory`, `Read` and `TooManyReads`.
     #[inline(always)]
-    pub fn advance<A: Asked, R: Inlet>(
-        &mut self,
-        reader: &mut R,
-    ) -> Result<Option<(A, u64)>, Fault>
+    pub fn advance<A: Asked, R: Inlet>(&mut self, reader: &mut R) -> Result<Option<(A, u64)>, Fault>
         requires { IfOpen self.old (IsReady I.Items) }
         ensures gives { IfOk result (λ found.
             (g : Catalog) (l : Limits) (first : R) (given : List (Value × ℕ)) →
@@ -367,8 +368,8 @@ impl<I: Items + Drop> Standing<I> {
         }
     }
 
-    /// Goes past the next value of a document that is open, where `C` puts it without building it: what it
-    /// answered. `None`, with all as it was, where it doesn't.
+    /// Goes past the next value of a document that is open, where `C` puts it without building it:
+    /// what it answered. `None`, with all as it was, where it doesn't.
     #[inline(always)]
     pub fn carry<C: Carry<I, E, W>, E, W>(
         &mut self,
@@ -431,9 +432,7 @@ fn told<A: Asked>(found: Option<(Value, u64)>) -> Option<(A, u64)>
 }
 
 /// What the end of a document gives; a value comes with the number of all its octets.
-fn last<I: Items + Drop>(
-    source: Source<I>,
-) -> Result<(Standing<I>, Option<(Value, u64)>), Fault>
+fn last<I: Items + Drop>(source: Source<I>) -> Result<(Standing<I>, Option<(Value, u64)>), Fault>
     requires awaited { IsNone (I.awaits source.items) }
     requires counted { I.taken source.items ≡ source.used }
     ensures ends { IfOk result (λ next. (u : List ℕ) (given : List (Value × ℕ)) →

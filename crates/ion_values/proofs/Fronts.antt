@@ -15,7 +15,8 @@ use Rattle.ion_streams.specs.declared.source.Source.{Source}
 use Rattle.ion_values.specs.Given.{IsFront, GivesFront}
 
 -- what stands in front of the values of a trace stands in front of its stream
-front_of_trace : (t : Trace) (given : List (Value × ℕ)) (s stream : List Value) → plain given ≡ s → traces.IsFront given t.given → Streams t stream → IsFront s stream
+front_of_trace : (t : Trace) (given : List (Value × ℕ)) (s stream : List Value) → plain given ≡ s → traces.IsFront given t.given → Streams t stream
+    → IsFront s stream
 front_of_trace t given s stream values front streams =
     let later = plain front.0 ++ option_to_list streams.last in (
       later,
@@ -36,7 +37,8 @@ awaited_parts u left more o rest e =
 module _ {S X : Type 0} (R : Inlet S) (I : Items X) (g : Catalog) (l : Limits)
     (grows : (u w : List ℕ) → Grows (I.trace g l u) (I.trace g l (u ++ w)))
     (so_far : (r : X) (u : List ℕ) (s : List (Value × ℕ)) → I.stands r u s → IsNone (I.awaits r) → (I.trace (I.catalog r) (I.limits r) u).given ≡ s)
-    (with_next : (r : X) (u : List ℕ) (s : List (Value × ℕ)) → I.stands r u s → IfSome (I.awaits r) (λ octet. traces.IsFront s (I.trace (I.catalog r) (I.limits r) (u ++ octet ∷ [])).given)) where
+    (with_next : (r : X) (u : List ℕ) (s : List (Value × ℕ)) → I.stands r u s
+    → IfSome (I.awaits r) (λ octet. traces.IsFront s (I.trace (I.catalog r) (I.limits r) (u ++ octet ∷ [])).given)) where
   front_given : (awaits : Option ℕ) (u left more : List ℕ) (given : List (Value × ℕ)) → Begins awaits left → (IsNone awaits → (I.trace g l u).given ≡ given) →
       IfSome awaits (λ octet. traces.IsFront given (I.trace g l (u ++ octet ∷ [])).given) → traces.IsFront given (I.trace g l ((u ++ left) ++ more)).given
   front_given None u left more given begins none some =
@@ -47,7 +49,8 @@ module _ {S X : Type 0} (R : Inlet S) (I : Items X) (g : Catalog) (l : Limits)
       subst (λ (x : List ℕ). traces.IsFront given (I.trace g l x).given) (awaited_parts u left more o begins.0 begins.1)
       (front_more given (I.trace g l (u ++ o ∷ [])).given _ some (grows (u ++ o ∷ []) (begins.0 ++ more)).given)
 
-  pub front_open : (exact : (u : List ℕ) (s : List Value) → Streams (I.trace g l u) s ↔ I.denotes g l u s) (first now : S) (source : Source X) (s : List Value) → Begins (I.awaits source.items) (left_of source) → Reads R I g l first now source s → GivesFront R (format_of I g l) first now s
+  pub front_open : (exact : (u : List ℕ) (s : List Value) → Streams (I.trace g l u) s ↔ I.denotes g l u s) (first now : S) (source : Source X) (s : List Value)
+      → Begins (I.awaits source.items) (left_of source) → Reads R I g l first now source s → GivesFront R (format_of I g l) first now s
   front_open exact first now source s begins h =
       let each = h.each in
       let none = rw (each.under, each.within) at (so_far source.items each.u h.given each.stood) in
@@ -62,11 +65,16 @@ module _ {S X : Type 0} (R : Inlet S) (I : Items X) (g : Catalog) (l : Limits)
       }
 
 -- a document that has ended gave all of its stream
-pub front_ended : {S X : Type 0} (R : Inlet S) (I : Items X) (g : Catalog) (l : Limits) (one : (u : List ℕ) (s t : List Value) → I.denotes g l u s → I.denotes g l u t → s ≡ t) (first now : S) (s : List Value) → ToldDocument R (format_of I g l) first now s → GivesFront R (format_of I g l) first now s
+pub front_ended : {S X : Type 0} (R : Inlet S) (I : Items X) (g : Catalog) (l : Limits) (one : (u : List ℕ) (s t : List Value) → I.denotes g l u s
+    → I.denotes g l u t → s ≡ t) (first now : S) (s : List Value) → ToldDocument R (format_of I g l) first now s → GivesFront R (format_of I g l) first now s
 front_ended R I g l one first now s h =
     record {
       octets = h.octets;
       ended = true;
       heard = h.heard;
-      front = λ more t may d. ([], one h.octets t s (subst (λ (x : List ℕ). I.denotes g l x t) (ap (λ x. h.octets ++ x) (may refl) ∙ append-nil h.octets) d) h.denoted ∙ sym (append-nil s));
+      front = λ more t may d. (
+        [],
+        one h.octets t s (subst (λ (x : List ℕ). I.denotes g l x t) (ap (λ x. h.octets ++ x) (may refl) ∙ append-nil h.octets) d)
+            h.denoted ∙ sym (append-nil s),
+      );
     }

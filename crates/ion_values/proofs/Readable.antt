@@ -23,10 +23,26 @@ begins_from (Some o) octets h = ap (λ x. begins_with (Some o) x) h.1 ∙ same_o
 
 module _ {X : Type 0} (I : Items X) where
   ready_of : (source : Source X) → IsReadable I source → IsReady I source
-  ready_of source h = record { within = h.within; fits = h.fits; piece = h.piece; room = h.room; begins = begins_to (I.awaits source.items) (left_of source) h.begins; counted = h.counted }
+  ready_of source h = record {
+    within = h.within;
+    fits = h.fits;
+    piece = h.piece;
+    room = h.room;
+    begins =
+        begins_to (I.awaits source.items) (left_of source) h.begins;
+    counted = h.counted;
+  }
 
   readable_of : (source : Source X) → IsReady I source → IsReadable I source
-  readable_of source h = record { within = h.within; fits = h.fits; piece = h.piece; room = h.room; begins = begins_from (I.awaits source.items) (left_of source) h.begins; counted = h.counted }
+  readable_of source h = record {
+    within = h.within;
+    fits = h.fits;
+    piece = h.piece;
+    room = h.room;
+    begins =
+        begins_from (I.awaits source.items) (left_of source) h.begins;
+    counted = h.counted;
+  }
 
   pub open_ready : (place : Standing X) → CanGoOn I place → IfOpen place (IsReady I)
   open_ready (Open source) h = ready_of source (h source refl)

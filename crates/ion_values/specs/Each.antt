@@ -35,9 +35,12 @@ stops_at (Some (Ok value)) = false
 stops_at (Some (Err stop)) = true
 
 -- An item tells the answer of `next`, and where that stopped, nothing comes behind it.
-pub record EachGives {S X : Type 0} (R : Inlet S) (I : Items X) (before : S) (place : Standing X) (fault : Option Fault) (stopped : Bool) (item : Option (Result Value Stop)) (now : S) (place_now : Standing X) (fault_now : Option Fault) (stopped_now : Bool) : Type 0 where
+pub record EachGives {S X : Type 0} (R : Inlet S) (I : Items X) (before : S) (place : Standing X) (fault : Option Fault) (stopped : Bool)
+    (item : Option (Result Value Stop)) (now : S) (place_now : Standing X) (fault_now : Option Fault) (stopped_now : Bool) : Type 0 where
   pub fused : stopped ≡ true → (item ≡ None) × (stopped_now ≡ true)
   pub stops : stopped ≡ false → stopped_now ≡ stops_at item
-  pub next : stopped ≡ false → (g : Catalog) (l : Limits) (first : S) (s : List Value) → HasGiven R I g l first before place fault s → IsNext R I g l first now s (answer_in item)
-  pub goes_on : stopped ≡ false → (g : Catalog) (l : Limits) (first : S) (s : List Value) → HasGiven R I g l first before place fault s → HasGiven R I g l first now place_now fault_now (s ++ values_in item)
+  pub next : stopped ≡ false → (g : Catalog) (l : Limits) (first : S) (s : List Value) → HasGiven R I g l first before place fault s
+      → IsNext R I g l first now s (answer_in item)
+  pub goes_on : stopped ≡ false → (g : Catalog) (l : Limits) (first : S) (s : List Value) → HasGiven R I g l first before place fault s
+      → HasGiven R I g l first now place_now fault_now (s ++ values_in item)
   pub no_read_failed : stopped ≡ false → IfAnswered (answer_in item) (NoReadFailed R before now)

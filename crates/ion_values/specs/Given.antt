@@ -29,7 +29,8 @@ module _ {S : Type 0} (R : Inlet S) where
     pub heard : Heard R first now octets ended
     pub front : (more : List ℕ) (t : List Value) → MayFollow ended more → F.denotes (octets ++ more) t → IsFront s t
 
-  -- What `next` answers behind the values s: a value, so that s and it are the front of the stream of what was heard; `None` where what was heard is a document, and s its stream; or why there is no next value.
+  -- What `next` answers behind the values s: a value, so that s and it are the front of the stream of what was heard; `None` where what was heard is a
+  -- document, and s its stream; or why there is no next value.
   abbrev pub IsNext : {X : Type 0} → Items X → Catalog → Limits → S → S → List Value → Result (Option Value) Stop → Type 0
   IsNext I g l first now s (Ok (Some value)) = GivesFront (format_of I g l) first now (s ++ value ∷ [])
   IsNext I g l first now s (Ok None) = ToldDocument R (format_of I g l) first now s
@@ -47,8 +48,10 @@ IsRefused (TheStanding.Open source) = ⊥
 IsRefused TheStanding.Ended = ⊥
 IsRefused (TheStanding.Refused refusal) = Unit {0}
 
--- From first to now a document that had given s gave this, and stands there: s and it are the front of the stream of what was heard, and a document that was refused gave nothing more.
-pub record WentOn {S X : Type 0} (R : Inlet S) (I : Items X) (g : Catalog) (l : Limits) (first now : S) (place : Standing X) (s : List Value) (value : Option Value) : Type 0 where
+-- From first to now a document that had given s gave this, and stands there: s and it are the front of the stream of what was heard, and a document that was
+-- refused gave nothing more.
+pub record WentOn {S X : Type 0} (R : Inlet S) (I : Items X) (g : Catalog) (l : Limits) (first now : S) (place : Standing X) (s : List Value)
+    (value : Option Value) : Type 0 where
   pub stood : Stood R I g l first now place (s ++ option_to_list value)
   pub front : IsSome value → GivesFront R (format_of I g l) first now (s ++ option_to_list value)
   pub refused : IsRefused place → value ≡ None

@@ -8,10 +8,12 @@ use ion_docs::DocReader;
 use ion_symtab::{Catalog, Fault, Inlet, Items, Limits};
 use std::alloc::Global;
 
-/// The values of the document of `reader` one by one: the stream that its octets denote (Ion 1.0, "The Ion Data
-/// Model"), in either encoding. Nothing is read yet: `Values::next` and `Values::each` read.
+/// The values of the document of `reader` one by one: the stream that its octets denote (Ion 1.0,
+/// "The Ion Data Model"), in either encoding. Nothing is read yet: `Values::next` and
+/// `Values::each` read.
 ///
-/// The only fault is `Memory`. Shared symbol tables are ordinary values here, and local ones are none.
+/// The only fault is `Memory`. Shared symbol tables are ordinary values here, and local ones are
+/// none.
 pub fn values<'r, 'a, R: Inlet>(
     alloc: Global,
     reader: &'r mut R,

@@ -4,8 +4,8 @@ use crate::stop::Stop;
 use ion_model::Value;
 use ion_symtab::{Inlet, Items};
 
-/// The values of a document as an iterator: each value, and at the end nothing; or what stopped it, and then
-/// nothing more. It ends: a document of at most 2^32 reads has finitely many values.
+/// The values of a document as an iterator: each value, and at the end nothing; or what stopped it,
+/// and then nothing more. It ends: a document of at most 2^32 reads has finitely many values.
 #[derive(Drop)]
 pub struct Each<'r, I: Items, R> {
     pub(crate) values: Values<'r, I, R>,

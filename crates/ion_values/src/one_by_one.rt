@@ -16,8 +16,8 @@ use ion_streams::{Source, Standing};
 use ion_symtab::{Fault, Inlet, Items};
 use std::alloc::Global;
 
-/// A document whose values are asked for one by one: `items` takes up the octets, which come from a device. It
-/// holds one piece of octets, and what the reader keeps of the value that it reads.
+/// A document whose values are asked for one by one: `items` takes up the octets, which come from a
+/// device. It holds one piece of octets, and what the reader keeps of the value that it reads.
 #[derive(Drop)]
 pub struct Values<'r, I: Items, R> {
     /// The device that the octets come from.
@@ -29,8 +29,8 @@ pub struct Values<'r, I: Items, R> {
     ghost ready: { CanGoOn I.Items place },
 }
 
-/// The values of a document one by one, whose octets `items` reads from `reader` in at most `reads` calls.
-/// Nothing is read yet. `Memory`, and no other fault, where a growth was refused.
+/// The values of a document one by one, whose octets `items` reads from `reader` in at most `reads`
+/// calls. Nothing is read yet. `Memory`, and no other fault, where a growth was refused.
 pub fn values_by<'r, I: Items + Drop, R: Inlet>(
     alloc: Global,
     items: I,
@@ -43,7 +43,8 @@ pub fn values_by<'r, I: Items + Drop, R: Inlet>(
     ensures same_reader { IfOk result (λ values.
         values.reader.ghost_name ≡ reader.entry.ghost_name) }
     ensures unread { IfOk result (λ values. values.reader.now ≡ reader.old) }
-    ensures begun { IfOk result (λ values. HasGiven R.Inlet I.Items (I.catalog items) (I.limits items)
+    ensures begun { IfOk result (λ values. HasGiven R.Inlet I.Items (I.catalog items)
+        (I.limits items)
         reader.old reader.old values.place values.fault []) }
     ensures reads { IfOk result (λ values. reads_of values.place ≡ reads) }
     ensures cause { IfErr result (λ fault. fault ≡ Fault.Memory) }
@@ -70,13 +71,14 @@ impl<'r, I: Items + Drop, R: Inlet> Values<'r, I, R> {
         }
     }
 
-    /// The next value of the document; `None` exactly at its end, where the octets that `reader` handed over
-    /// are a document. The values so far are the first of the stream of whichever document begins with the
-    /// octets that were handed over.
+    /// The next value of the document; `None` exactly at its end, where the octets that `reader`
+    /// handed over are a document. The values so far are the first of the stream of whichever
+    /// document begins with the octets that were handed over.
     ///
-    /// `Stop::Refused` where the octets are no document: refusals and their offsets are those of `check`.
-    /// `Stop::Fault` with `Memory`, `Read` or `TooManyReads`, which says nothing of the octets. Behind the end,
-    /// a refusal or a fault each call answers the same, and `reader` isn't asked any more.
+    /// `Stop::Refused` where the octets are no document: refusals and their offsets are those of
+    /// `check`. `Stop::Fault` with `Memory`, `Read` or `TooManyReads`, which says nothing of the
+    /// octets. Behind the end, a refusal or a fault each call answers the same, and `reader` isn't
+    /// asked any more.
     pub fn next(&mut self) -> Result<Option<Value>, Stop>
         ensures next { (g : Catalog) (l : Limits) (first : R) (s : List Value) →
             HasGiven R.Inlet I.Items g l first self.old.reader.now

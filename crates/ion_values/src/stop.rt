@@ -3,7 +3,8 @@ use ion_model::Refusal;
 use ion_symtab::Fault;
 use std::fmt::{self, Display, Formatter};
 
-/// Why a document gives no next value though it hasn't ended. Its message is that of the refusal or the fault.
+/// Why a document gives no next value though it hasn't ended. Its message is that of the refusal or
+/// the fault.
 #[derive(Clone, Copy, Debug, PartialEq, Eq)]
 pub enum Stop {
     /// The octets are no document: at which octet, and why.

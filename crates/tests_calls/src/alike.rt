@@ -1,4 +1,5 @@
-//! Values at the fronts of two documents whose symbol tables differ, taken up at once where they are the same.
+//! Values at the fronts of two documents whose symbol tables differ, taken up at once where they
+//! are the same.
 ghost use Rattle.std.specs.Prelude.{◌≡◌, ◌≤◌, IsNone, IfOk};
 
 use crate::answers::same;
@@ -36,7 +37,8 @@ fn takes<R: Items>(reader: &mut R, table: &[u8; 17]) -> Result<(), Reason>
     }
 }
 
-/// What is taken up of the two values, the first behind a table of `a` and `b`, the other behind one of `b` and `a`.
+/// What is taken up of the two values, the first behind a table of `a` and `b`, the other behind
+/// one of `b` and `a`.
 fn behind_tables<'a>(
     reader: &mut BinaryReader<'a>,
     other: &mut BinaryReader<'a>,

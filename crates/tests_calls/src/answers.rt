@@ -1,5 +1,5 @@
-//! How the tests compare what was found with what was wanted. All is passed by value: in a proof a borrow stands in every
-//! step until it ends.
+//! How the tests compare what was found with what was wanted. All is passed by value: in a proof a
+//! borrow stands in every step until it ends.
 use std::fmt::Debug;
 use std::process::Abort;
 

@@ -17,7 +17,8 @@ fn two_reads(reader: &mut FromRead<FrailReader<'_>>) -> Reads {
     (read, piece[0], reader.failed())
 }
 
-/// Two reads of a reader that fails at the call behind them with this kind, two more, and how many calls that were.
+/// Two reads of a reader that fails at the call behind them with this kind, two more, and how many
+/// calls that were.
 fn fails_once(kind: io::ErrorKind) -> (Reads, Reads, u64) {
     let mut reader = FromRead::new(FrailReader {
         octets: b"abc",
@@ -67,7 +68,8 @@ fn read_to_the_end(rt: HostRuntime) {
 /// What a write of `abcde` and a flush behind it answer, and whether the writer has failed.
 type Written = (Result<(), Fault>, Result<(), Fault>, bool);
 
-/// Writes `abcde` two octets a call and flushes, where the call with this index fails; `taken` gets the octets.
+/// Writes `abcde` two octets a call and flushes, where the call with this index fails; `taken` gets
+/// the octets.
 fn write_and_flush(fails_at: u64, taken: &mut Vec<u8>) -> Written {
     let mut writer = ToWrite::new(FrailWriter {
         taken,
@@ -101,7 +103,8 @@ fn write_fails_once(rt: HostRuntime) {
     }
 }
 
-/// What a write of no octet and one of an octet answer, each with whether the writer has failed then, and a flush.
+/// What a write of no octet and one of an octet answer, each with whether the writer has failed
+/// then, and a flush.
 type Takes = (
     (Result<usize, Failed>, bool),
     (Result<usize, Failed>, Result<(), Failed>, bool),

@@ -1,5 +1,6 @@
-//! The calls of `ion_docs` over devices that fail once and then would go on, with reads beyond what may be, and with writers
-//! that take nothing. `M` in a comment stands for the version marker `E0 01 00 EA`.
+//! The calls of `ion_docs` over devices that fail once and then would go on, with reads beyond what
+//! may be, and with writers that take nothing. `M` in a comment stands for the version marker `E0
+//! 01 00 EA`.
 use crate::answers::same;
 use ion_devices::{FrailReader, FrailWriter, NEVER};
 use ion_docs::{Side, Target, Verdict, check, compare, convert, load_catalog, show};
@@ -64,7 +65,8 @@ enum Call {
     Load,
 }
 
-/// What a check or a call that writes answers of these octets, where the read with this index fails.
+/// What a check or a call that writes answers of these octets, where the read with this index
+/// fails.
 fn written<R: Inlet>(
     alloc: Global,
     catalog: &Catalog,
@@ -131,7 +133,8 @@ impl Read for Narrow {
 /// A document of no values, of two whole pieces and a part of one.
 static BLANKS: [u8; 10000] = [b' '; 10000];
 
-/// What a call answers of blanks of which each piece is asked for by itself, and how many calls were made.
+/// What a call answers of blanks of which each piece is asked for by itself, and how many calls
+/// were made.
 fn answered_in_pieces(alloc: Global, catalog: &Catalog, call: Call) -> (Answer, u64) {
     let mut reader = FromRead::new(Narrow {
         octets: BLANKS.as_slice(),
@@ -161,7 +164,8 @@ fn values_in(verdict: &Verdict) -> Option<u64> {
     }
 }
 
-/// How many values two documents have whose streams are equivalent, where of each the read with this index fails.
+/// How many values two documents have whose streams are equivalent, where of each the read with
+/// this index fails.
 fn compared(
     alloc: Global,
     catalog: &Catalog,
@@ -185,7 +189,8 @@ static CALLS: [Call; 5] = [
     Call::Load,
 ];
 
-/// `$ion_shared_symbol_table::{name:"t",version:1,symbols:["x"]}` in binary, of 19 reads: the octets and the end.
+/// `$ion_shared_symbol_table::{name:"t",version:1,symbols:["x"]}` in binary, of 19 reads: the
+/// octets and the end.
 const TABLE: &[u8] = b"\xE0\x01\x00\xEA\xED\x81\x89\xDA\x84\x81\x74\x85\x21\x01\x87\xB2\x81\x78";
 
 /// Each read in single octets fails, and the one that answers the end.
@@ -230,7 +235,8 @@ fn a_read_of_two_fails(rt: HostRuntime) {
 /// Three values, which are shown by the octets behind them and by the end.
 const THREE: &[u8] = b"1 2 3";
 
-/// Where the left side of a comparison is refused, if it is, or a fault; and how often each side was read.
+/// Where the left side of a comparison is refused, if it is, or a fault; and how often each side
+/// was read.
 type Turns = (Result<Option<u64>, Fault>, [u64; 2]);
 
 /// At which octet the left side is refused, if it is.
@@ -244,7 +250,8 @@ fn left_refused(verdict: &Verdict) -> Option<u64> {
     }
 }
 
-/// How these octets are compared with the three values, where of each side the read with this index fails.
+/// How these octets are compared with the three values, where of each side the read with this index
+/// fails.
 fn turns(alloc: Global, catalog: &Catalog, octets: &[u8], fail_at: [u64; 2]) -> Turns {
     let mut left = one_by_one(octets, fail_at[0]);
     let mut right = one_by_one(THREE, fail_at[1]);
@@ -259,7 +266,8 @@ fn turns(alloc: Global, catalog: &Catalog, octets: &[u8], fail_at: [u64; 2]) -> 
     (answer, [left.calls(), right.calls()])
 }
 
-/// One value of each side is read in turn, the left one first; where that is refused, the right isn't read.
+/// One value of each side is read in turn, the left one first; where that is refused, the right
+/// isn't read.
 #[test]
 fn sides_are_read_in_turn(rt: HostRuntime) {
     let catalog = Catalog::new(rt.alloc());
@@ -351,7 +359,8 @@ fn reads_of_two_are_limited(rt: HostRuntime) {
     drop(catalog);
 }
 
-/// What a check within a thousand reads answers of a reader that never ends, and how many there were.
+/// What a check within a thousand reads answers of a reader that never ends, and how many there
+/// were.
 fn check_endless(
     alloc: Global,
     catalog: &Catalog,

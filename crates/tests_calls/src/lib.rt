@@ -1,6 +1,7 @@
-//! The tests that no row says (`tests_rows` has those): of the libraries' calls and what they hold between two of them, of
-//! devices that fail, of the command's words, lines and statuses, and of want of memory. Tests stand above the crates, so that
-//! the gate proves each once, and not once more beside its tests.
+//! The tests that no row says (`tests_rows` has those): of the libraries' calls and what they hold
+//! between two of them, of devices that fail, of the command's words, lines and statuses, and of
+//! want of memory. Tests stand above the crates, so that the gate proves each once, and not once
+//! more beside its tests.
 #![tactic(auto)]
 
 #[cfg(test)]

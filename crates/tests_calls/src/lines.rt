@@ -4,8 +4,8 @@ use crate::answers::same;
 use crate::shelves::{FrailShelf, Register, Shelf};
 use crate::streams::TWICE;
 use crate::wanted::{Row, Wanted};
-use ion_run::{NameHistory, Sources, run};
 use ion_devices::{FrailWriter, NEVER};
+use ion_run::{NameHistory, Sources, run};
 use ion_symtab::ToWrite;
 use std::alloc::{AllocError, Global};
 use std::io;
@@ -367,8 +367,8 @@ fn names_are_opened_in_order(rt: HostRuntime) {
     }
 }
 
-/// What each encoding is given of no octet and of what isn't there: the octets that go out, the line of the errors and the
-/// status.
+/// What each encoding is given of no octet and of what isn't there: the octets that go out, the
+/// line of the errors and the status.
 type Converted = (&'static str, &'static str, &'static [u8], &'static str, u8);
 
 static CONVERTED: [Converted; 4] = [
@@ -391,7 +391,8 @@ fn converts(rt: HostRuntime) {
     }
 }
 
-/// In text: no octet, the first symbol of two of a table, the same shared table twice, and no table.
+/// In text: no octet, the first symbol of two of a table, the same shared table twice, and no
+/// table.
 static IN_TEXT: [(&str, &[u8]); 4] = [
     ("nothing", b""),
     (
@@ -458,7 +459,8 @@ const SAME: Wanted<'static> = Wanted {
     status: 0,
 };
 
-/// A comparison where this read of the document of this name fails; there are nine, the last of which answers the end.
+/// A comparison where this read of the document of this name fails; there are nine, the last of
+/// which answers the end.
 fn a_read_fails(rt: &impl Abort, alloc: Global, fails: &str, fails_at: u64) {
     let mut shelf = FrailShelf {
         files: &[("left", FILES[2].1), ("right", FILES[2].1)],
@@ -576,7 +578,8 @@ fn nothing_is_taken(rt: HostRuntime) {
     }
 }
 
-/// The status of a row, and how much goes to these places for the output and the errors. Takes no memory of its own.
+/// The status of a row, and how much goes to these places for the output and the errors. Takes no
+/// memory of its own.
 fn run_in_place(
     alloc: Global,
     row: &Row,
@@ -595,7 +598,8 @@ fn run_in_place(
     (status, out.position(), err.position())
 }
 
-/// The status of a row, whose lines are its own; or those of want of memory, behind a front of its output.
+/// The status of a row, whose lines are its own; or those of want of memory, behind a front of its
+/// output.
 fn status_of(rt: &impl Abort, alloc: Global, row: &Row) -> u8 {
     let mut out_room = [0u8; 64];
     let mut err_room = [0u8; 256];
@@ -613,8 +617,8 @@ fn status_of(rt: &impl Abort, alloc: Global, row: &Row) -> u8 {
     status
 }
 
-/// Where a growth is refused, each row gives its own answer, or want of memory. Here none is, but by
-/// `rt try --test --fail-alloc N`.
+/// Where a growth is refused, each row gives its own answer, or want of memory. Here none is, but
+/// by `rt try --test --fail-alloc N`.
 #[test]
 fn growths(rt: HostRuntime) {
     let alloc = rt.alloc();
@@ -638,7 +642,8 @@ fn take_all(alloc: Global, blocks: &mut Vec<Vec<u8>>) -> Result<(), AllocError> 
     Ok(())
 }
 
-/// Gives back one block more from one run of the row to the next, until one gets memory enough; how many got too little.
+/// Gives back one block more from one run of the row to the next, until one gets memory enough; how
+/// many got too little.
 fn refusals(rt: &impl Abort, alloc: Global, row: &Row, blocks: &mut Vec<Vec<u8>>) -> u32 {
     let mut refused = 0u32;
     for _ in 0..100000u32 {

@@ -1,5 +1,6 @@
-//! Symbols, an empty path, the names and numbers of kinds and reasons, and values as keys of sets. What is owned is let go
-//! by a call of `drop`: that is one step of a proof, where the end of a block is one for each of its parts.
+//! Symbols, an empty path, the names and numbers of kinds and reasons, and values as keys of sets.
+//! What is owned is let go by a call of `drop`: that is one step of a proof, where the end of a
+//! block is one for each of its parts.
 use crate::answers::{holds, same};
 use ion_model::{
     Bytes, Decimal, Field, Kind, Local, Path, Payload, Precision, Reason, Sequence, Symbol, Text,

@@ -1,4 +1,5 @@
-//! Values made in one expression, and asked for what they hold. What is owned is let go by a call of `drop`, as in `model.rt`.
+//! Values made in one expression, and asked for what they hold. What is owned is let go by a call
+//! of `drop`, as in `model.rt`.
 use crate::answers::same;
 use ion_model::{Kind, Reason, Value};
 use std::alloc::Global;
@@ -26,7 +27,8 @@ fn fields_are_found_by_name(rt: HostRuntime) -> Result<(), Fail> {
     Ok(())
 }
 
-/// Whether a value is of this kind, holds a bool, how many items, and how long its text or its octets are.
+/// Whether a value is of this kind, holds a bool, how many items, and how long its text or its
+/// octets are.
 fn held(value: Value) -> (Kind, Option<bool>, Option<usize>, Option<usize>) {
     let text = match (value.as_str(), value.as_symbol()) {
         (Some(text), _) => Some(text.len()),

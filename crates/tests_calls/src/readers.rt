@@ -90,7 +90,8 @@ fn a_text_is_held(rt: HostRuntime) {
     same(&rt, "step", found, Ok(Ok((3, false, true))));
 }
 
-/// How many octets a step of a reader that has used nothing yet uses, whether it gives a value, and how many octets are held then.
+/// How many octets a step of a reader that has used nothing yet uses, whether it gives a value, and
+/// how many octets are held then.
 fn kept_behind<'a>(
     reader: &mut TextReader<'a>,
     octets: &[u8; 15],
@@ -108,7 +109,8 @@ fn kept_behind<'a>(
     }
 }
 
-/// What a step of a text uses and gives under a limit of octets, and whether it holds some behind it and no more than that limit.
+/// What a step of a text uses and gives under a limit of octets, and whether it holds some behind
+/// it and no more than that limit.
 fn read_within(
     alloc: Global,
     catalog: &Catalog,
@@ -124,7 +126,8 @@ fn read_within(
     }
 }
 
-/// An open string in a list, not of ASCII alone, is kept once: the octets held are no more than an item may have.
+/// An open string in a list, not of ASCII alone, is kept once: the octets held are no more than an
+/// item may have.
 #[test]
 fn an_open_string_is_kept_once(rt: HostRuntime) {
     let catalog = Catalog::new(rt.alloc());

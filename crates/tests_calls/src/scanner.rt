@@ -57,7 +57,8 @@ fn used(scanner: &mut Scanner, piece: &[u8]) -> Option<Result<usize, Refusal>> {
     }
 }
 
-/// Pieces, how many octets of each are used, and where the token begins and ends that has begun behind it.
+/// Pieces, how many octets of each are used, and where the token begins and ends that has begun
+/// behind it.
 static OPEN: [(&[u8], usize, Option<(u64, u64, Form)>); 6] = [
     (b"", 0, None),
     (b" \"ab", 4, Some((1, 4, Form::Other))),

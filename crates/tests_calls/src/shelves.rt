@@ -1,7 +1,7 @@
 //! Documents in memory, given whole or by readers that fail at one call.
 
-use ion_run::{NameHistory, Sources};
 use ion_devices::FrailReader;
+use ion_run::{NameHistory, Sources};
 use ion_symtab::{Fault, FromRead};
 use std::io::ErrorKind;
 
@@ -32,8 +32,8 @@ impl<'a> Sources for Shelf<'a> {
     }
 }
 
-/// Documents by name, each given one octet a call; the reader of the name `fails` fails at one call, counted
-/// from 0.
+/// Documents by name, each given one octet a call; the reader of the name `fails` fails at one
+/// call, counted from 0.
 #[derive(Drop)]
 pub struct FrailShelf<'a> {
     pub files: &'a [(&'a str, &'a [u8])],
@@ -74,7 +74,8 @@ impl<'a> Sources for FrailShelf<'a> {
     }
 }
 
-/// Documents by name, given whole; each name that is opened is written down, with a space behind it.
+/// Documents by name, given whole; each name that is opened is written down, with a space behind
+/// it.
 #[derive(Drop)]
 pub struct Register<'a> {
     pub shelf: Shelf<'a>,

@@ -1,5 +1,5 @@
-//! Readers and writers that get no memory once: each gives its own answer or want of memory, and then that again.
-//! `tests/starved.py` refuses each growth in turn; elsewhere none is refused.
+//! Readers and writers that get no memory once: each gives its own answer or want of memory, and
+//! then that again. `tests/starved.py` refuses each growth in turn; elsewhere none is refused.
 mod tables;
 mod values;
 

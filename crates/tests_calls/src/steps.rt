@@ -1,5 +1,6 @@
-//! What a step and the end of a reader answer, said by what can be compared. What is owned is let go by a call of `drop`,
-//! here and in all tests: that is one step of a proof, where the end of a block is one for each of its parts.
+//! What a step and the end of a reader answer, said by what can be compared. What is owned is let
+//! go by a call of `drop`, here and in all tests: that is one step of a proof, where the end of a
+//! block is one for each of its parts.
 ghost use Rattle.std.specs.Prelude.{◌+◌, ◌<◌, ◌^◌, length, IsNone};
 
 use crate::held::held_behind;

@@ -1,5 +1,5 @@
-//! The calls of `ion_docs` over whole streams worked out by hand. `M` in a comment stands for the version marker
-//! `E0 01 00 EA`; names are those of the system symbols 4 to 9.
+//! The calls of `ion_docs` over whole streams worked out by hand. `M` in a comment stands for the
+//! version marker `E0 01 00 EA`; names are those of the system symbols 4 to 9.
 use crate::answers::{same, same_or_starved};
 use ion_devices::{FrailReader, NEVER};
 use ion_docs::{Verdict, compare, load_catalog, path_text, read_all, read_document};
@@ -25,7 +25,8 @@ fn in_two(octets: &[u8], first: usize) -> FromRead<FrailReader<'_>> {
     })
 }
 
-/// How many of the names `t` to `v` a catalog document has a table of version 1 for, or its refusal.
+/// How many of the names `t` to `v` a catalog document has a table of version 1 for, or its
+/// refusal.
 type Tables = Result<u64, (u64, Reason)>;
 
 static LOADED: [(&[u8], Tables); 10] = [
@@ -168,7 +169,8 @@ fn unusable_tables(rt: HostRuntime) {
     }
 }
 
-/// How many values a document has, and the kinds of the first two; or the offset at which it is refused.
+/// How many values a document has, and the kinds of the first two; or the offset at which it is
+/// refused.
 type Kinds = Result<(usize, Option<Kind>, Option<Kind>), u64>;
 
 /// What the rows say of values.
@@ -203,7 +205,8 @@ fn kinds_or_offset(answer: Result<Vec<Value>, Refusal>) -> Kinds {
     }
 }
 
-/// `M B2 21 01` is a list of 1; shared tables are values like others, also the same twice; `M 13` is no document.
+/// `M B2 21 01` is a list of 1; shared tables are values like others, also the same twice; `M 13`
+/// is no document.
 static READ: [(&[u8], Kinds); 4] = [
     (
         b"\xE0\x01\x00\xEA\xB2\x21\x01",
@@ -317,8 +320,8 @@ fn loads_at_last(rt: &impl Abort, alloc: Global, rows: &[(&[u8], Tables)]) {
     }
 }
 
-/// Where a growth is refused, each call gives its own answer or want of memory. Here none is, but by
-/// `tests/starved.py`.
+/// Where a growth is refused, each call gives its own answer or want of memory. Here none is, but
+/// by `tests/starved.py`.
 #[test]
 fn starved_documents(rt: HostRuntime) {
     loads_at_last(&rt, rt.alloc(), &LOADED);

@@ -48,8 +48,8 @@ static PUTS: [(u64, &[u8], Puts); 6] = [
     (5, b"1\n2\n", [Ok(()), Ok(()), Ok(())]),
 ];
 
-/// Each write of `1 2` in single octets, and then the flush, fails: what was written before stands, and the
-/// fault stays.
+/// Each write of `1 2` in single octets, and then the flush, fails: what was written before stands,
+/// and the fault stays.
 #[test]
 fn a_write_fails(rt: HostRuntime) {
     for (fails_at, front, wanted) in &PUTS {

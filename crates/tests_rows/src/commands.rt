@@ -1,9 +1,9 @@
 //! What the command makes of rows: each of their documents is given whole, and one octet a call.
 use crate::documents::{Pieces, WHOLE, tables};
 use crate::row::Row;
-use ion_run::{NameHistory, Sources, run};
 use ion_devices::FrailReader;
 use ion_docs::Target;
+use ion_run::{NameHistory, Sources, run};
 use ion_symtab::{Fault, FromRead, ToWrite};
 use std::alloc::{AllocError, Global};
 use std::test::Fail;
@@ -93,7 +93,8 @@ fn told(octets: &[u8]) -> &str {
     str::from_utf8(octets).unwrap_or("no text")
 }
 
-/// Fails, where anything else comes of these words over the documents, given whole or one octet a call.
+/// Fails, where anything else comes of these words over the documents, given whole or one octet a
+/// call.
 fn ends(
     alloc: Global,
     files: &[(&str, &[u8])],
@@ -104,8 +105,8 @@ fn ends(
     ends_in_pieces(alloc, files, 1, words, wanted)
 }
 
-/// Fails, where a command refuses otherwise, or writes anything else before; `wanted` is whose document it is, the offset and
-/// the reason.
+/// Fails, where a command refuses otherwise, or writes anything else before; `wanted` is whose
+/// document it is, the offset and the reason.
 fn refuses(
     alloc: Global,
     files: &[(&str, &[u8])],
@@ -124,7 +125,8 @@ fn refuses(
     tried
 }
 
-/// The words of a command, and behind them those of the limits and the tables that a field of a row names.
+/// The words of a command, and behind them those of the limits and the tables that a field of a row
+/// names.
 fn put_words<'a>(
     row: Row<'a>,
     number: usize,
@@ -154,8 +156,8 @@ pub struct Asked<'a> {
 }
 
 impl<'a> Asked<'a> {
-    /// Fails, where a command over the document writes anything else, or answers otherwise: how many values it has, or the
-    /// offset and the reason of its refusal.
+    /// Fails, where a command over the document writes anything else, or answers otherwise: how
+    /// many values it has, or the offset and the reason of its refusal.
     fn ends(&self, command: &[&'a str], out: &[u8], answer: &str) -> Result<(), Fail> {
         let mut words = Vec::new(self.alloc);
         let tried = match put_words(self.row, self.options, command, &mut words) {
@@ -222,7 +224,8 @@ impl<'a> Asked<'a> {
         tried
     }
 
-    /// Fails, where a value is shown or written of a document that has none before its end or its refusal.
+    /// Fails, where a value is shown or written of a document that has none before its end or its
+    /// refusal.
     pub fn writes_nothing(&self, answer: &str) -> Result<(), Fail> {
         self.writes_last(&["show", "f"], answer)?;
         self.converts(Target::Text, b"", answer)?;

@@ -62,7 +62,8 @@ impl<'a> Pieces<'a> {
     }
 }
 
-/// The limits that a field names, `depth` and `item` with their numbers; the usual ones, where it doesn't.
+/// The limits that a field names, `depth` and `item` with their numbers; the usual ones, where it
+/// doesn't.
 pub fn limits(row: Row<'_>, number: usize) -> Result<Limits, Fail> {
     let usual = Limits::usual();
     let depth = row.number_behind(number, "depth", u64::from(usual.depth()))?;
@@ -71,15 +72,16 @@ pub fn limits(row: Row<'_>, number: usize) -> Result<Limits, Fail> {
     Ok(limits.ok_or("limits")?)
 }
 
-/// The shared table `t` of version 1 of `x`: it is shorter than each limit that stands beside it in a row.
+/// The shared table `t` of version 1 of `x`: it is shorter than each limit that stands beside it in
+/// a row.
 const TABLE: &str = "$9::{name:\"t\",version:1,symbols:[\"x\"]}";
 
 /// And that of version 3 of `x`, `y` and `z` behind it.
 const TABLES: &str =
     "$9::{name:\"t\",version:1,symbols:[\"x\"]} $9::{name:\"t\",version:3,symbols:[\"x\",\"y\",\"z\"]}";
 
-/// The document of the shared table `t` of version 1, where a field ends in `table t`, of that of version 3 as well, where
-/// it ends in `tables t`, or none.
+/// The document of the shared table `t` of version 1, where a field ends in `table t`, of that of
+/// version 3 as well, where it ends in `tables t`, or none.
 pub fn tables(row: Row<'_>, number: usize) -> Option<&'static str> {
     let field = row.field(number);
     if field.ends_with("tables t") {
@@ -98,7 +100,8 @@ pub fn catalog(alloc: Global, row: Row<'_>, number: usize) -> Result<Catalog, Fa
     Ok(load_catalog(alloc, &mut reader, Limits::usual())??)
 }
 
-/// Fails, where this isn't the answer wanted: the number of values, or the offset and the reason of the refusal.
+/// Fails, where this isn't the answer wanted: the number of values, or the offset and the reason of
+/// the refusal.
 pub fn answers(wanted: &str, answer: Result<u64, Refusal>, told: &mut String) -> Result<(), Fail> {
     told.clear();
     match answer {
@@ -125,7 +128,8 @@ pub fn tell_refusal(refusal: Refusal, told: &mut String) -> Result<(), AllocErro
     write!(told, "{} {}", refusal.offset, refusal.reason.name())
 }
 
-/// Fails, where `check` gives a document another answer, which comes whole, cut once or in single octets.
+/// Fails, where `check` gives a document another answer, which comes whole, cut once or in single
+/// octets.
 pub fn checks(
     alloc: Global,
     document: &[u8],
@@ -208,11 +212,12 @@ fn compares_pieces(
     row.wants(3, told.as_str().trim())
 }
 
-/// `compare` | a document | another | `equivalent` and how many values; `different`, the first value that is, and the path
-/// to where; `left` or `right`, the offset and the reason of its refusal | the shared table.
+/// `compare` | a document | another | `equivalent` and how many values; `different`, the first
+/// value that is, and the path to where; `left` or `right`, the offset and the reason of its
+/// refusal | the shared table.
 ///
-/// Each is cut, the other whole or in single octets; documents that differ are turned as well. Then the command compares
-/// them.
+/// Each is cut, the other whole or in single octets; documents that differ are turned as well. Then
+/// the command compares them.
 pub fn compares(alloc: Global, row: Row<'_>, left: &[u8], told: &mut String) -> Result<(), Fail> {
     let mut right = Vec::new(alloc);
     let tried = match row.put_octets(2, &mut right) {

@@ -1,6 +1,6 @@
-//! Runs the tables of rows whose paths are its arguments: `data/` has them, and each says at its head what its rows are.
-//! Prints each row that has another answer, says what answer on the standard error, and prints how many rows each table
-//! has.
+//! Runs the tables of rows whose paths are its arguments: `data/` has them, and each says at its
+//! head what its rows are. Prints each row that has another answer, says what answer on the
+//! standard error, and prints how many rows each table has.
 #![tactic(auto)]
 
 mod commands;
@@ -31,7 +31,8 @@ fn try_row(alloc: Global, row: Row<'_>) -> Result<(), Fail> {
     tried
 }
 
-/// Tries a row, with room for the octets that its field 1 spells, for those that are written and for what is answered.
+/// Tries a row, with room for the octets that its field 1 spells, for those that are written and
+/// for what is answered.
 fn try_field(
     alloc: Global,
     row: Row<'_>,

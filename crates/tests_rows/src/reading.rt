@@ -1,4 +1,5 @@
-//! What the readers answer on worked documents: whole, in single octets, at every cut, and on each prefix.
+//! What the readers answer on worked documents: whole, in single octets, at every cut, and on each
+//! prefix.
 ghost use Rattle.std.specs.Prelude.{◌≡◌, ℕ, ◌+◌, ◌≤◌, ◌<◌, ◌^◌, ◌∷◌, List, true, length, IfOk, IfSome, None};
 
 use crate::commands::Asked;
@@ -73,7 +74,8 @@ fn take_up<I: Items>(
     requires room { before + length piece.now < 2 ^ 63 }
     requires begins { IfSome (I.awaits reader.old) (λ octet.
         (rest : List ℕ) × (piece.now ≡ octet ∷ rest)) }
-    ensures taken { IfOk result (λ more. more ≡ true → I.taken reader.new ≡ before + length piece.now) }
+    ensures taken { IfOk result (λ more. more ≡ true → I.taken reader.new
+        ≡ before + length piece.now) }
     ensures none { IfOk result (λ more. more ≡ true → I.awaits reader.new ≡ None) }
 {
     let mut at = 0;
@@ -97,7 +99,8 @@ fn take_up<I: Items>(
     }
 }
 
-/// Takes up a document in pieces of `size` octets behind a first one of `cut`; `false` where it is refused.
+/// Takes up a document in pieces of `size` octets behind a first one of `cut`; `false` where it is
+/// refused.
 fn take_pieces<I: Items>(
     reader: &mut I,
     document: &[u8],
@@ -241,8 +244,9 @@ fn is_refused_by(row: Row<'_>, size: u64) -> Result<bool, Fail> {
     }
 }
 
-/// Fails, where the octets up to `size` are answered as they can't be. They are refused as the row is, from the octet on
-/// that decided; fewer are a document, or are refused at their end, in binary always as incomplete.
+/// Fails, where the octets up to `size` are answered as they can't be. They are refused as the row
+/// is, from the octet on that decided; fewer are a document, or are refused at their end, in binary
+/// always as incomplete.
 fn meets_as_prefix(
     row: Row<'_>,
     answers: &Answers,
@@ -267,7 +271,8 @@ fn is_at_end(row: Row<'_>, refusal: Refusal, size: u64) -> Result<(), Fail> {
     Err(Fail::new(format_args!("the first {size} octets: {refusal:?}")))
 }
 
-/// Fails, where a reader of this encoding answers otherwise, in pieces of `size` octets behind a first one of `cut`.
+/// Fails, where a reader of this encoding answers otherwise, in pieces of `size` octets behind a
+/// first one of `cut`.
 fn reads_as(
     reading: &Reading<'_>,
     encoding: &str,
@@ -350,13 +355,13 @@ fn reads_each_cut(
     Ok(())
 }
 
-/// `binary` or `text` | a document | the octets used up to where each value comes; of more than a hundred values, their
-/// number | the offset and the reason of the refusal | limits and the shared table | the values in text, each with a line
-/// feed, where the row tells them.
+/// `binary` or `text` | a document | the octets used up to where each value comes; of more than a
+/// hundred values, their number | the offset and the reason of the refusal | limits and the shared
+/// table | the values in text, each with a line feed, where the row tells them.
 ///
-/// The reader of the encoding and the one that chooses it are asked, with each cut in two pieces and in short ones behind
-/// it, and each prefix in one and in short ones; then `check`, and the command for what the row says. A long document comes
-/// in great pieces alone.
+/// The reader of the encoding and the one that chooses it are asked, with each cut in two pieces
+/// and in short ones behind it, and each prefix in one and in short ones; then `check`, and the
+/// command for what the row says. A long document comes in great pieces alone.
 pub fn reads(alloc: Global, row: Row<'_>, document: &[u8], told: &mut String) -> Result<(), Fail> {
     let limits = limits(row, 4)?;
     let catalog = catalog(alloc, row, 4)?;
@@ -425,8 +430,8 @@ fn answers_this(reading: &Reading<'_>, answer: &str, told: &mut String) -> Resul
     asked.converts_to_text(5, answer)
 }
 
-/// Tells the octets that each step used, with `!` behind them where it gave a value, and then `end`, with `!` where that
-/// gave one.
+/// Tells the octets that each step used, with `!` behind them where it gave a value, and then
+/// `end`, with `!` where that gave one.
 fn tell_steps(answers: &Answers, told: &mut String) -> Result<(), AllocError> {
     told.clear();
     let mut given: usize = 0;
@@ -463,8 +468,9 @@ fn steps_so(
     reading.row.wants(3, told.as_str())
 }
 
-/// `binary steps` or `text steps` | a document | the octets of a piece | the octets that each step uses, with `!` behind
-/// them where it gives a value, and then `end`, with `!` where that gives one.
+/// `binary steps` or `text steps` | a document | the octets of a piece | the octets that each step
+/// uses, with `!` behind them where it gives a value, and then `end`, with `!` where that gives
+/// one.
 pub fn steps(alloc: Global, row: Row<'_>, document: &[u8], told: &mut String) -> Result<(), Fail> {
     let size = row.field(2).parse::<usize>()?;
     if size == 0 || size > 4096 {

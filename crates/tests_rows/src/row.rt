@@ -1,4 +1,5 @@
-//! A row of a table: fields between bars, the first of them what is tried and one of the others the answer wanted.
+//! A row of a table: fields between bars, the first of them what is tried and one of the others the
+//! answer wanted.
 use std::alloc::Global;
 use std::test::Fail;
 
@@ -17,7 +18,8 @@ impl<'a> Row<'a> {
         Some(Row { line })
     }
 
-    /// The field of this number without the blanks around it; the empty text, where the row has fewer fields.
+    /// The field of this number without the blanks around it; the empty text, where the row has
+    /// fewer fields.
     pub fn field(self, number: usize) -> &'a str {
         match self.line.split('|').nth(number) {
             Some(field) => field.trim(),
@@ -25,8 +27,9 @@ impl<'a> Row<'a> {
         }
     }
 
-    /// Puts the octets that a field spells: `M`, a version marker; two hexadecimal digits, an octet; a text between
-    /// backquotes, in which `␊` stands for a line feed and so on; and `1000*` before a text, the text so many times.
+    /// Puts the octets that a field spells: `M`, a version marker; two hexadecimal digits, an
+    /// octet; a text between backquotes, in which `␊` stands for a line feed and so on; and `1000*`
+    /// before a text, the text so many times.
     pub fn put_octets(self, number: usize, octets: &mut Vec<u8>) -> Result<(), Fail> {
         let mut times: u32 = 1;
         for (index, piece) in self.field(number).split('`').enumerate() {

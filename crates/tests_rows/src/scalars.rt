@@ -24,7 +24,8 @@ fn number(sort: &str, octets: &[u8]) -> Result<Number, Reason> {
     }
 }
 
-/// `number`, `timestamp` and `decimal`: a token or a body | the text of its number, or the reason for a refusal.
+/// `number`, `timestamp` and `decimal`: a token or a body | the text of its number, or the reason
+/// for a refusal.
 pub fn spells(row: Row<'_>, octets: &[u8], out: &mut Vec<u8>) -> Result<(), Fail> {
     match number(row.field(0), octets) {
         Ok(number) => {
@@ -50,7 +51,8 @@ fn sign(negative: bool) -> &'static str {
     if negative { "-" } else { "" }
 }
 
-/// The number of a field, whether it is negative, and of fields whose length shows in them how many octets it takes.
+/// The number of a field, whether it is negative, and of fields whose length shows in them how many
+/// octets it takes.
 fn read_field(sort: &str, octets: &[u8]) -> Result<(bool, u128, Option<usize>), Reason> {
     match sort {
         "var_uint" => {
@@ -69,8 +71,8 @@ fn read_field(sort: &str, octets: &[u8]) -> Result<(bool, u128, Option<usize>), 
     }
 }
 
-/// `var_uint` and `var_int`: octets | the number at their front, and how many octets it takes; `uint` and `int`: octets |
-/// the number; or the reason for a refusal.
+/// `var_uint` and `var_int`: octets | the number at their front, and how many octets it takes;
+/// `uint` and `int`: octets | the number; or the reason for a refusal.
 pub fn is_field(row: Row<'_>, octets: &[u8], told: &mut String) -> Result<(), Fail> {
     match read_field(row.field(0), octets) {
         Ok((negative, magnitude, used)) => {

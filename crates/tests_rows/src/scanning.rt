@@ -180,9 +180,9 @@ fn places(name: &str) -> &'static [Place] {
 /// The cuts at which long octets are tried.
 const FEW_CUTS: &[usize] = &[0, 1, 2, 3, 5, 800, 999, 1002, 2000];
 
-/// Where they stand: `top`; `in sexp`, in an s-expression; `sexp`, the first at the top and the others in an s-expression;
-/// `struct`, the first at the top, the name and the value of a field | octets | each token with its span, then `end` or
-/// the refusal.
+/// Where they stand: `top`; `in sexp`, in an s-expression; `sexp`, the first at the top and the
+/// others in an s-expression; `struct`, the first at the top, the name and the value of a field |
+/// octets | each token with its span, then `end` or the refusal.
 pub fn scans(alloc: Global, row: Row<'_>, octets: &[u8], told: &mut String) -> Result<(), Fail> {
     for cut in 0..=octets.len() {
         if octets.len() < 1000 || FEW_CUTS.contains(&cut) {

@@ -6,7 +6,8 @@ use ion_symtab::{Catalog, Context, SharedTable};
 use std::alloc::{AllocError, Global};
 use std::test::Fail;
 
-/// Adds the shared tables in a field, each with its name, version and texts, with commas between them.
+/// Adds the shared tables in a field, each with its name, version and texts, with commas between
+/// them.
 fn add_tables(
     alloc: Global,
     row: Row<'_>,
@@ -89,8 +90,8 @@ fn apply_lists(
     Ok(())
 }
 
-/// Tells what a context answers: the symbol of an id, its greatest id for `max`, and nothing for `reset`, after which it has
-/// the system symbols alone.
+/// Tells what a context answers: the symbol of an id, its greatest id for `max`, and nothing for
+/// `reset`, after which it has the system symbols alone.
 fn tell(context: &mut Context, word: &str, told: &mut String) -> Result<(), Fail> {
     match word {
         "reset" => {
@@ -122,8 +123,9 @@ fn tell_each(context: &mut Context, words: &str, told: &mut String) -> Result<()
     Ok(())
 }
 
-/// `context` | the shared tables | a list of the tables that a context is given | ids, `max` and `reset` in turn | the
-/// reasons for which tables were refused, and the symbol of each id or the reason for which it has none.
+/// `context` | the shared tables | a list of the tables that a context is given | ids, `max` and
+/// `reset` in turn | the reasons for which tables were refused, and the symbol of each id or the
+/// reason for which it has none.
 pub fn resolves(alloc: Global, row: Row<'_>, told: &mut String) -> Result<(), Fail> {
     let mut catalog = Catalog::new(alloc);
     let tried = match add_tables(alloc, row, 1, &mut catalog) {
@@ -165,8 +167,9 @@ fn resolves_behind(
     tried
 }
 
-/// `shared` | a list of shared tables that a catalog is given | names and versions with commas between them | the reasons
-/// for which tables were refused, and of each name and version whether it is there, and whether the name is.
+/// `shared` | a list of shared tables that a catalog is given | names and versions with commas
+/// between them | the reasons for which tables were refused, and of each name and version whether
+/// it is there, and whether the name is.
 pub fn are_found(
     alloc: Global,
     row: Row<'_>,

@@ -1,4 +1,5 @@
-//! Values, read from text: their measures, how two of them stand to each other, and how they are spelled.
+//! Values, read from text: their measures, how two of them stand to each other, and how they are
+//! spelled.
 use crate::row::Row;
 use ion_docs::read_all;
 use ion_model::{
@@ -162,7 +163,8 @@ fn is_normal(alloc: Global, row: Row<'_>, normal: &Value) -> Result<(), Fail> {
     Err(Fail::new(format_args!("not so, but: {normal:?}")))
 }
 
-/// `path` | a value | another | `at` and the path to where they part, whichever comes first, or `none`.
+/// `path` | a value | another | `at` and the path to where they part, whichever comes first, or
+/// `none`.
 fn part(
     alloc: Global,
     row: Row<'_>,

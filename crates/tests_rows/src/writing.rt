@@ -1,4 +1,5 @@
-//! What is written of documents, a line for each value or a conversion, however the octets come and go.
+//! What is written of documents, a line for each value or a conversion, however the octets come and
+//! go.
 use crate::commands::Asked;
 use crate::documents::{Pieces, WHOLE, answers, catalog, limits};
 use crate::row::{Row, are_so};
@@ -26,8 +27,8 @@ struct Wanted<'a> {
     answer: &'a str,
 }
 
-/// Puts what is written of a document, where a call takes so many octets at most and one call fails; what the lines or
-/// the conversion answer.
+/// Puts what is written of a document, where a call takes so many octets at most and one call
+/// fails; what the lines or the conversion answer.
 fn put_written(
     writing: Writing<'_>,
     pieces: Pieces<'_>,
@@ -61,8 +62,9 @@ fn write(
     }
 }
 
-/// Fails, where anything else is written or answered: however the octets come, and however few a call takes. Each call
-/// fails once, the flush behind the last too: then what was written before stands.
+/// Fails, where anything else is written or answered: however the octets come, and however few a
+/// call takes. Each call fails once, the flush behind the last too: then what was written before
+/// stands.
 fn writes(writing: Writing<'_>, wanted: Wanted<'_>, told: &mut String) -> Result<(), Fail> {
     let mut taken = Vec::new(writing.alloc);
     let tried = match writes_each_cut(writing, wanted, &mut taken, told) {
@@ -113,7 +115,8 @@ fn fails_at_each_call(
     Ok(())
 }
 
-/// Fails, where the failing of the call behind so many is not the answer, or not so many octets were written.
+/// Fails, where the failing of the call behind so many is not the answer, or not so many octets
+/// were written.
 fn fails_at(
     writing: Writing<'_>,
     wanted: Wanted<'_>,
@@ -131,7 +134,8 @@ fn fails_at(
     }
 }
 
-/// Fails, where anything else is written of a row's document than field `number` spells, by the call or by the command.
+/// Fails, where anything else is written of a row's document than field `number` spells, by the
+/// call or by the command.
 fn is_written(
     asked: Asked<'_>,
     writing: Writing<'_>,
@@ -164,8 +168,8 @@ fn both_write(
     }
 }
 
-/// `show` | a document | the lines | how many values, or the offset and the reason of the refusal | limits and the shared
-/// table.
+/// `show` | a document | the lines | how many values, or the offset and the reason of the refusal |
+/// limits and the shared table.
 pub fn shows(alloc: Global, row: Row<'_>, document: &[u8], told: &mut String) -> Result<(), Fail> {
     let limits = limits(row, 4)?;
     let catalog = catalog(alloc, row, 4)?;
@@ -187,8 +191,8 @@ pub fn shows(alloc: Global, row: Row<'_>, document: &[u8], told: &mut String) ->
     tried
 }
 
-/// `convert` | a document | its conversion to binary | and to text | how many values, or the offset and the reason of the
-/// refusal | limits and the shared table.
+/// `convert` | a document | its conversion to binary | and to text | how many values, or the offset
+/// and the reason of the refusal | limits and the shared table.
 ///
 /// What was written is read as the same stream, and converted once more is as it was.
 pub fn converts(

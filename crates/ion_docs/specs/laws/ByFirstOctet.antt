@@ -38,8 +38,10 @@ module _ (F D : Format) (open_f open_d : List ℕ → List ℕ → Type 0) (firs
       front = h.front;
       open_rest = h.open_rest;
       parts = h.parts;
-      whole = λ following octets. (alike.pieces h.front (h.open_rest ++ following) (w ++ following) s (followed h.front h.open_rest w following h.parts)).0 (h.whole following octets);
-      longest = λ v rest t e p. h.longest v rest t e (λ following octets. (alike.pieces v (rest ++ following) (w ++ following) t (followed v rest w following e)).1 (p following octets));
+      whole = λ following octets. (alike.pieces h.front (h.open_rest ++ following) (w ++ following) s (followed h.front h.open_rest w following h.parts)).0
+          (h.whole following octets);
+      longest = λ v rest t e p. h.longest v rest t e (λ following octets.
+          (alike.pieces v (rest ++ following) (w ++ following) t (followed v rest w following e)).1 (p following octets));
     }
 
     -- a document begins with no octet at all, so a refusal counts one at least
@@ -50,7 +52,8 @@ module _ (F D : Format) (open_f open_d : List ℕ → List ℕ → Type 0) (firs
     none_there zero w none = absurd (nothing_begins none)
     none_there (suc n) w none = λ rest s d. none rest s ((alike.document (take n w ++ rest) s).1 d)
 
-    front_there : (n : ℕ) (w : List ℕ) (s : List Value) → BeginsNone F.denotes (take n (first ∷ w)) → Shown F.pieces (take n (first ∷ w)) s → Shown D.pieces (take n (first ∷ w)) s
+    front_there : (n : ℕ) (w : List ℕ) (s : List Value) → BeginsNone F.denotes (take n (first ∷ w)) → Shown F.pieces (take n (first ∷ w)) s
+        → Shown D.pieces (take n (first ∷ w)) s
     front_there zero w s none h = absurd (nothing_begins none)
     front_there (suc n) w s none h = shown_there (take n w) s h
 
@@ -64,7 +67,8 @@ module _ (F D : Format) (open_f open_d : List ℕ → List ℕ → Type 0) (firs
       before_end = h.before_end;
     }
 
-    alone_there : (n : ℕ) (w : List ℕ) (r : Refusal) → BeginsNone F.denotes (take n (first ∷ w)) → (F.trace (take n (first ∷ w))).refused ≡ Some r → (D.trace (take n (first ∷ w))).refused ≡ Some r
+    alone_there : (n : ℕ) (w : List ℕ) (r : Refusal) → BeginsNone F.denotes (take n (first ∷ w)) → (F.trace (take n (first ∷ w))).refused ≡ Some r
+        → (D.trace (take n (first ∷ w))).refused ≡ Some r
     alone_there zero w r none h = absurd (nothing_begins none)
     alone_there (suc n) w r none h = ap (λ (t : Trace). t.refused) (sym (alike.same (take n w))) ∙ h
 
@@ -72,7 +76,8 @@ module _ (F D : Format) (open_f open_d : List ℕ → List ℕ → Type 0) (firs
     before_there zero w h = alike.begun
     before_there (suc n) w h = ap (λ (t : Trace). t.refused) (sym (alike.same (take n w))) ∙ h
 
-    first_there : (w : List ℕ) (t : Trace) (r : Refusal) → Refuses F.denotes F.pieces (first ∷ w) t r → IsFirst F.trace (first ∷ w) r → IsFirst D.trace (first ∷ w) r
+    first_there : (w : List ℕ) (t : Trace) (r : Refusal) → Refuses F.denotes F.pieces (first ∷ w) t r → IsFirst F.trace (first ∷ w) r
+        → IsFirst D.trace (first ∷ w) r
     first_there w t r refuses h = record { alone = alone_there r.offset w r refuses.none h.alone; before = λ k less. before_there k w (h.before k less) }
 
     shows_there : (w : List ℕ) (s : List Value) → Shows F.pieces open_f (first ∷ w) s → Shows D.pieces open_d (first ∷ w) s

@@ -70,7 +70,8 @@ stream_kept g l u s texts octets (in_binary h d) = binary_kept.document_kept g l
 stream_kept g l u s texts octets (in_text h d) = text_kept.document_kept g l texts u s d
 
 -- so what is written of the stream of a document of octets denotes it
-pub again_denotes : (target : Target) (g : Catalog) (l : Limits) (u : List ℕ) (s : List Value) → AreTextTables g → AreOctets u → Denotes g l u s → DenotesAnywhere (encoding_of target) ((encoding_of target).document s) s
+pub again_denotes : (target : Target) (g : Catalog) (l : Limits) (u : List ℕ) (s : List Value) → AreTextTables g → AreOctets u → Denotes g l u s
+    → DenotesAnywhere (encoding_of target) ((encoding_of target).document s) s
 again_denotes target g l u s texts octets d = written_denotes target s (stream_kept g l u s texts octets d) (stream_values g l u s d)
 
 piece_values : (g : Catalog) (l : Limits) (u following : List ℕ) (s : List Value) → Pieces g l u following s → NoTables s
@@ -81,13 +82,22 @@ module _ {S T : Type 0} (R : Inlet S) (W : Outlet T) (g : Catalog) (l : Limits) 
   -- no value that was read is a local symbol table
   read_values : (answer : Result ℕ Refusal) (s : List Value) → WasRead R (documents g l) first now answer s → NoTables s
   read_values (Ok values) s told = stream_values g l told.octets s told.denoted
-  read_values (Err refusal) s told = let shown = (told.refused [] (λ _. refl)).shown in piece_values g l shown.front (shown.open_rest ++ []) s (shown.whole [] tt)
+  read_values (Err refusal) s told = let shown = (told.refused [] (λ _. refl)).shown in
+      piece_values g l shown.front (shown.open_rest ++ []) s (shown.whole [] tt)
 
   -- what was read is what the octets written denote
-  keeps_stream : (target : Target) (answer : Result ℕ Refusal) → WritesKept R W (encoding_of target) (documents g l) first now old new answer → KeepsStream R W (encoding_of target) g l first now old new answer
-  keeps_stream target answer (s, read, kept, wrote) = (s, read, (encoding_of target).document s, wrote, written_denotes target s kept (read_values answer s read))
+  keeps_stream : (target : Target) (answer : Result ℕ Refusal) → WritesKept R W (encoding_of target) (documents g l) first now old new answer
+      → KeepsStream R W (encoding_of target) g l first now old new answer
+  keeps_stream target answer (s, read, kept, wrote) = (
+    s,
+    read,
+    (encoding_of target).document s,
+    wrote,
+    written_denotes target s kept (read_values answer s read),
+  )
 
   -- so for a whole call
-  pub keeps_if : (target : Target) (r : Result (Result ℕ Refusal) Fault) → IfOk r (WritesKept R W (encoding_of target) (documents g l) first now old new) → IfOk r (KeepsStream R W (encoding_of target) g l first now old new)
+  pub keeps_if : (target : Target) (r : Result (Result ℕ Refusal) Fault) → IfOk r (WritesKept R W (encoding_of target) (documents g l) first now old new)
+      → IfOk r (KeepsStream R W (encoding_of target) g l first now old new)
   keeps_if target (Ok answer) h = keeps_stream target answer h
   keeps_if target (Err fault) h = tt

@@ -113,7 +113,8 @@ module _ (g : Catalog) (l : Limits) where
   text_document u s h (in_text k d) = d
   text_document u s h (in_binary k d) = differ (is_binary u) k h
 
-  text_front : (front following : List ℕ) (s : List Value) → is_binary (front ++ following) ≡ false → Pieces g l front following s → text.Whole g l front following s
+  text_front : (front following : List ℕ) (s : List Value) → is_binary (front ++ following) ≡ false → Pieces g l front following s
+      → text.Whole g l front following s
   text_front front following s h (text_pieces k p) = p
   text_front front following s h (binary_pieces k p) = differ (is_binary (front ++ following)) k h
 
@@ -179,8 +180,10 @@ module _ (g : Catalog) (l : Limits) where
   promised (first ∷ w) = by (first == 0xE0) refl
     where
       by : (b : Bool) → (first == 0xE0) ≡ b → Promised (documents g l) (OpenAfter l) l.item (first ∷ w) (chosen g l (first ∷ w))
-      by true h = carried in_binary_alone (documents g l) (λ front rest. binary.OpenRest l rest) (OpenAfter l) first (binary_alike first h) l.item w (binary_promised (first ∷ w))
-      by false h = carried in_text_alone (documents g l) (λ front rest. text.OpenRest l rest) (OpenAfter l) first (text_alike first h) l.item w (text_promised (first ∷ w))
+      by true h = carried in_binary_alone (documents g l) (λ front rest. binary.OpenRest l rest) (OpenAfter l) first (binary_alike first h) l.item w
+          (binary_promised (first ∷ w))
+      by false h = carried in_text_alone (documents g l) (λ front rest. text.OpenRest l rest) (OpenAfter l) first (text_alike first h) l.item w
+          (text_promised (first ∷ w))
 
   -- 6. Documents and whole pieces.
   pub document_pieces : (u : List ℕ) (s : List Value) → Denotes g l u s → HasPieces (Pieces g l) (OpenAfter l) u s
@@ -199,7 +202,8 @@ module _ (g : Catalog) (l : Limits) where
   whole_document (x ∷ u) following s (text_pieces h p) some = in_text h (text_alone.whole_document g l (x ∷ u) following s p)
 
   -- 7. Between whole pieces with the values before a value and whole pieces with it stand at least as many octets as it has nodes.
-  pub nodes_between : (front span behind : List ℕ) (before : List Value) (v : Value) → Pieces g l front (span ++ behind) before → Pieces g l (front ++ span) behind (before ++ v ∷ []) → nodes v ≤ length span
+  pub nodes_between : (front span behind : List ℕ) (before : List Value) (v : Value) → Pieces g l front (span ++ behind) before
+      → Pieces g l (front ++ span) behind (before ++ v ∷ []) → nodes v ≤ length span
   nodes_between front span behind before v (binary_pieces h p) (binary_pieces k q) = binary_apart.nodes_between g l front span before v p q
   nodes_between front span behind before v (text_pieces h p) (text_pieces k q) = text_apart.nodes_between g l front span behind before v p q
   nodes_between front span behind before v (binary_pieces h p) (text_pieces k q) =

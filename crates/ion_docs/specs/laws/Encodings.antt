@@ -29,7 +29,8 @@ pub behind_one : (p : Progress) (s : List Value) (v : Value) → binary.after (b
 behind_one p s v = sym (behind_more p s (v ∷ []))
 
 -- what keeps a value from being put behind others keeps all of them
-pub binary_fault : (s : List Value) (v : Value) (failed : Bool) (fault : Fault) → binary_writing.IsWritingFault (binary.names_after (behind nothing_yet s).names v) failed fault → IsPuttingFault binary_encoding (s ++ v ∷ []) failed fault
+pub binary_fault : (s : List Value) (v : Value) (failed : Bool) (fault : Fault)
+    → binary_writing.IsWritingFault (binary.names_after (behind nothing_yet s).names v) failed fault → IsPuttingFault binary_encoding (s ++ v ∷ []) failed fault
 binary_fault s v failed Memory h = tt
 binary_fault s v failed Write h = h
 binary_fault s v failed TooLarge h = subst (λ (p : Progress). binary_writing.NeedsLargeId p.names) (behind_one nothing_yet s v) h

@@ -54,11 +54,15 @@ module _ (d : DocReader) where
   format_not_failed (Text r) u s h = text_stands.not_failed r u s h.0
 
   -- what the reader that was chosen says is what is chosen
-  binary_says : (r : BinaryReader) (u w : List ℕ) (s : List (Value × ℕ)) → FormatStands d (Binary r) u s → doc_trace (u ++ w) ≡ binary.trace r.catalog.now r.limits (u ++ w)
-  binary_says r u w s h = chosen_in true d.catalog.now d.limits (u ++ w) (begins_on true u w h.1) ∙ ap (λ (t : List ℕ → Trace). t (u ++ w)) (same_trace true d.catalog.now r.catalog.now d.limits r.limits (sym h.3) (sym h.2))
+  binary_says : (r : BinaryReader) (u w : List ℕ) (s : List (Value × ℕ)) → FormatStands d (Binary r) u s
+      → doc_trace (u ++ w) ≡ binary.trace r.catalog.now r.limits (u ++ w)
+  binary_says r u w s h = chosen_in true d.catalog.now d.limits (u ++ w) (begins_on true u w h.1)
+      ∙ ap (λ (t : List ℕ → Trace). t (u ++ w)) (same_trace true d.catalog.now r.catalog.now d.limits r.limits (sym h.3) (sym h.2))
 
-  text_says : (r : TextReader) (u w : List ℕ) (s : List (Value × ℕ)) → FormatStands d (Text r) u s → doc_trace (u ++ w) ≡ text.trace r.catalog.now r.limits (u ++ w)
-  text_says r u w s h = chosen_in false d.catalog.now d.limits (u ++ w) (begins_on false u w h.1) ∙ ap (λ (t : List ℕ → Trace). t (u ++ w)) (same_trace false d.catalog.now r.catalog.now d.limits r.limits (sym h.3) (sym h.2))
+  text_says : (r : TextReader) (u w : List ℕ) (s : List (Value × ℕ)) → FormatStands d (Text r) u s
+      → doc_trace (u ++ w) ≡ text.trace r.catalog.now r.limits (u ++ w)
+  text_says r u w s h = chosen_in false d.catalog.now d.limits (u ++ w) (begins_on false u w h.1)
+      ∙ ap (λ (t : List ℕ → Trace). t (u ++ w)) (same_trace false d.catalog.now r.catalog.now d.limits r.limits (sym h.3) (sym h.2))
 
   format_not_refused : (f : Format) (u : List ℕ) (s : List (Value × ℕ)) → FormatStands d f u s → (doc_trace u).refused ≡ None
   format_not_refused Unbegun u s h = ap (λ u. (doc_trace u).refused) h.0
@@ -77,12 +81,14 @@ module _ (d : DocReader) where
   each_some P Q None f h = h
   each_some P Q (Some x) f h = f x h
 
-  format_given_next : (f : Format) (u : List ℕ) (s : List (Value × ℕ)) → FormatStands d f u s → IfSome (awaits_of f) (λ octet. IsFront s (doc_trace (u ++ octet ∷ [])).given)
+  format_given_next : (f : Format) (u : List ℕ) (s : List (Value × ℕ)) → FormatStands d f u s
+      → IfSome (awaits_of f) (λ octet. IsFront s (doc_trace (u ++ octet ∷ [])).given)
   format_given_next Unbegun u s h = tt
   format_given_next (Refused refusal) u s h = tt
   format_given_next (Binary r) u s h = tt
   format_given_next (Text r) u s h =
-      each_some (λ octet. IsFront s (text.trace r.catalog.now r.limits (u ++ octet ∷ [])).given) (λ octet. IsFront s (doc_trace (u ++ octet ∷ [])).given) r.awaited
+      each_some (λ octet. IsFront s (text.trace r.catalog.now r.limits (u ++ octet ∷ [])).given) (λ octet. IsFront s (doc_trace (u ++ octet ∷ [])).given)
+      r.awaited
       (λ octet. subst (λ (t : Trace). IsFront s t.given) (sym (text_says r u (octet ∷ []) s h))) (text_stands.given_with_next r u s h.0)
 
   -- 3. Octets that are kept are of one item.
@@ -101,10 +107,12 @@ doc_not_failed d = format_not_failed d d.format
 pub doc_not_refused : (d : DocReader) (u : List ℕ) (s : List (Value × ℕ)) → DocStands d u s → (chosen d.catalog.now d.limits u).refused ≡ None
 doc_not_refused d = format_not_refused d d.format
 
-pub doc_given : (d : DocReader) (u : List ℕ) (s : List (Value × ℕ)) → DocStands d u s → IsNone (awaits_of d.format) → (chosen d.catalog.now d.limits u).given ≡ s
+pub doc_given : (d : DocReader) (u : List ℕ) (s : List (Value × ℕ)) → DocStands d u s → IsNone (awaits_of d.format) → (chosen d.catalog.now d.limits u).given
+    ≡ s
 doc_given d = format_given d d.format
 
-pub doc_given_next : (d : DocReader) (u : List ℕ) (s : List (Value × ℕ)) → DocStands d u s → IfSome (awaits_of d.format) (λ octet. IsFront s (chosen d.catalog.now d.limits (u ++ octet ∷ [])).given)
+pub doc_given_next : (d : DocReader) (u : List ℕ) (s : List (Value × ℕ)) → DocStands d u s
+    → IfSome (awaits_of d.format) (λ octet. IsFront s (chosen d.catalog.now d.limits (u ++ octet ∷ [])).given)
 doc_given_next d = format_given_next d d.format
 
 pub doc_bounded : (d : DocReader) (u : List ℕ) (s : List (Value × ℕ)) → DocStands d u s → kept_of d.format ≤ d.limits.item

@@ -69,7 +69,8 @@ pub record IsWithin {S X : Type 0} (R : Inlet S) (reads : ℕ) (first now : S) (
   pub rest : made + source.reads ≡ reads
 
 module _ {S X : Type 0} (R : Inlet S) (I : Items X) (g : Catalog) (l : Limits) where
-  -- From first to now the device handed over octets, and answered the end behind them or hasn't; those that the reader used gave these values, each with the total when it came, under this catalog and these limits, and the others are left.
+  -- From first to now the device handed over octets, and answered the end behind them or hasn't; those that the reader used gave these values, each with the
+  -- total when it came, under this catalog and these limits, and the others are left.
   pub record GaveEach (first now : S) (items : X) (left : List ℕ) (ended : Bool) (given : List (Value × ℕ)) : Type 0 where
     pub u : List ℕ
     pub heard : Heard R first now (u ++ left) ended

@@ -71,7 +71,8 @@ IfRefused (Refused refusal) P = P
 -- Behind these values no more was found; or one more was, with the total of octets when it came, of which this is told, and nothing was refused.
 abbrev pub GaveNext : {S X A : Type 0} → (Value → A) → Inlet S → Items X → Catalog → Limits → S → S → Standing X → List (Value × ℕ) → Option (A × ℕ) → Type 0
 GaveNext of R I g l first now place given None = StoodEach R I g l first now place given
-GaveNext of R I g l first now place given (Some found) = (value : Value) × (of value ≡ found.0) × StoodEach R I g l first now place (given ++ (value, found.1) ∷ []) × IfRefused place ⊥
+GaveNext of R I g l first now place given (Some found) =
+    (value : Value) × (of value ≡ found.0) × StoodEach R I g l first now place (given ++ (value, found.1) ∷ []) × IfRefused place ⊥
 
 -- this answer, or the refusal of what is no document
 abbrev pub answered : {X A : Type 0} → Standing X → A → Result A Refusal

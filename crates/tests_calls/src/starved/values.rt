@@ -1,5 +1,6 @@
-//! Calls that get no memory once: each gives its own answer or `Memory`, keeps what it says that it keeps, and asked
-//! again gives its own answer. `tests/starved.py` refuses each growth in turn; elsewhere none is refused.
+//! Calls that get no memory once: each gives its own answer or `Memory`, keeps what it says that it
+//! keeps, and asked again gives its own answer. `tests/starved.py` refuses each growth in turn;
+//! elsewhere none is refused.
 use super::tables::{catalog, local, value};
 use crate::answers::{holds, same, same_or_starved};
 use ion_model::{Reason, Value, equivalent, normalise, parting, same_slow};

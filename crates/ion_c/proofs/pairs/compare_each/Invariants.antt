@@ -5,4 +5,5 @@ use Rattle.ion_c.specs.declared.pairs.Pair.{Pair}
 use Rattle.ion_c.proofs.pairs.compare_each.Given as goal
 
 abbrev pub invariant-loop-i : goal.invariant-loop-i
-invariant-loop-i l = (k : ℕ) (pair : Pair) (answer : Answer) → k < l.i → slice_get l.pairs k ≡ Some pair → slice_get l.answers k ≡ Some answer → IsAnsweredPair l.catalog l.fn.depth l.fn.item pair answer
+invariant-loop-i l = (k : ℕ) (pair : Pair) (answer : Answer) → k < l.i → slice_get l.pairs k ≡ Some pair → slice_get l.answers k ≡ Some answer
+    → IsAnsweredPair l.catalog l.fn.depth l.fn.item pair answer

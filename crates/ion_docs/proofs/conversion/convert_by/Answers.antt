@@ -20,8 +20,10 @@ returns-in-Some-Err-clause-so_far g c =
     let found = rw c.in-Some-Err.field-0-is at c.in-Some-Err.ensures.carries in
     let s = r.0 ++ found.0 ∷ [] in
     let stood = past_stood g.I.Items g.R.Inlet _ _ c.args.reader.now c.loop-fault.reader c.loop-fault.place c.carry.new.self found.0 r.0 found.1 r.1 in
-    let front = took_some g.W.Outlet c.args.writer.now c.loop-fault.writer c.carry.new.out (g.E.Encoder.puts r.0) (g.E.Encoder.puts s) r.4 (found.2.front r.0 r.3) in
-    so_far s (was_read g.R.Inlet g.I.Items _ _ _ _ c.carry.new.self s stood) (front_of_front g.W.Outlet c.args.writer.now c.carry.new.out (g.E.Encoder.puts s) (g.E.Encoder.encoding.document s) front (g.met.E.Encoder.fronts s))
+    let front = took_some g.W.Outlet c.args.writer.now c.loop-fault.writer c.carry.new.out (g.E.Encoder.puts r.0) (g.E.Encoder.puts s) r.4
+    (found.2.front r.0 r.3) in
+    so_far s (was_read g.R.Inlet g.I.Items _ _ _ _ c.carry.new.self s stood)
+    (front_of_front g.W.Outlet c.args.writer.now c.carry.new.out (g.E.Encoder.puts s) (g.E.Encoder.encoding.document s) front (g.met.E.Encoder.fronts s))
 
 pub returns-in-Some-Err-clause-cause : goal.returns-in-Some-Err-clause-cause
 returns-in-Some-Err-clause-cause g c =
@@ -29,7 +31,8 @@ returns-in-Some-Err-clause-cause g c =
     let found = rw c.in-Some-Err.field-0-is at c.in-Some-Err.ensures.carries in
     let s = r.0 ++ found.0 ∷ [] in
     let stood = past_stood g.I.Items g.R.Inlet _ _ c.args.reader.now c.loop-fault.reader c.loop-fault.place c.carry.new.self found.0 r.0 found.1 r.1 in
-    inr (put_cause g.E.Encoder.encoding (ReadSoFar g.R.Inlet g.I.Items (g.I.Items.catalog c.args.items) (g.I.Items.limits c.args.items) c.args.reader.now c.loop-fault.reader)
+    inr (put_cause g.E.Encoder.encoding (ReadSoFar g.R.Inlet g.I.Items (g.I.Items.catalog c.args.items) (g.I.Items.limits c.args.items) c.args.reader.now
+    c.loop-fault.reader)
     (g.W.Outlet.has_failed c.carry.new.out) s _ (was_read g.R.Inlet g.I.Items _ _ _ _ c.carry.new.self s stood) (found.2.cause r.0 r.3))
 
 pub loop-fault-preserved-in-Some-Ok : goal.loop-fault-preserved-in-Some-Ok
@@ -68,43 +71,53 @@ loop-fault-preserved-in-Some-Ok g c =
 -- a value was read
 pub returns-in_err-advance-clause-so_far : goal.returns-in_err-advance-clause-so_far
 returns-in_err-advance-clause-so_far g c =
-    let r = as_it_was (Done g.R.Inlet g.I.Items g.E.Encoder g.W.Outlet (g.I.Items.catalog c.args.items) (g.I.Items.limits c.args.items) c.args.reader.now c.args.writer.now c.loop-fault.reader c.loop-fault.values)
+    let r = as_it_was (Done g.R.Inlet g.I.Items g.E.Encoder g.W.Outlet (g.I.Items.catalog c.args.items) (g.I.Items.limits c.args.items) c.args.reader.now
+    c.args.writer.now c.loop-fault.reader c.loop-fault.values)
     (c.in-None.ensures.stays refl) c.loop-fault.invariant.done in
     on_err c.from_residual-in_err-advance.result _ (so_far r.0 (in_reading (c.in_err-advance.ensures.kept _ _ _ r.0 r.1))
     (took_front g.W.Outlet c.args.writer.now c.carry.new.out (g.E.Encoder.puts r.0) (g.E.Encoder.encoding.document r.0) r.4 (g.met.E.Encoder.fronts r.0)))
 
 pub returns-in_err-put-in-Some-clause-so_far : goal.returns-in_err-put-in-Some-clause-so_far
 returns-in_err-put-in-Some-clause-so_far g c =
-    let r = as_it_was (Done g.R.Inlet g.I.Items g.E.Encoder g.W.Outlet (g.I.Items.catalog c.args.items) (g.I.Items.limits c.args.items) c.args.reader.now c.args.writer.now c.loop-fault.reader c.loop-fault.values)
+    let r = as_it_was (Done g.R.Inlet g.I.Items g.E.Encoder g.W.Outlet (g.I.Items.catalog c.args.items) (g.I.Items.limits c.args.items) c.args.reader.now
+    c.args.writer.now c.loop-fault.reader c.loop-fault.values)
     (c.in-None.ensures.stays refl) c.loop-fault.invariant.done in
     let s = r.0 ++ c.in-Some.value ∷ [] in
     let value = ap (λ (x : Option (Value × ℕ)). option_map (λ (y : Value × ℕ). y.0) x) (sym c.in-Some.is) in
-    let stood = stood_next g.R.Inlet g.I.Items _ _ c.args.reader.now c.loop-fault.reader c.advance.new.reader c.carry.new.self c.advance.new.self r.0 c.in_ok-advance.field-0 (Some c.in-Some.value) value
+    let stood = stood_next g.R.Inlet g.I.Items _ _ c.args.reader.now c.loop-fault.reader c.advance.new.reader c.carry.new.self c.advance.new.self r.0
+    c.in_ok-advance.field-0 (Some c.in-Some.value) value
     c.in_ok-advance.ensures.closed (c.in_ok-advance.ensures.gives _ _ _) r.1 in
-    let front = took_some g.W.Outlet c.args.writer.now c.carry.new.out c.put-put.new.out (g.E.Encoder.puts r.0) (g.E.Encoder.puts s) r.4 (c.in_err-put-in-Some.ensures.front r.0 r.3) in
+    let front = took_some g.W.Outlet c.args.writer.now c.carry.new.out c.put-put.new.out (g.E.Encoder.puts r.0) (g.E.Encoder.puts s) r.4
+    (c.in_err-put-in-Some.ensures.front r.0 r.3) in
     on_err c.from_residual-in_err-put-in-Some.result _ (so_far s (was_read g.R.Inlet g.I.Items _ _ _ _ c.advance.new.self s stood)
     (front_of_front g.W.Outlet c.args.writer.now c.put-put.new.out (g.E.Encoder.puts s) (g.E.Encoder.encoding.document s) front (g.met.E.Encoder.fronts s)))
 
 pub returns-in_err-put-in-Some-clause-cause : goal.returns-in_err-put-in-Some-clause-cause
 returns-in_err-put-in-Some-clause-cause g c =
-    let r = as_it_was (Done g.R.Inlet g.I.Items g.E.Encoder g.W.Outlet (g.I.Items.catalog c.args.items) (g.I.Items.limits c.args.items) c.args.reader.now c.args.writer.now c.loop-fault.reader c.loop-fault.values)
+    let r = as_it_was (Done g.R.Inlet g.I.Items g.E.Encoder g.W.Outlet (g.I.Items.catalog c.args.items) (g.I.Items.limits c.args.items) c.args.reader.now
+    c.args.writer.now c.loop-fault.reader c.loop-fault.values)
     (c.in-None.ensures.stays refl) c.loop-fault.invariant.done in
     let s = r.0 ++ c.in-Some.value ∷ [] in
     let value = ap (λ (x : Option (Value × ℕ)). option_map (λ (y : Value × ℕ). y.0) x) (sym c.in-Some.is) in
-    let stood = stood_next g.R.Inlet g.I.Items _ _ c.args.reader.now c.loop-fault.reader c.advance.new.reader c.carry.new.self c.advance.new.self r.0 c.in_ok-advance.field-0 (Some c.in-Some.value) value
+    let stood = stood_next g.R.Inlet g.I.Items _ _ c.args.reader.now c.loop-fault.reader c.advance.new.reader c.carry.new.self c.advance.new.self r.0
+    c.in_ok-advance.field-0 (Some c.in-Some.value) value
     c.in_ok-advance.ensures.closed (c.in_ok-advance.ensures.gives _ _ _) r.1 in
     let p = err_from_is_err_and c.from_residual-in_err-put-in-Some.result c.from_residual-in_err-put-in-Some.ensures.1 in
-    rw (p.1, p.2) (inr (put_cause g.E.Encoder.encoding (ReadSoFar g.R.Inlet g.I.Items (g.I.Items.catalog c.args.items) (g.I.Items.limits c.args.items) c.args.reader.now c.advance.new.reader)
-    (g.W.Outlet.has_failed c.put-put.new.out) s _ (was_read g.R.Inlet g.I.Items _ _ _ _ c.advance.new.self s stood) (c.in_err-put-in-Some.ensures.cause r.0 r.3)))
+    rw (p.1, p.2) (inr (put_cause g.E.Encoder.encoding (ReadSoFar g.R.Inlet g.I.Items (g.I.Items.catalog c.args.items) (g.I.Items.limits c.args.items)
+    c.args.reader.now c.advance.new.reader)
+    (g.W.Outlet.has_failed c.put-put.new.out) s _ (was_read g.R.Inlet g.I.Items _ _ _ _ c.advance.new.self s stood)
+    (c.in_err-put-in-Some.ensures.cause r.0 r.3)))
 
 pub loop-fault-preserved : goal.loop-fault-preserved
 loop-fault-preserved g c =
     let i = c.loop-fault.invariant in
-    let r = as_it_was (Done g.R.Inlet g.I.Items g.E.Encoder g.W.Outlet (g.I.Items.catalog c.args.items) (g.I.Items.limits c.args.items) c.args.reader.now c.args.writer.now c.loop-fault.reader c.loop-fault.values)
+    let r = as_it_was (Done g.R.Inlet g.I.Items g.E.Encoder g.W.Outlet (g.I.Items.catalog c.args.items) (g.I.Items.limits c.args.items) c.args.reader.now
+    c.args.writer.now c.loop-fault.reader c.loop-fault.values)
     (c.in-None.ensures.stays refl) c.loop-fault.invariant.done in
     let s = r.0 ++ c.in-Some.value ∷ [] in
     let value = ap (λ (x : Option (Value × ℕ)). option_map (λ (y : Value × ℕ). y.0) x) (sym c.in-Some.is) in
-    let stood = stood_next g.R.Inlet g.I.Items _ _ c.args.reader.now c.loop-fault.reader c.advance.new.reader c.carry.new.self c.advance.new.self r.0 c.in_ok-advance.field-0 (Some c.in-Some.value) value
+    let stood = stood_next g.R.Inlet g.I.Items _ _ c.args.reader.now c.loop-fault.reader c.advance.new.reader c.carry.new.self c.advance.new.self r.0
+    c.in_ok-advance.field-0 (Some c.in-Some.value) value
     c.in_ok-advance.ensures.closed (c.in_ok-advance.ensures.gives _ _ _) r.1 in
     let same = (c.in-None.ensures.stays refl).0 in
     let next = c.in_ok-advance.ensures in
@@ -117,7 +130,8 @@ loop-fault-preserved g c =
     let less = rw c.in-Some.is at next.less in
     let spent = less refl in
     record {
-      driven = driven_on g.R.Inlet g.I.Items c.args.reads c.args.reader.now c.loop-fault.reader c.advance.new.reader c.carry.new.self c.advance.new.self (rw same i.driven) next.ready next.unasked next.no_read_failed next.within;
+      driven = driven_on g.R.Inlet g.I.Items c.args.reads c.args.reader.now c.loop-fault.reader c.advance.new.reader c.carry.new.self c.advance.new.self
+          (rw same i.driven) next.ready next.unasked next.no_read_failed next.within;
       bound = omega (arith, bound, work, spent);
       asked = omega (arith, asked, reads, next.few_calls);
       handed = omega (arith, handed, reads, next.few_octets);
@@ -134,27 +148,40 @@ loop-fault-preserved g c =
 -- no value is left
 pub returns-in_err-finish-clause-so_far : goal.returns-in_err-finish-clause-so_far
 returns-in_err-finish-clause-so_far g c =
-    let r = as_it_was (Done g.R.Inlet g.I.Items g.E.Encoder g.W.Outlet (g.I.Items.catalog c.args.items) (g.I.Items.limits c.args.items) c.args.reader.now c.args.writer.now c.loop-fault.reader c.loop-fault.values)
+    let r = as_it_was (Done g.R.Inlet g.I.Items g.E.Encoder g.W.Outlet (g.I.Items.catalog c.args.items) (g.I.Items.limits c.args.items) c.args.reader.now
+    c.args.writer.now c.loop-fault.reader c.loop-fault.values)
     (c.in-None.ensures.stays refl) c.loop-fault.invariant.done in
-    let stood = stood_still g.R.Inlet g.I.Items _ _ c.args.reader.now c.loop-fault.reader c.advance.new.reader c.carry.new.self c.advance.new.self r.0 c.in_ok-advance.field-0 c.in-None-2.is
+    let stood = stood_still g.R.Inlet g.I.Items _ _ c.args.reader.now c.loop-fault.reader c.advance.new.reader c.carry.new.self c.advance.new.self r.0
+    c.in_ok-advance.field-0 c.in-None-2.is
     c.in_ok-advance.ensures.closed (c.in_ok-advance.ensures.gives _ _ _) r.1 in
     on_err c.from_residual-in_err-finish.result _ (so_far r.0 (was_read g.R.Inlet g.I.Items _ _ _ _ c.advance.new.self r.0 stood)
-    (took_some g.W.Outlet c.args.writer.now c.carry.new.out c.finish.new.out (g.E.Encoder.puts r.0) (g.E.Encoder.encoding.document r.0) r.4 (c.in_err-finish.ensures.front r.0 r.3)))
+    (took_some g.W.Outlet c.args.writer.now c.carry.new.out c.finish.new.out (g.E.Encoder.puts r.0) (g.E.Encoder.encoding.document r.0) r.4
+    (c.in_err-finish.ensures.front r.0 r.3)))
 
 pub returns-clause-converted : goal.returns-clause-converted
 returns-clause-converted g c =
-    let r = as_it_was (Done g.R.Inlet g.I.Items g.E.Encoder g.W.Outlet (g.I.Items.catalog c.args.items) (g.I.Items.limits c.args.items) c.args.reader.now c.args.writer.now c.loop-fault.reader c.loop-fault.values)
+    let r = as_it_was (Done g.R.Inlet g.I.Items g.E.Encoder g.W.Outlet (g.I.Items.catalog c.args.items) (g.I.Items.limits c.args.items) c.args.reader.now
+    c.args.writer.now c.loop-fault.reader c.loop-fault.values)
     (c.in-None.ensures.stays refl) c.loop-fault.invariant.done in
-    let stood = stood_still g.R.Inlet g.I.Items _ _ c.args.reader.now c.loop-fault.reader c.advance.new.reader c.carry.new.self c.advance.new.self r.0 c.in_ok-advance.field-0 c.in-None-2.is
+    let stood = stood_still g.R.Inlet g.I.Items _ _ c.args.reader.now c.loop-fault.reader c.advance.new.reader c.carry.new.self c.advance.new.self r.0
+    c.in_ok-advance.field-0 c.in-None-2.is
     c.in_ok-advance.ensures.closed (c.in_ok-advance.ensures.gives _ _ _) r.1 in
-    rw c.answer.ensures (converted_at g.R.Inlet g.I.Items g.W.Outlet g.E.Encoder.encoding _ _ _ _ c.args.writer.now c.finish.new.out c.advance.new.self r.0 c.loop-fault.values
-    (c.in_ok-advance.ensures.none c.in-None-2.is) r.2 stood (took_whole g.W.Outlet c.args.writer.now c.carry.new.out c.finish.new.out (g.E.Encoder.puts r.0) (g.E.Encoder.encoding.document r.0) r.4 (c.in_ok-finish.ensures.wrote r.0 r.3)))
+    rw c.answer.ensures (converted_at g.R.Inlet g.I.Items g.W.Outlet g.E.Encoder.encoding _ _ _ _ c.args.writer.now c.finish.new.out c.advance.new.self r.0
+    c.loop-fault.values
+    (c.in_ok-advance.ensures.none c.in-None-2.is) r.2 stood
+    (took_whole g.W.Outlet c.args.writer.now c.carry.new.out c.finish.new.out (g.E.Encoder.puts r.0) (g.E.Encoder.encoding.document r.0) r.4
+    (c.in_ok-finish.ensures.wrote r.0 r.3)))
 
 pub returns-clause-kept : goal.returns-clause-kept
 returns-clause-kept g c =
-    let r = as_it_was (Done g.R.Inlet g.I.Items g.E.Encoder g.W.Outlet (g.I.Items.catalog c.args.items) (g.I.Items.limits c.args.items) c.args.reader.now c.args.writer.now c.loop-fault.reader c.loop-fault.values)
+    let r = as_it_was (Done g.R.Inlet g.I.Items g.E.Encoder g.W.Outlet (g.I.Items.catalog c.args.items) (g.I.Items.limits c.args.items) c.args.reader.now
+    c.args.writer.now c.loop-fault.reader c.loop-fault.values)
     (c.in-None.ensures.stays refl) c.loop-fault.invariant.done in
-    let stood = stood_still g.R.Inlet g.I.Items _ _ c.args.reader.now c.loop-fault.reader c.advance.new.reader c.carry.new.self c.advance.new.self r.0 c.in_ok-advance.field-0 c.in-None-2.is
+    let stood = stood_still g.R.Inlet g.I.Items _ _ c.args.reader.now c.loop-fault.reader c.advance.new.reader c.carry.new.self c.advance.new.self r.0
+    c.in_ok-advance.field-0 c.in-None-2.is
     c.in_ok-advance.ensures.closed (c.in_ok-advance.ensures.gives _ _ _) r.1 in
-    rw c.answer.ensures (kept_at g.R.Inlet g.I.Items g.W.Outlet g.E.Encoder.encoding _ _ _ _ c.args.writer.now c.finish.new.out c.advance.new.self r.0 c.loop-fault.values
-    (c.in_ok-advance.ensures.none c.in-None-2.is) r.5 stood (took_whole g.W.Outlet c.args.writer.now c.carry.new.out c.finish.new.out (g.E.Encoder.puts r.0) (g.E.Encoder.encoding.document r.0) r.4 (c.in_ok-finish.ensures.wrote r.0 r.3)))
+    rw c.answer.ensures (kept_at g.R.Inlet g.I.Items g.W.Outlet g.E.Encoder.encoding _ _ _ _ c.args.writer.now c.finish.new.out c.advance.new.self r.0
+    c.loop-fault.values
+    (c.in_ok-advance.ensures.none c.in-None-2.is) r.5 stood
+    (took_whole g.W.Outlet c.args.writer.now c.carry.new.out c.finish.new.out (g.E.Encoder.puts r.0) (g.E.Encoder.encoding.document r.0) r.4
+    (c.in_ok-finish.ensures.wrote r.0 r.3)))

@@ -10,7 +10,8 @@ invariant-loop-fault g l = record {
   bound : l.values + work_of g.I.Items l.place ≤ 8193 * 2 ^ 32 + 1;
   asked : g.R.Inlet.calls_made l.reader + reads_of l.place ≤ g.R.Inlet.calls_made l.fn.reader + l.fn.reads;
   handed : length (g.R.Inlet.handed l.reader) + 4096 * reads_of l.place ≤ length (g.R.Inlet.handed l.fn.reader) + 4096 * l.fn.reads;
-  done : Done g.R.Inlet g.I.Items g.E.Encoder g.W.Outlet (g.I.Items.catalog l.fn.items) (g.I.Items.limits l.fn.items) l.fn.reader l.fn.writer l.reader l.values l.place l.encoder l.writer;
+  done : Done g.R.Inlet g.I.Items g.E.Encoder g.W.Outlet (g.I.Items.catalog l.fn.items) (g.I.Items.limits l.fn.items) l.fn.reader l.fn.writer l.reader l.values
+      l.place l.encoder l.writer;
 }
 
 abbrev pub decreases-loop-fault : goal.decreases-loop-fault

@@ -12,9 +12,11 @@ pub returns-in_ok-encoder-in-Binary-clause-same : goal.returns-in_ok-encoder-in-
 returns-in_ok-encoder-in-Binary-clause-same g c =
     let under : c.in_ok-items.items.catalog.now ≡ c.args.catalog.now = search rules in
     let within : c.in_ok-items.items.limits ≡ c.args.limits = search rules in
-    let kept : IfOk c.convert_by.result (WritesKept g.R.Inlet g.W.Outlet (encoding_of c.args.target) (documents c.args.catalog.now c.args.limits) c.args.reader.now c.convert_by.new.reader c.args.writer.now c.convert_by.new.writer) =
+    let kept : IfOk c.convert_by.result (WritesKept g.R.Inlet g.W.Outlet (encoding_of c.args.target) (documents c.args.catalog.now c.args.limits)
+    c.args.reader.now c.convert_by.new.reader c.args.writer.now c.convert_by.new.writer) =
     rw (c.in-Binary.is, ← under, ← within) c.convert_by.ensures.kept in
-    keeps_if g.R.Inlet g.W.Outlet c.args.catalog.now c.args.limits c.args.reader.now c.convert_by.new.reader c.args.writer.now c.convert_by.new.writer c.args.target c.convert_by.result kept
+    keeps_if g.R.Inlet g.W.Outlet c.args.catalog.now c.args.limits c.args.reader.now c.convert_by.new.reader c.args.writer.now c.convert_by.new.writer
+    c.args.target c.convert_by.result kept
 
 pub returns-in_ok-encoder-in-Binary-clause-converted : goal.returns-in_ok-encoder-in-Binary-clause-converted
 returns-in_ok-encoder-in-Binary-clause-converted g c =
@@ -30,9 +32,11 @@ pub returns-in-Text-clause-same : goal.returns-in-Text-clause-same
 returns-in-Text-clause-same g c =
     let under : c.in_ok-items.items.catalog.now ≡ c.args.catalog.now = search rules in
     let within : c.in_ok-items.items.limits ≡ c.args.limits = search rules in
-    let kept : IfOk c.convert_by-in-Text.result (WritesKept g.R.Inlet g.W.Outlet (encoding_of c.args.target) (documents c.args.catalog.now c.args.limits) c.args.reader.now c.convert_by-in-Text.new.reader c.args.writer.now c.convert_by-in-Text.new.writer) =
+    let kept : IfOk c.convert_by-in-Text.result (WritesKept g.R.Inlet g.W.Outlet (encoding_of c.args.target) (documents c.args.catalog.now c.args.limits)
+    c.args.reader.now c.convert_by-in-Text.new.reader c.args.writer.now c.convert_by-in-Text.new.writer) =
     rw (c.in-Text.is, ← under, ← within) c.convert_by-in-Text.ensures.kept in
-    keeps_if g.R.Inlet g.W.Outlet c.args.catalog.now c.args.limits c.args.reader.now c.convert_by-in-Text.new.reader c.args.writer.now c.convert_by-in-Text.new.writer c.args.target c.convert_by-in-Text.result kept
+    keeps_if g.R.Inlet g.W.Outlet c.args.catalog.now c.args.limits c.args.reader.now c.convert_by-in-Text.new.reader c.args.writer.now
+    c.convert_by-in-Text.new.writer c.args.target c.convert_by-in-Text.result kept
 
 pub returns-in-Text-clause-converted : goal.returns-in-Text-clause-converted
 returns-in-Text-clause-converted g c =

@@ -5,4 +5,7 @@ use Rattle.ion_docs.proofs.Tables.{loaded_document, document_of_tables}
 use Rattle.ion_docs.proofs.laws.catalog_documents.Goals as goal
 
 pub returns : goal.returns
-returns c = λ l octets tables. (loaded_document (documents [] l) octets tables, document_of_tables (documents [] l) octets tables (λ s. ((promised [] l octets).exact s).1))
+returns c = λ l octets tables. (
+  loaded_document (documents [] l) octets tables,
+  document_of_tables (documents [] l) octets tables (λ s. ((promised [] l octets).exact s).1),
+)

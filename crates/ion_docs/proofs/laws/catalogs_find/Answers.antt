@@ -11,7 +11,8 @@ use Rattle.ion_docs.proofs.Tables.{loaded_document, finds, finds_none}
 use Rattle.ion_docs.proofs.laws.catalogs_find.Goals as goal
 
 -- the values of the document describe the tables
-described : (l : Limits) (octets : List ℕ) (tables : List Table) (s : List Value) → IsCatalog (documents [] l) octets (Ok tables) → Denotes [] l octets s → (map shared_table s ≡ map Ok tables) × AreApart [] tables
+described : (l : Limits) (octets : List ℕ) (tables : List Table) (s : List Value) → IsCatalog (documents [] l) octets (Ok tables) → Denotes [] l octets s
+    → (map shared_table s ≡ map Ok tables) × AreApart [] tables
 described l octets tables s h d =
     let document = loaded_document (documents [] l) octets tables h in
     (subst (λ (x : List Value). map shared_table x ≡ map Ok tables) (one_document [] l octets document.s s document.denoted d) document.each, document.apart)

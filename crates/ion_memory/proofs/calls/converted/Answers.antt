@@ -3,7 +3,9 @@ use Rattle.ion_memory.proofs.Ended.{begun, none}
 use Rattle.ion_memory.proofs.calls.converted.Goals as goal
 
 pub returns-in-Ok : goal.returns-in-Ok
-returns-in-Ok c = begun c.args.catalog.now c.args.depth c.args.item (IsConverted c.args.target c.args.input.now) c.converted_in.result.ending c.converted_in.result.text.items c.in-Ok.setting.catalog c.in-Ok.setting.limits c.in-Ok.ensures.some c.converted_in.ensures
+returns-in-Ok c = begun c.args.catalog.now c.args.depth c.args.item (IsConverted c.args.target c.args.input.now) c.converted_in.result.ending
+    c.converted_in.result.text.items c.in-Ok.setting.catalog c.in-Ok.setting.limits c.in-Ok.ensures.some c.converted_in.ensures
 
 pub returns-in-Err : goal.returns-in-Err
-returns-in-Err c = none c.args.catalog.now c.args.depth c.args.item (IsConverted c.args.target c.args.input.now) c.without_text.result.ending c.without_text.result.text.items c.in-Err.ending c.in-Err.ensures.none c.without_text.ensures
+returns-in-Err c = none c.args.catalog.now c.args.depth c.args.item (IsConverted c.args.target c.args.input.now) c.without_text.result.ending
+    c.without_text.result.text.items c.in-Err.ending c.in-Err.ensures.none c.without_text.ensures

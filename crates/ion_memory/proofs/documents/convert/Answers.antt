@@ -8,4 +8,7 @@ use Rattle.ion_memory.proofs.documents.convert.Goals as goal
 
 pub returns-in-Ok-clause-document : goal.returns-in-Ok-clause-document
 returns-in-Ok-clause-document c =
-    converted_all _ (λ device. known_some (Some device.inner.now)) c.args.input.now c.new-reader.result c.convert.new.reader c.new-reader.ensures.tells (record { took = _; written = written_of; passed = passed_of; has_failed = failed_of }) c.new-writer.result c.convert.new.writer c.into_inner-octets.result.items (c.new-writer.ensures.took ∙ ap Some c.new.ensures.items) (sym c.into_inner-octets.ensures.took) (encoding_of c.args.target) c.args.catalog.now c.args.limits c.in-Ok.answer c.in-Ok.ensures.converted c.in-Ok.ensures.same
+    converted_all _ (λ device. known_some (Some device.inner.now)) c.args.input.now c.new-reader.result c.convert.new.reader c.new-reader.ensures.tells
+    (record { took = _; written = written_of; passed = passed_of; has_failed = failed_of }) c.new-writer.result c.convert.new.writer
+    c.into_inner-octets.result.items (c.new-writer.ensures.took ∙ ap Some c.new.ensures.items) (sym c.into_inner-octets.ensures.took)
+    (encoding_of c.args.target) c.args.catalog.now c.args.limits c.in-Ok.answer c.in-Ok.ensures.converted c.in-Ok.ensures.same

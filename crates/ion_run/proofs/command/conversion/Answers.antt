@@ -6,4 +6,5 @@ pub returns-in-Text-clause-cause : goal.returns-in-Text-clause-cause
 returns-in-Text-clause-cause g c = rw c.in-Text.is (IfErr-weaker c.convert.result _ _ (λ fault caused. or_more caused) c.convert.ensures.cause)
 
 pub returns-in_ok-hasher-in-Binary-clause-cause : goal.returns-in_ok-hasher-in-Binary-clause-cause
-returns-in_ok-hasher-in-Binary-clause-cause g c = rw c.in-Binary.is (IfErr-weaker c.convert_with_hasher.result _ _ (λ fault caused. or_more caused) c.convert_with_hasher.ensures.cause)
+returns-in_ok-hasher-in-Binary-clause-cause g c = rw c.in-Binary.is
+    (IfErr-weaker c.convert_with_hasher.result _ _ (λ fault caused. or_more caused) c.convert_with_hasher.ensures.cause)

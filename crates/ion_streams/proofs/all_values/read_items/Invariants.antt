@@ -10,7 +10,8 @@ invariant-loop-values g l = record {
   driven : Driven g.R.Inlet g.I.Items l.fn.reads l.fn.reader l.reader l.place;
   asked : g.R.Inlet.calls_made l.reader + reads_of l.place ≤ g.R.Inlet.calls_made l.fn.reader + l.fn.reads;
   handed : length (g.R.Inlet.handed l.reader) + 4096 * reads_of l.place ≤ length (g.R.Inlet.handed l.fn.reader) + 4096 * l.fn.reads;
-  reads : (given : List (Value × ℕ)) × StoodEach g.R.Inlet g.I.Items (g.I.Items.catalog l.fn.items) (g.I.Items.limits l.fn.items) l.fn.reader l.reader l.place given × (plain given ≡ l.values.items);
+  reads : (given : List (Value × ℕ)) × StoodEach g.R.Inlet g.I.Items (g.I.Items.catalog l.fn.items) (g.I.Items.limits l.fn.items) l.fn.reader l.reader l.place
+      given × (plain given ≡ l.values.items);
 }
 
 abbrev pub decreases-loop-values : goal.decreases-loop-values

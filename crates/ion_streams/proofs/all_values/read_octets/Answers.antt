@@ -13,7 +13,8 @@ returns-in_err-step-clause-refused g c =
     let limits = g.I.Items.limits c.args.items in
     let answers = rw (all_left c.args.octets.now c.loop-values.used) at c.in_err-step.ensures.answers in
     rw (p.1, p.2) (λ other.
-    taken_refused g.I.Items g.met.I.Items.counted catalog limits c.args.octets.now c.loop-values.items c.loop-values.used c.loop-values.values.items c.in_err-step.field-0.0 c.loop-values.invariant other answers
+    taken_refused g.I.Items g.met.I.Items.counted catalog limits c.args.octets.now c.loop-values.items c.loop-values.used c.loop-values.values.items
+    c.in_err-step.field-0.0 c.loop-values.invariant other answers
     (g.met.I.Items.reasons catalog limits) (g.met.I.Items.refused catalog limits) (g.met.I.Items.settled catalog limits))
 
 pub returns-in_err-step-clause-memory : goal.returns-in_err-step-clause-memory
@@ -21,7 +22,8 @@ returns-in_err-step-clause-memory g c =
     let p = err_from_is_err_and c.from_residual.result c.from_residual.ensures.1 in
     let i = c.loop-values.invariant in
     let inside = i.inside in
-    let count = taken_count g.I.Items g.met.I.Items.counted (g.I.Items.catalog c.args.items) (g.I.Items.limits c.args.items) c.args.octets.now c.loop-values.items c.loop-values.used c.loop-values.values.items i in
+    let count = taken_count g.I.Items g.met.I.Items.counted (g.I.Items.catalog c.args.items) (g.I.Items.limits c.args.items) c.args.octets.now
+    c.loop-values.items c.loop-values.used c.loop-values.values.items i in
     let never = g.met.I.Items.not_failed c.loop-values.items (take c.loop-values.used c.args.octets.now) i.given i.stood in
     rw (p.1, p.2) (λ memory.
     let at = c.in_err-step.ensures.memory memory (subst (λ (o : Option Refusal). IsNone o) (sym never) refl) in
@@ -34,7 +36,8 @@ loop-values-preserved g c =
     let used = rw left at step.used in
     let stands = rw left at step.stands in
     let awaited = rw left at step.awaited in
-    let more = taken_more g.I.Items g.met.I.Items.counted (g.I.Items.catalog c.args.items) (g.I.Items.limits c.args.items) c.args.octets.now c.loop-values.items c.step.new.self c.loop-values.used c.in_ok-step.step.used c.in_ok-step.step.value
+    let more = taken_more g.I.Items g.met.I.Items.counted (g.I.Items.catalog c.args.items) (g.I.Items.limits c.args.items) c.args.octets.now c.loop-values.items
+    c.step.new.self c.loop-values.used c.in_ok-step.step.used c.in_ok-step.step.value
     c.loop-values.values.items c.loop-values.invariant used stands step.catalog step.limits awaited in
     let kept = c.in_ok-keep_behind-in-Some.ensures.more in
     let found = c.in-Some.value-is in
@@ -58,10 +61,13 @@ returns-in_err-value-in-None-clause-refused g c =
     let empty : drop c.in_ok-step.step.used (drop c.loop-values.used c.args.octets.now) ≡ [] =
     ap (λ (n : ℕ). drop n (drop c.loop-values.used c.args.octets.now)) whole ∙ drop-length (drop c.loop-values.used c.args.octets.now) in
     let none = none_awaited (g.I.Items.awaits c.step.new.self) (drop c.in_ok-step.step.used (drop c.loop-values.used c.args.octets.now)) empty awaited in
-    let more = taken_more g.I.Items g.met.I.Items.counted catalog limits c.args.octets.now c.loop-values.items c.step.new.self c.loop-values.used c.in_ok-step.step.used c.in_ok-step.step.value
+    let more = taken_more g.I.Items g.met.I.Items.counted catalog limits c.args.octets.now c.loop-values.items c.step.new.self c.loop-values.used
+    c.in_ok-step.step.used c.in_ok-step.step.value
     c.loop-values.values.items i used stands step.catalog step.limits awaited in
     rw (p.1, p.2) (λ other.
-    taken_stopped g.I.Items g.met.I.Items.counted catalog limits c.args.octets.now c.step.new.self (c.loop-values.used + c.in_ok-step.step.used) _ c.in_err-value-in-None.field-0.0 more all other c.in_err-value-in-None.ensures.ends
+    taken_stopped g.I.Items g.met.I.Items.counted catalog limits c.args.octets.now c.step.new.self (c.loop-values.used + c.in_ok-step.step.used) _
+    c.in_err-value-in-None.field-0.0 more all other c.in_err-value-in-None.ensures.ends
     (λ u t h. g.met.I.Items.given_so_far c.step.new.self u t h none)
-    (g.met.I.Items.reasons catalog limits) (g.met.I.Items.refused catalog limits c.args.octets.now) (g.met.I.Items.shown catalog limits c.args.octets.now) (g.met.I.Items.unfinished catalog limits c.args.octets.now c.in_err-value-in-None.field-0.0)
+    (g.met.I.Items.reasons catalog limits) (g.met.I.Items.refused catalog limits c.args.octets.now) (g.met.I.Items.shown catalog limits c.args.octets.now)
+    (g.met.I.Items.unfinished catalog limits c.args.octets.now c.in_err-value-in-None.field-0.0)
     (λ s. (g.met.I.Items.exact catalog limits c.args.octets.now s).1))

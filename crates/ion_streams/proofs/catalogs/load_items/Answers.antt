@@ -17,7 +17,8 @@ loop-catalog-preserved g c =
     let found : List (Value × ℕ) = (c.in-Some.value, c.in-Some.offset) ∷ [] in
     let more : catalog_of c.loop-catalog.catalog found ≡ Ok c.add_value.new.catalog = rw c.in_default-2.is at c.in_ok-refusal.ensures in
     record {
-      driven = driven_on g.R.Inlet g.I.Items c.args.reads c.args.reader.now c.loop-catalog.reader c.advance.new.reader c.loop-catalog.place c.advance.new.self i.driven next.ready next.unasked next.no_read_failed next.within;
+      driven = driven_on g.R.Inlet g.I.Items c.args.reads c.args.reader.now c.loop-catalog.reader c.advance.new.reader c.loop-catalog.place c.advance.new.self
+          i.driven next.ready next.unasked next.no_read_failed next.within;
       asked = omega (arith, asked, next.few_calls);
       handed = omega (arith, handed, next.few_octets);
       reads = (
@@ -37,5 +38,6 @@ returns-in-Err-clause-loaded g c =
     let limits = g.I.Items.limits c.args.items in
     value_refused g.R.Inlet g.I.Items catalog limits (g.met.I.Items.settled catalog limits) g.met.I.Items.given_so_far g.met.I.Items.given_with_next
     c.args.reader.now c.advance.new.reader c.advance.new.self (r.0 ++ found) c.in-Err.refusal
-    (gave_itself g.R.Inlet g.I.Items _ _ _ _ c.advance.new.self r.0 (c.in-Some.value, c.in-Some.offset) (rw c.in-Some.is at (next.gives _ _ _ r.0 r.1))) next.ready
+    (gave_itself g.R.Inlet g.I.Items _ _ _ _ c.advance.new.self r.0 (c.in-Some.value, c.in-Some.offset) (rw c.in-Some.is at (next.gives _ _ _ r.0 r.1)))
+    next.ready
     (catalog_ok [] r.0 found c.loop-catalog.catalog r.2 ∙ none)

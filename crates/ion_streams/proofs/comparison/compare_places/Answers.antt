@@ -27,7 +27,8 @@ loop-left_place-init g c =
       right_heard = record { either = inl (c.requires.right_unread, refl) };
       bound = omega (arith, few, none);
       open_still = inl c.requires.opened;
-      stood = λ left_catalog right_catalog left_limits right_limits a b. ([], [], a, b, subst (λ x. Meets x c.args.left_place.now c.args.right_place.now [] []) (sym c.requires.begun) (meets_begun _ _));
+      stood = λ left_catalog right_catalog left_limits right_limits a b.
+          ([], [], a, b, subst (λ x. Meets x c.args.left_place.now c.args.right_place.now [] []) (sym c.requires.begun) (meets_begun _ _));
     }
 
 pub returns-in-Refused-clause-verdict : goal.returns-in-Refused-clause-verdict
@@ -41,8 +42,11 @@ returns-in-Refused-clause-verdict g c =
     let left_closed = l.closed in
     left_refused g.L.Inlet g.I.Items g.R.Inlet g.J.Items
     left_catalog right_catalog left_limits right_limits
-    c.args.left.now c.advance.new.reader c.args.right.now c.loop-left_place.right c.go_alike.new.right (i.0 ++ option_to_list c.value_of-left_value.result) i.1 c.in-Refused.refusal
-    (rw c.in-Refused.is at (stood_next g.L.Inlet g.I.Items left_catalog left_limits c.args.left.now c.loop-left_place.left c.advance.new.reader c.go_alike.new.left c.advance.new.self i.0 c.in_ok-advance.field-0 c.value_of-left_value.result c.value_of-left_value.ensures left_closed (l.gives left_catalog left_limits c.args.left.now) left_stood)) right_stood
+    c.args.left.now c.advance.new.reader c.args.right.now c.loop-left_place.right c.go_alike.new.right (i.0 ++ option_to_list c.value_of-left_value.result) i.1
+    c.in-Refused.refusal
+    (rw c.in-Refused.is at (stood_next g.L.Inlet g.I.Items left_catalog left_limits c.args.left.now c.loop-left_place.left c.advance.new.reader
+    c.go_alike.new.left c.advance.new.self i.0 c.in_ok-advance.field-0 c.value_of-left_value.result c.value_of-left_value.ensures left_closed
+    (l.gives left_catalog left_limits c.args.left.now) left_stood)) right_stood
 
 pub returns-then-not-is_open-2-clause-verdict : goal.returns-then-not-is_open-2-clause-verdict
 returns-then-not-is_open-2-clause-verdict g c =
@@ -56,16 +60,27 @@ returns-then-not-is_open-2-clause-verdict g c =
     let r = c.in-Ok.ensures in
     let left_closed = l.closed in
     let right_closed = r.closed in
-    let left_same = closed_same c.loop-left_place.left c.advance.new.reader c.go_alike.new.left c.advance.new.self c.in_ok-advance.field-0 c.value_of-left_value.result c.value_of-left_value.ensures left_closed in
-    let right_same = closed_same c.loop-left_place.right c.advance-in-loop-left_place.new.reader c.go_alike.new.right c.advance-in-loop-left_place.new.self c.in-Ok.found c.value_of-right_value.result c.value_of-right_value.ensures right_closed in
+    let left_same = closed_same c.loop-left_place.left c.advance.new.reader c.go_alike.new.left c.advance.new.self c.in_ok-advance.field-0
+    c.value_of-left_value.result c.value_of-left_value.ensures left_closed in
+    let right_same = closed_same c.loop-left_place.right c.advance-in-loop-left_place.new.reader c.go_alike.new.right c.advance-in-loop-left_place.new.self
+    c.in-Ok.found c.value_of-right_value.result c.value_of-right_value.ensures right_closed in
     let verdict = closed_verdict g.L.Inlet g.I.Items g.R.Inlet g.J.Items
     left_catalog right_catalog left_limits right_limits
-    c.args.left.now c.advance.new.reader c.args.right.now c.advance-in-loop-left_place.new.reader c.advance.new.self c.advance-in-loop-left_place.new.self c.meet-met.new.self
+    c.args.left.now c.advance.new.reader c.args.right.now c.advance-in-loop-left_place.new.reader c.advance.new.self c.advance-in-loop-left_place.new.self
+    c.meet-met.new.self
     (i.0 ++ option_to_list c.value_of-left_value.result) (i.1 ++ option_to_list c.value_of-right_value.result)
-    (stood_next g.L.Inlet g.I.Items left_catalog left_limits c.args.left.now c.loop-left_place.left c.advance.new.reader c.go_alike.new.left c.advance.new.self i.0 c.in_ok-advance.field-0 c.value_of-left_value.result c.value_of-left_value.ensures left_closed (l.gives left_catalog left_limits c.args.left.now) left_stood)
-    (stood_next g.R.Inlet g.J.Items right_catalog right_limits c.args.right.now c.loop-left_place.right c.advance-in-loop-left_place.new.reader c.go_alike.new.right c.advance-in-loop-left_place.new.self i.1 c.in-Ok.found c.value_of-right_value.result c.value_of-right_value.ensures right_closed (r.gives right_catalog right_limits c.args.right.now) right_stood)
-    (meets_more c.go_alike.new.course c.meet-met.new.self c.go_alike.new.left c.advance.new.self c.go_alike.new.right c.advance-in-loop-left_place.new.self i.0 i.1 c.value_of-left_value.result c.value_of-right_value.result c.in_ok-met.ensures meets left_same right_same (λ none. l.none (none_of c.in_ok-advance.field-0 c.value_of-left_value.result c.value_of-left_value.ensures none)) (λ none. r.none (none_of c.in-Ok.found c.value_of-right_value.result c.value_of-right_value.ensures none)))
-    c.in_default.not-Refused (false_case c.is_open.result _ _ c.is_open.ensures (search rules)) (false_case c.is_open-then-not-is_open.result _ _ c.is_open-then-not-is_open.ensures (search rules)) in
+    (stood_next g.L.Inlet g.I.Items left_catalog left_limits c.args.left.now c.loop-left_place.left c.advance.new.reader c.go_alike.new.left c.advance.new.self
+    i.0 c.in_ok-advance.field-0 c.value_of-left_value.result c.value_of-left_value.ensures left_closed (l.gives left_catalog left_limits c.args.left.now)
+    left_stood)
+    (stood_next g.R.Inlet g.J.Items right_catalog right_limits c.args.right.now c.loop-left_place.right c.advance-in-loop-left_place.new.reader
+    c.go_alike.new.right c.advance-in-loop-left_place.new.self i.1 c.in-Ok.found c.value_of-right_value.result c.value_of-right_value.ensures right_closed
+    (r.gives right_catalog right_limits c.args.right.now) right_stood)
+    (meets_more c.go_alike.new.course c.meet-met.new.self c.go_alike.new.left c.advance.new.self c.go_alike.new.right c.advance-in-loop-left_place.new.self i.0
+    i.1 c.value_of-left_value.result c.value_of-right_value.result c.in_ok-met.ensures meets left_same right_same
+    (λ none. l.none (none_of c.in_ok-advance.field-0 c.value_of-left_value.result c.value_of-left_value.ensures none))
+    (λ none. r.none (none_of c.in-Ok.found c.value_of-right_value.result c.value_of-right_value.ensures none)))
+    c.in_default.not-Refused (false_case c.is_open.result _ _ c.is_open.ensures (search rules))
+    (false_case c.is_open-then-not-is_open.result _ _ c.is_open-then-not-is_open.ensures (search rules)) in
     rw c.verdict.ensures verdict
 
 -- both went past the same value
@@ -84,14 +99,19 @@ loop-left_place-preserved-then-go_alike g c =
     record {
       left_ready = past_ready g.I.Items left left_now both.value both.left_past;
       right_ready = past_ready g.J.Items right right_now both.value both.right_past;
-      left_within = λ reads h. past_within g.I.Items g.L.Inlet reads c.args.left.now c.loop-left_place.left left left_now both.value both.left_past (i.left_within reads h);
-      right_within = λ reads h. past_within g.J.Items g.R.Inlet reads c.args.right.now c.loop-left_place.right right right_now both.value both.right_past (i.right_within reads h);
+      left_within = λ reads h. past_within g.I.Items g.L.Inlet reads c.args.left.now c.loop-left_place.left left left_now both.value both.left_past
+          (i.left_within reads h);
+      right_within = λ reads h. past_within g.J.Items g.R.Inlet reads c.args.right.now c.loop-left_place.right right right_now both.value both.right_past
+          (i.right_within reads h);
       left_asked = let asked = i.left_asked in omega (arith, asked, past_reads g.I.Items left left_now both.value both.left_past);
       right_asked = let asked = i.right_asked in omega (arith, asked, past_reads g.J.Items right right_now both.value both.right_past);
       left_handed = let handed = i.left_handed in omega (arith, handed, past_reads g.I.Items left left_now both.value both.left_past);
       right_handed = let handed = i.right_handed in omega (arith, handed, past_reads g.J.Items right right_now both.value both.right_past);
       left_heard = record { either = inr (heard_past g.I.Items g.L.Inlet c.loop-left_place.left left left_now both.value both.left_past i.left_heard) };
-      right_heard = record { either = inr (heard_past g.J.Items g.R.Inlet c.loop-left_place.right right right_now both.value both.right_past (heard_alone g.J.Items g.R.Inlet right c.args.right.now c.loop-left_place.right i.right_heard)) };
+      right_heard = record {
+        either = inr (heard_past g.J.Items g.R.Inlet c.loop-left_place.right right right_now both.value both.right_past
+            (heard_alone g.J.Items g.R.Inlet right c.args.right.now c.loop-left_place.right i.right_heard));
+      };
       bound = omega (arith, bound, left_less, right_less, count);
       open_still = inl (past_open g.I.Items left left_now both.value both.left_past);
       stood = λ left_catalog right_catalog left_limits right_limits a b.
@@ -101,7 +121,8 @@ loop-left_place-preserved-then-go_alike g c =
             past_stood g.I.Items g.L.Inlet _ _ c.args.left.now c.loop-left_place.left left left_now both.value w.0 both.left_past w.2,
             past_stood g.J.Items g.R.Inlet _ _ c.args.right.now c.loop-left_place.right right right_now both.value w.1 both.right_past w.3,
             meets_more c.loop-left_place.course c.go_alike.new.course left left_now right right_now w.0 w.1 (Some both.value) (Some both.value) both.met w.4
-                (past_closed g.I.Items left left_now both.value _ both.left_past) (past_closed g.J.Items right right_now both.value _ both.right_past) (λ none. absurd cc) (λ none. absurd cc),
+                (past_closed g.I.Items left left_now both.value _ both.left_past) (past_closed g.J.Items right right_now both.value _ both.right_past)
+                (λ none. absurd cc) (λ none. absurd cc),
           );
     }
 
@@ -114,17 +135,21 @@ loop-left_place-preserved g c =
     let r = c.in-Ok.ensures in
     let left_closed = l.closed in
     let right_closed = r.closed in
-    let left_same = closed_same c.loop-left_place.left c.advance.new.reader c.go_alike.new.left c.advance.new.self c.in_ok-advance.field-0 c.value_of-left_value.result c.value_of-left_value.ensures left_closed in
-    let right_same = closed_same c.loop-left_place.right c.advance-in-loop-left_place.new.reader c.go_alike.new.right c.advance-in-loop-left_place.new.self c.in-Ok.found c.value_of-right_value.result c.value_of-right_value.ensures right_closed in
+    let left_same = closed_same c.loop-left_place.left c.advance.new.reader c.go_alike.new.left c.advance.new.self c.in_ok-advance.field-0
+    c.value_of-left_value.result c.value_of-left_value.ensures left_closed in
+    let right_same = closed_same c.loop-left_place.right c.advance-in-loop-left_place.new.reader c.go_alike.new.right c.advance-in-loop-left_place.new.self
+    c.in-Ok.found c.value_of-right_value.result c.value_of-right_value.ensures right_closed in
     let bound = i.bound in
-    let less = works_less g.I.Items g.J.Items c.go_alike.new.left c.advance.new.self c.go_alike.new.right c.advance-in-loop-left_place.new.self _ _ open_still l.spends left_same r.spends right_same in
+    let less = works_less g.I.Items g.J.Items c.go_alike.new.left c.advance.new.self c.go_alike.new.right c.advance-in-loop-left_place.new.self _ _ open_still
+    l.spends left_same r.spends right_same in
     let left_work = ap (λ (x : Standing _). work_of g.I.Items x) stays.1 in
     let right_work = ap (λ (x : Standing _). work_of g.J.Items x) stays.2 in
     let left_reads = ap (λ (x : Standing _). reads_of x) stays.1 in
     let right_reads = ap (λ (x : Standing _). reads_of x) stays.2 in
     let counted = ap count_of stays.0 in
     let left_heard = subst (λ (x : Standing _). StandsHeard g.I.Items g.L.Inlet x c.loop-left_place.left) (sym stays.1) i.left_heard in
-    let right_heard = subst (λ (x : Standing _). StandsHeard g.J.Items g.R.Inlet x c.loop-left_place.right) (sym stays.2) (heard_alone g.J.Items g.R.Inlet c.loop-left_place.right_place c.args.right.now c.loop-left_place.right i.right_heard) in
+    let right_heard = subst (λ (x : Standing _). StandsHeard g.J.Items g.R.Inlet x c.loop-left_place.right) (sym stays.2)
+    (heard_alone g.J.Items g.R.Inlet c.loop-left_place.right_place c.args.right.now c.loop-left_place.right i.right_heard) in
     let count = count_met c.go_alike.new.course c.meet-met.new.self c.value_of-left_value.result c.value_of-right_value.result c.in_ok-met.ensures in
     record {
       left_ready = l.ready;
@@ -139,23 +164,38 @@ loop-left_place-preserved g c =
       right_asked = let asked = i.right_asked in omega (arith, asked, r.few_calls, right_reads);
       left_handed = let handed = i.left_handed in omega (arith, handed, l.few_octets, left_reads);
       right_handed = let handed = i.right_handed in omega (arith, handed, r.few_octets, right_reads);
-      left_heard = record { either = inr (stands_heard g.I.Items g.L.Inlet c.loop-left_place.left c.advance.new.reader c.go_alike.new.left left_heard l.unasked l.no_read_failed) };
-      right_heard = record { either = inr (stands_heard g.J.Items g.R.Inlet c.loop-left_place.right c.advance-in-loop-left_place.new.reader c.go_alike.new.right right_heard r.unasked r.no_read_failed) };
+      left_heard = record {
+        either = inr (stands_heard g.I.Items g.L.Inlet c.loop-left_place.left c.advance.new.reader c.go_alike.new.left left_heard l.unasked
+            l.no_read_failed);
+      };
+      right_heard = record {
+        either = inr (stands_heard g.J.Items g.R.Inlet c.loop-left_place.right c.advance-in-loop-left_place.new.reader c.go_alike.new.right
+            right_heard r.unasked r.no_read_failed);
+      };
       bound = omega (arith, bound, less, count, left_work, right_work, counted);
       open_still = elim c.else-not-is_open.branch [
-        | else-not-is_open-via-then-not-is_open+else-not-is_open-2 w ↦ inr (true_case w.is_open-then-not-is_open.result _ _ w.is_open-then-not-is_open.ensures (search rules))
+        | else-not-is_open-via-then-not-is_open+else-not-is_open-2 w ↦ inr
+            (true_case w.is_open-then-not-is_open.result _ _ w.is_open-then-not-is_open.ensures (search rules))
         | else-not-is_open-via-else-not-is_open w ↦ inl (true_case c.is_open.result _ _ c.is_open.ensures (search rules))
       ];
       stood = λ left_catalog right_catalog left_limits right_limits a b.
           let w = i.stood left_catalog right_catalog left_limits right_limits a b in
           let left_stood : Stood g.L.Inlet g.I.Items left_catalog left_limits c.args.left.now c.loop-left_place.left c.go_alike.new.left w.0 = rw stays.1 w.2 in
-          let right_stood : Stood g.R.Inlet g.J.Items right_catalog right_limits c.args.right.now c.loop-left_place.right c.go_alike.new.right w.1 = rw stays.2 w.3 in
+          let right_stood : Stood g.R.Inlet g.J.Items right_catalog right_limits c.args.right.now c.loop-left_place.right c.go_alike.new.right w.1 =
+          rw stays.2 w.3 in
           let meets : Meets c.go_alike.new.course c.go_alike.new.left c.go_alike.new.right w.0 w.1 = rw (stays.0, stays.1, stays.2) w.4 in (
             w.0 ++ option_to_list c.value_of-left_value.result,
             w.1 ++ option_to_list c.value_of-right_value.result,
-            stood_next g.L.Inlet g.I.Items left_catalog left_limits c.args.left.now c.loop-left_place.left c.advance.new.reader c.go_alike.new.left c.advance.new.self w.0 c.in_ok-advance.field-0 c.value_of-left_value.result c.value_of-left_value.ensures left_closed (l.gives left_catalog left_limits c.args.left.now) left_stood,
-            stood_next g.R.Inlet g.J.Items right_catalog right_limits c.args.right.now c.loop-left_place.right c.advance-in-loop-left_place.new.reader c.go_alike.new.right c.advance-in-loop-left_place.new.self w.1 c.in-Ok.found c.value_of-right_value.result c.value_of-right_value.ensures right_closed (r.gives right_catalog right_limits c.args.right.now) right_stood,
-            meets_more c.go_alike.new.course c.meet-met.new.self c.go_alike.new.left c.advance.new.self c.go_alike.new.right c.advance-in-loop-left_place.new.self w.0 w.1 c.value_of-left_value.result c.value_of-right_value.result c.in_ok-met.ensures meets left_same right_same (λ none. l.none (none_of c.in_ok-advance.field-0 c.value_of-left_value.result c.value_of-left_value.ensures none)) (λ none. r.none (none_of c.in-Ok.found c.value_of-right_value.result c.value_of-right_value.ensures none)),
+            stood_next g.L.Inlet g.I.Items left_catalog left_limits c.args.left.now c.loop-left_place.left c.advance.new.reader c.go_alike.new.left
+                c.advance.new.self w.0 c.in_ok-advance.field-0 c.value_of-left_value.result c.value_of-left_value.ensures left_closed
+                (l.gives left_catalog left_limits c.args.left.now) left_stood,
+            stood_next g.R.Inlet g.J.Items right_catalog right_limits c.args.right.now c.loop-left_place.right c.advance-in-loop-left_place.new.reader
+                c.go_alike.new.right c.advance-in-loop-left_place.new.self w.1 c.in-Ok.found c.value_of-right_value.result c.value_of-right_value.ensures
+                right_closed (r.gives right_catalog right_limits c.args.right.now) right_stood,
+            meets_more c.go_alike.new.course c.meet-met.new.self c.go_alike.new.left c.advance.new.self c.go_alike.new.right
+                c.advance-in-loop-left_place.new.self w.0 w.1 c.value_of-left_value.result c.value_of-right_value.result c.in_ok-met.ensures meets left_same
+                right_same (λ none. l.none (none_of c.in_ok-advance.field-0 c.value_of-left_value.result c.value_of-left_value.ensures none))
+                (λ none. r.none (none_of c.in-Ok.found c.value_of-right_value.result c.value_of-right_value.ensures none)),
           );
     }
 
@@ -165,8 +205,10 @@ returns-in-Refused-clause-no_read_failed g c =
     let i = c.loop-left_place.invariant in
     let stays = c.go_alike.ensures.stays (search rules) in
     let l = c.in_ok-advance.ensures in
-    let left_heard = subst (λ (x : Standing _). StandsHeard g.I.Items g.L.Inlet x c.loop-left_place.left) (sym stays.1) i.left_heard in
-    (stands_heard g.I.Items g.L.Inlet c.loop-left_place.left c.advance.new.reader c.go_alike.new.left left_heard l.unasked l.no_read_failed, heard_since g.J.Items g.R.Inlet c.loop-left_place.right_place c.args.right.now c.loop-left_place.right i.right_heard)
+    let left_heard = subst (λ (x : Standing _). StandsHeard g.I.Items g.L.Inlet x c.loop-left_place.left) (sym stays.1) i.left_heard in (
+      stands_heard g.I.Items g.L.Inlet c.loop-left_place.left c.advance.new.reader c.go_alike.new.left left_heard l.unasked l.no_read_failed,
+      heard_since g.J.Items g.R.Inlet c.loop-left_place.right_place c.args.right.now c.loop-left_place.right i.right_heard,
+    )
 
 pub returns-then-not-is_open-2-clause-no_read_failed : goal.returns-then-not-is_open-2-clause-no_read_failed
 returns-then-not-is_open-2-clause-no_read_failed g c =
@@ -175,7 +217,9 @@ returns-then-not-is_open-2-clause-no_read_failed g c =
     let l = c.in_ok-advance.ensures in
     let r = c.in-Ok.ensures in
     let left_heard = subst (λ (x : Standing _). StandsHeard g.I.Items g.L.Inlet x c.loop-left_place.left) (sym stays.1) i.left_heard in
-    let right_heard = subst (λ (x : Standing _). StandsHeard g.J.Items g.R.Inlet x c.loop-left_place.right) (sym stays.2) (heard_alone g.J.Items g.R.Inlet c.loop-left_place.right_place c.args.right.now c.loop-left_place.right i.right_heard) in (
+    let right_heard = subst (λ (x : Standing _). StandsHeard g.J.Items g.R.Inlet x c.loop-left_place.right) (sym stays.2)
+    (heard_alone g.J.Items g.R.Inlet c.loop-left_place.right_place c.args.right.now c.loop-left_place.right i.right_heard) in (
       stands_heard g.I.Items g.L.Inlet c.loop-left_place.left c.advance.new.reader c.go_alike.new.left left_heard l.unasked l.no_read_failed,
-      inr (stands_heard g.J.Items g.R.Inlet c.loop-left_place.right c.advance-in-loop-left_place.new.reader c.go_alike.new.right right_heard r.unasked r.no_read_failed),
+      inr (stands_heard g.J.Items g.R.Inlet c.loop-left_place.right c.advance-in-loop-left_place.new.reader c.go_alike.new.right right_heard r.unasked
+          r.no_read_failed),
     )

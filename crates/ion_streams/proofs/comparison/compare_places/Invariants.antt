@@ -13,8 +13,10 @@ abbrev pub invariant-loop-left_place : goal.invariant-loop-left_place
 invariant-loop-left_place g l = record {
   left_ready : IfOpen l.left_place (IsReady g.I.Items);
   right_ready : IfOpen l.right_place (IsReady g.J.Items);
-  left_within : (reads : ℕ) → IfOpen l.fn.left_place (IsWithin g.L.Inlet reads l.fn.left l.fn.left) → IfOpen l.left_place (IsWithin g.L.Inlet reads l.fn.left l.left);
-  right_within : (reads : ℕ) → IfOpen l.fn.right_place (IsWithin g.R.Inlet reads l.fn.right l.fn.right) → IfOpen l.right_place (IsWithin g.R.Inlet reads l.fn.right l.right);
+  left_within : (reads : ℕ) → IfOpen l.fn.left_place (IsWithin g.L.Inlet reads l.fn.left l.fn.left)
+      → IfOpen l.left_place (IsWithin g.L.Inlet reads l.fn.left l.left);
+  right_within : (reads : ℕ) → IfOpen l.fn.right_place (IsWithin g.R.Inlet reads l.fn.right l.fn.right)
+      → IfOpen l.right_place (IsWithin g.R.Inlet reads l.fn.right l.right);
   left_asked : g.L.Inlet.calls_made l.left + reads_of l.left_place ≤ g.L.Inlet.calls_made l.fn.left + reads_of l.fn.left_place;
   right_asked : g.R.Inlet.calls_made l.right + reads_of l.right_place ≤ g.R.Inlet.calls_made l.fn.right + reads_of l.fn.right_place;
   left_handed : length (g.L.Inlet.handed l.left) + 4096 * reads_of l.left_place ≤ length (g.L.Inlet.handed l.fn.left) + 4096 * reads_of l.fn.left_place;

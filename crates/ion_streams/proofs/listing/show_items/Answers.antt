@@ -19,7 +19,8 @@ returns-in_err-outline-clause-so_far g c =
     let r = c.loop-text.invariant.reads in
     on_err c.from_residual-in_err-outline.result _
     (in_reading (plain r.0) (c.in_err-outline.ensures.kept _ _ _ (plain r.0) (stood_plain g.R.Inlet g.I.Items _ _ _ _ c.loop-text.place r.0 r.1))
-    (Front-all g.W.Outlet.took g.W.Outlet.written c.args.writer.now c.loop-text.writer c.loop-text.writer (lines_of (plain r.0)) r.3 (Took-nil g.W.Outlet.took g.W.Outlet.written c.loop-text.writer)))
+    (Front-all g.W.Outlet.took g.W.Outlet.written c.args.writer.now c.loop-text.writer c.loop-text.writer (lines_of (plain r.0)) r.3
+    (Took-nil g.W.Outlet.took g.W.Outlet.written c.loop-text.writer)))
 
 pub returns-in_err-write_line-clause-so_far : goal.returns-in_err-write_line-clause-so_far
 returns-in_err-write_line-clause-so_far g c =
@@ -27,9 +28,12 @@ returns-in_err-write_line-clause-so_far g c =
     let on = rw c.in-Some.is at (c.in_ok-outline.ensures.gives _ _ _ r.0 r.1) in
     let s = r.0 ++ (on.0, c.in-Some.field-0-1) ∷ [] in
     on_err c.from_residual-in_err-write_line.result _
-    (so_far g.R.Inlet g.I.Items g.W.Outlet _ _ _ _ c.args.writer.now c.write_line.new.writer c.advance.new.self (plain s) (stood_plain g.R.Inlet g.I.Items _ _ _ _ c.advance.new.self s on.2)
-    (subst (λ (x : List ℕ). TookFront g.W.Outlet.took g.W.Outlet.written c.args.writer.now c.write_line.new.writer x) (line_next r.0 on.0 c.in-Some.field-0-1 c.in-Some.outline c.loop-text.values r.2 on.1)
-    (Front-behind g.W.Outlet.took g.W.Outlet.written c.args.writer.now c.loop-text.writer c.write_line.new.writer (lines_of (plain r.0)) _ r.3 c.in_err-write_line.ensures.front)))
+    (so_far g.R.Inlet g.I.Items g.W.Outlet _ _ _ _ c.args.writer.now c.write_line.new.writer c.advance.new.self (plain s)
+    (stood_plain g.R.Inlet g.I.Items _ _ _ _ c.advance.new.self s on.2)
+    (subst (λ (x : List ℕ). TookFront g.W.Outlet.took g.W.Outlet.written c.args.writer.now c.write_line.new.writer x)
+    (line_next r.0 on.0 c.in-Some.field-0-1 c.in-Some.outline c.loop-text.values r.2 on.1)
+    (Front-behind g.W.Outlet.took g.W.Outlet.written c.args.writer.now c.loop-text.writer c.write_line.new.writer (lines_of (plain r.0)) _ r.3
+    c.in_err-write_line.ensures.front)))
 
 pub loop-text-preserved : goal.loop-text-preserved
 loop-text-preserved g c =
@@ -44,7 +48,8 @@ loop-text-preserved g c =
     let on = rw c.in-Some.is at (next.gives _ _ _ r.0 r.1) in
     let s = r.0 ++ (on.0, c.in-Some.field-0-1) ∷ [] in
     record {
-      driven = driven_on g.R.Inlet g.I.Items c.args.reads c.args.reader.now c.loop-text.reader c.advance.new.reader c.loop-text.place c.advance.new.self i.driven next.ready next.unasked next.no_read_failed next.within;
+      driven = driven_on g.R.Inlet g.I.Items c.args.reads c.args.reader.now c.loop-text.reader c.advance.new.reader c.loop-text.place c.advance.new.self
+          i.driven next.ready next.unasked next.no_read_failed next.within;
       bound = omega (arith, bound, spent);
       asked = omega (arith, asked, next.few_calls);
       handed = omega (arith, handed, next.few_octets);
@@ -52,8 +57,10 @@ loop-text-preserved g c =
         s,
         on.2,
         length-append r.0 ((on.0, c.in-Some.field-0-1) ∷ []) ∙ ap (λ (n : ℕ). n + 1) r.2,
-        subst (λ (x : List ℕ). Took g.W.Outlet.took g.W.Outlet.written c.args.writer.now c.write_line.new.writer x) (line_next r.0 on.0 c.in-Some.field-0-1 c.in-Some.outline c.loop-text.values r.2 on.1)
-            (Took-trans g.W.Outlet.took g.W.Outlet.written c.args.writer.now c.loop-text.writer c.write_line.new.writer (lines_of (plain r.0)) _ r.3 c.in_ok-write_line.ensures.wrote),
+        subst (λ (x : List ℕ). Took g.W.Outlet.took g.W.Outlet.written c.args.writer.now c.write_line.new.writer x)
+            (line_next r.0 on.0 c.in-Some.field-0-1 c.in-Some.outline c.loop-text.values r.2 on.1)
+            (Took-trans g.W.Outlet.took g.W.Outlet.written c.args.writer.now c.loop-text.writer c.write_line.new.writer (lines_of (plain r.0)) _ r.3
+            c.in_ok-write_line.ensures.wrote),
       );
     }
 
@@ -61,28 +68,38 @@ pub returns-in_err-write_accepted-in-Ok-clause-so_far : goal.returns-in_err-writ
 returns-in_err-write_accepted-in-Ok-clause-so_far g c =
     let r = c.loop-text.invariant.reads in
     let none = c.in_default.is in
-    let stood = gave_none outline_of g.R.Inlet g.I.Items _ _ _ _ c.advance.new.self r.0 c.in_ok-outline.field-0 none (c.in_ok-outline.ensures.gives _ _ _ r.0 r.1) in
+    let stood = gave_none outline_of g.R.Inlet g.I.Items _ _ _ _ c.advance.new.self r.0 c.in_ok-outline.field-0 none
+    (c.in_ok-outline.ensures.gives _ _ _ r.0 r.1) in
     on_err c.from_residual-in_err-write_accepted-in-Ok.result _
-    (shows_ok g.R.Inlet g.I.Items g.W.Outlet _ _ _ _ c.args.writer.now c.loop-text.writer c.write_accepted.new.writer c.advance.new.self r.0 c.loop-text.values c.in-Ok.values (c.in_ok-outline.ensures.none none) r.2
+    (shows_ok g.R.Inlet g.I.Items g.W.Outlet _ _ _ _ c.args.writer.now c.loop-text.writer c.write_accepted.new.writer c.advance.new.self r.0 c.loop-text.values
+    c.in-Ok.values (c.in_ok-outline.ensures.none none) r.2
     (sym c.answer-answer.ensures ∙ c.in-Ok.is) stood r.3 c.in_err-write_accepted-in-Ok.ensures.front)
 
 pub returns-in_err-flushed-in-Err-clause-so_far : goal.returns-in_err-flushed-in-Err-clause-so_far
 returns-in_err-flushed-in-Err-clause-so_far g c =
     let r = c.loop-text.invariant.reads in
     let none = c.in_default.is in
-    let stood = gave_none outline_of g.R.Inlet g.I.Items _ _ _ _ c.advance.new.self r.0 c.in_ok-outline.field-0 none (c.in_ok-outline.ensures.gives _ _ _ r.0 r.1) in
+    let stood = gave_none outline_of g.R.Inlet g.I.Items _ _ _ _ c.advance.new.self r.0 c.in_ok-outline.field-0 none
+    (c.in_ok-outline.ensures.gives _ _ _ r.0 r.1) in
     on_err c.from_residual-in_err-flushed-in-Err.result _
-    (so_far g.R.Inlet g.I.Items g.W.Outlet _ _ _ _ c.args.writer.now c.flushed.new.writer c.advance.new.self (plain r.0) (stood_plain g.R.Inlet g.I.Items _ _ _ _ c.advance.new.self r.0 stood)
+    (so_far g.R.Inlet g.I.Items g.W.Outlet _ _ _ _ c.args.writer.now c.flushed.new.writer c.advance.new.self (plain r.0)
+    (stood_plain g.R.Inlet g.I.Items _ _ _ _ c.advance.new.self r.0 stood)
     (Front-all g.W.Outlet.took g.W.Outlet.written c.args.writer.now c.loop-text.writer c.flushed.new.writer (lines_of (plain r.0)) r.3 c.flushed.ensures.kept))
 
 pub returns-clause-shown : goal.returns-clause-shown
 returns-clause-shown g c =
     let r = c.loop-text.invariant.reads in
     let none = c.in_default.is in
-    let stood = gave_none outline_of g.R.Inlet g.I.Items _ _ _ _ c.advance.new.self r.0 c.in_ok-outline.field-0 none (c.in_ok-outline.ensures.gives _ _ _ r.0 r.1) in
+    let stood = gave_none outline_of g.R.Inlet g.I.Items _ _ _ _ c.advance.new.self r.0 c.in_ok-outline.field-0 none
+    (c.in_ok-outline.ensures.gives _ _ _ r.0 r.1) in
     elim c.match-answer.branch [
-      | in-Ok+in_ok-write_accepted-in-Ok w ↦ rw (w.writer-is, w.answer-is) (shown_ok g.R.Inlet g.I.Items g.W.Outlet _ _ _ _ c.args.writer.now c.loop-text.writer w.write_accepted.new.writer c.advance.new.self r.0
-          c.loop-text.values w.in-Ok.values (c.in_ok-outline.ensures.none none) r.2 (sym c.answer-answer.ensures ∙ w.in-Ok.is) stood r.3 w.in_ok-write_accepted-in-Ok.ensures.wrote)
-      | in-Err+in_ok-flushed-in-Err w ↦ rw (w.writer-is, w.answer-is, w.in-Err.is) (shown_err g.R.Inlet g.I.Items g.W.Outlet _ _ _ _ c.args.writer.now c.loop-text.writer w.flushed.new.writer c.advance.new.self r.0
-          c.loop-text.values w.in-Err.field-0 (sym c.answer-answer.ensures ∙ w.in-Err.is) stood (Took-kept g.W.Outlet.took g.W.Outlet.written c.args.writer.now c.loop-text.writer w.flushed.new.writer (lines_of (plain r.0)) r.3 w.flushed.ensures.kept))
+      | in-Ok+in_ok-write_accepted-in-Ok w ↦ rw (w.writer-is, w.answer-is)
+          (shown_ok g.R.Inlet g.I.Items g.W.Outlet _ _ _ _ c.args.writer.now c.loop-text.writer w.write_accepted.new.writer c.advance.new.self r.0
+          c.loop-text.values w.in-Ok.values (c.in_ok-outline.ensures.none none) r.2 (sym c.answer-answer.ensures ∙ w.in-Ok.is) stood r.3
+          w.in_ok-write_accepted-in-Ok.ensures.wrote)
+      | in-Err+in_ok-flushed-in-Err w ↦ rw (w.writer-is, w.answer-is, w.in-Err.is)
+          (shown_err g.R.Inlet g.I.Items g.W.Outlet _ _ _ _ c.args.writer.now c.loop-text.writer w.flushed.new.writer c.advance.new.self r.0
+          c.loop-text.values w.in-Err.field-0 (sym c.answer-answer.ensures ∙ w.in-Err.is) stood
+          (Took-kept g.W.Outlet.took g.W.Outlet.written c.args.writer.now c.loop-text.writer w.flushed.new.writer (lines_of (plain r.0)) r.3
+          w.flushed.ensures.kept))
     ]

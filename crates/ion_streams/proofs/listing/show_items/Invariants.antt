@@ -13,7 +13,8 @@ invariant-loop-text g l = record {
   bound : l.values + work_of g.I.Items l.place ≤ 8193 * 2 ^ 32 + 1;
   asked : g.R.Inlet.calls_made l.reader + reads_of l.place ≤ g.R.Inlet.calls_made l.fn.reader + l.fn.reads;
   handed : length (g.R.Inlet.handed l.reader) + 4096 * reads_of l.place ≤ length (g.R.Inlet.handed l.fn.reader) + 4096 * l.fn.reads;
-  reads : (given : List (Value × ℕ)) × StoodEach g.R.Inlet g.I.Items (g.I.Items.catalog l.fn.items) (g.I.Items.limits l.fn.items) l.fn.reader l.reader l.place given × (length given ≡ l.values)
+  reads : (given : List (Value × ℕ)) × StoodEach g.R.Inlet g.I.Items (g.I.Items.catalog l.fn.items) (g.I.Items.limits l.fn.items) l.fn.reader l.reader l.place
+      given × (length given ≡ l.values)
       × Took g.W.Outlet.took g.W.Outlet.written l.fn.writer l.writer (lines_of (plain given));
 }
 

@@ -12,7 +12,8 @@ returns-in-Ok-clause-stands c =
     let begins = binary_at_first c.args.piece.now c.in-Some-eq224.field-0.now c.in-Some-eq224.ensures.value c.in-Some-eq224.field-0-test in
     first_kept c.args.self.now c.go_on.new.self (Binary new) c.args.piece.now result c.go_on.ensures
     (first_stands c.args.self.now true (binary.Stands c.in-Ok.reader) c.args.piece.now result c.requires.unbegun begins c.in-Ok.ensures.stands
-    new.limits new.catalog.now (binary.Stands new) (first_used true c.args.piece.now result 0 refl begins c.step-result.ensures.uses_all 0 c.step-result.ensures.progress) c.step-result.ensures.stands
+    new.limits new.catalog.now (binary.Stands new) (first_used true c.args.piece.now result 0 refl begins c.step-result.ensures.uses_all 0
+    c.step-result.ensures.progress) c.step-result.ensures.stands
     (c.step-result.ensures.limits ∙ c.in-Ok.ensures.limits) (c.step-result.ensures.catalog ∙ c.in-Ok.ensures.catalog))
 
 pub returns-in-Ok-clause-answers : goal.returns-in-Ok-clause-answers
@@ -31,8 +32,10 @@ returns-in-Ok-new-clause-stands c =
     first_kept c.args.self.now c.go_on-in-Ok-new.new.self (Text new) c.args.piece.now result c.go_on-in-Ok-new.ensures
     (first_stands c.args.self.now false (text.Stands old) c.args.piece.now result c.requires.unbegun begins c.in-Ok-new.ensures.stands
     new.limits new.catalog.now (text.Stands new)
-    (first_used false c.args.piece.now result (text.pending old) c.in-Ok-new.ensures.pending begins c.step-result-in-Ok-new.ensures.uses_all (text.pending new) c.step-result-in-Ok-new.ensures.progress)
-    c.step-result-in-Ok-new.ensures.stands (c.step-result-in-Ok-new.ensures.limits ∙ c.in-Ok-new.ensures.limits) (c.step-result-in-Ok-new.ensures.catalog ∙ c.in-Ok-new.ensures.catalog))
+    (first_used false c.args.piece.now result (text.pending old) c.in-Ok-new.ensures.pending begins c.step-result-in-Ok-new.ensures.uses_all (text.pending new)
+    c.step-result-in-Ok-new.ensures.progress)
+    c.step-result-in-Ok-new.ensures.stands (c.step-result-in-Ok-new.ensures.limits ∙ c.in-Ok-new.ensures.limits)
+    (c.step-result-in-Ok-new.ensures.catalog ∙ c.in-Ok-new.ensures.catalog))
 
 pub returns-in-Ok-new-clause-answers : goal.returns-in-Ok-new-clause-answers
 returns-in-Ok-new-clause-answers c =

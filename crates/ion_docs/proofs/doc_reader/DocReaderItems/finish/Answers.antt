@@ -9,10 +9,12 @@ pub returns-in-Binary-clause-ends : goal.returns-in-Binary-clause-ends
 returns-in-Binary-clause-ends c =
     let d = c.args.self in
     let old = c.in-Binary.reader in
-    forward_ends d true old.limits old.catalog.now (binary.Stands old) (λ u s. inside d (Binary old) u s c.in-Binary.is) c.finish.result (rw c.in-Binary.is at c.finish.ensures.ends)
+    forward_ends d true old.limits old.catalog.now (binary.Stands old) (λ u s. inside d (Binary old) u s c.in-Binary.is) c.finish.result
+    (rw c.in-Binary.is at c.finish.ensures.ends)
 
 pub returns-in-Text-clause-ends : goal.returns-in-Text-clause-ends
 returns-in-Text-clause-ends c =
     let d = c.args.self in
     let old = c.in-Text.reader in
-    forward_ends d false old.limits old.catalog.now (text.Stands old) (λ u s. inside d (Text old) u s c.in-Text.is) c.finish-in-Text.result (rw c.in-Text.is at c.finish-in-Text.ensures.ends)
+    forward_ends d false old.limits old.catalog.now (text.Stands old) (λ u s. inside d (Text old) u s c.in-Text.is) c.finish-in-Text.result
+    (rw c.in-Text.is at c.finish-in-Text.ensures.ends)

@@ -17,7 +17,8 @@ pub returns-in-Binary-clause-answers : goal.returns-in-Binary-clause-answers
 returns-in-Binary-clause-answers c =
     let d = c.args.self.now in
     let old = c.in-Binary.reader in
-    forward_answers d true old.limits old.catalog.now (binary.Stands old) (λ u s. inside d (Binary old) u s c.in-Binary.is) c.args.piece.now c.step.result c.step.ensures.answers
+    forward_answers d true old.limits old.catalog.now (binary.Stands old) (λ u s. inside d (Binary old) u s c.in-Binary.is) c.args.piece.now c.step.result
+    c.step.ensures.answers
 
 pub returns-in-Text-clause-stands : goal.returns-in-Text-clause-stands
 returns-in-Text-clause-stands c =
@@ -25,10 +26,12 @@ returns-in-Text-clause-stands c =
     let old = c.in-Text.reader in
     let new = c.step-in-Text.new.self in
     forward_stands d false old.limits old.catalog.now (text.Stands old) (λ u s. inside d (Text old) u s c.in-Text.is)
-    new.limits new.catalog.now (text.Stands new) c.args.piece.now c.step-in-Text.result c.step-in-Text.ensures.stands c.step-in-Text.ensures.limits c.step-in-Text.ensures.catalog
+    new.limits new.catalog.now (text.Stands new) c.args.piece.now c.step-in-Text.result c.step-in-Text.ensures.stands c.step-in-Text.ensures.limits
+    c.step-in-Text.ensures.catalog
 
 pub returns-in-Text-clause-answers : goal.returns-in-Text-clause-answers
 returns-in-Text-clause-answers c =
     let d = c.args.self.now in
     let old = c.in-Text.reader in
-    forward_answers d false old.limits old.catalog.now (text.Stands old) (λ u s. inside d (Text old) u s c.in-Text.is) c.args.piece.now c.step-in-Text.result c.step-in-Text.ensures.answers
+    forward_answers d false old.limits old.catalog.now (text.Stands old) (λ u s. inside d (Text old) u s c.in-Text.is) c.args.piece.now c.step-in-Text.result
+    c.step-in-Text.ensures.answers

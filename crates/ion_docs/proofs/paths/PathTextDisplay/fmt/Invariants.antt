@@ -7,4 +7,5 @@ use Rattle.ion_docs.proofs.paths.PathTextDisplay.fmt.Given as goal
 -- behind the first part, each with a space before it
 abbrev pub invariant-loop-part : goal.invariant-loop-part
 invariant-loop-part g l =
-    IsPlainFormatter l.initial.f → HasWritten g.W.Write.write_str_gives l.initial.f (flat_map (λ part. codes " " ++ part_text part) (take l.part-index l.others)) l.f
+    IsPlainFormatter l.initial.f → HasWritten g.W.Write.write_str_gives l.initial.f
+    (flat_map (λ part. codes " " ++ part_text part) (take l.part-index l.others)) l.f

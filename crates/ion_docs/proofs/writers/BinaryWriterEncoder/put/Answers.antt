@@ -19,7 +19,8 @@ returns-clause-wrote g c =
 pub returns-clause-put : goal.returns-clause-put
 returns-clause-put g c =
     let v = c.args.value.now in
-    on_ok_weaker c.put.result (λ is s put. is ∙ ap (λ (p : Progress). record { progress = p; failed = None }) (ap (λ (w : Writing). after w.progress v) put ∙ behind_one nothing_yet s v)) c.put.ensures.after
+    on_ok_weaker c.put.result (λ is s put. is ∙ ap (λ (p : Progress). record { progress = p; failed = None })
+    (ap (λ (w : Writing). after w.progress v) put ∙ behind_one nothing_yet s v)) c.put.ensures.after
 
 pub returns-clause-front : goal.returns-clause-front
 returns-clause-front g c =
@@ -32,4 +33,5 @@ returns-clause-front g c =
 
 pub returns-clause-cause : goal.returns-clause-cause
 returns-clause-cause g c = λ s put.
-    IfErr-weaker c.put.result _ _ (λ fault cause. binary_fault s c.args.value.now (g.W.Outlet.has_failed c.put.new.out) fault (rw put at cause)) (c.put.ensures.cause (ap (λ (w : Writing). w.failed) put))
+    IfErr-weaker c.put.result _ _ (λ fault cause. binary_fault s c.args.value.now (g.W.Outlet.has_failed c.put.new.out) fault (rw put at cause))
+    (c.put.ensures.cause (ap (λ (w : Writing). w.failed) put))

@@ -19,4 +19,5 @@ returns-clause-front g c =
 
 pub returns-clause-cause : goal.returns-clause-cause
 returns-clause-cause g c = λ s put.
-    IfErr-weaker c.put.result _ _ (λ fault cause. text_fault (s ++ c.args.value.now ∷ []) (g.W.Outlet.has_failed c.put.new.out) fault cause) (c.put.ensures.cause put)
+    IfErr-weaker c.put.result _ _ (λ fault cause. text_fault (s ++ c.args.value.now ∷ []) (g.W.Outlet.has_failed c.put.new.out) fault cause)
+    (c.put.ensures.cause put)

@@ -9,7 +9,8 @@ use Rattle.ion_streams.proofs.source.Source.read_on.Goals as goal
 
 pub returns-in-Err-Memory-clause-kept : goal.returns-in-Err-Memory-clause-kept
 returns-in-Err-Memory-clause-kept g c = λ catalog limits first s h.
-    gave_so_far g.R.Inlet g.I.Items catalog limits first c.loop-refusal.reader c.loop-refusal.self.items (left_of c.loop-refusal.self) false h.given s h.values (c.loop-refusal.invariant.reads catalog limits first h.given h.each)
+    gave_so_far g.R.Inlet g.I.Items catalog limits first c.loop-refusal.reader c.loop-refusal.self.items (left_of c.loop-refusal.self) false h.given s h.values
+    (c.loop-refusal.invariant.reads catalog limits first h.given h.each)
 
 pub returns-in-Err-clause-gives : goal.returns-in-Err-clause-gives
 returns-in-Err-clause-gives g c =
@@ -28,13 +29,15 @@ returns-in-Ok-Some-clause-gives g c =
 
 pub returns-in-Ok-Some-clause-within : goal.returns-in-Ok-Some-clause-within
 returns-in-Ok-Some-clause-within g c = λ first reads h.
-    within_kept g.R.Inlet reads first c.loop-refusal.reader c.loop-refusal.self c.take.new.self c.in-Ok-Some.ensures.reads (c.loop-refusal.invariant.within first reads h)
+    within_kept g.R.Inlet reads first c.loop-refusal.reader c.loop-refusal.self c.take.new.self c.in-Ok-Some.ensures.reads
+    (c.loop-refusal.invariant.within first reads h)
 
 pub returns-in_err-refill-clause-cause : goal.returns-in_err-refill-clause-cause
 returns-in_err-refill-clause-cause g c =
     let p = err_from_is_err_and c.from_residual.result c.from_residual.ensures.1 in
     rw (p.1, p.2) (λ first reads h.
-    c.in_err-refill.ensures.cause first reads (within_kept g.R.Inlet reads first c.loop-refusal.reader c.loop-refusal.self c.take.new.self c.in-Ok-None.ensures.reads (c.loop-refusal.invariant.within first reads h)))
+    c.in_err-refill.ensures.cause first reads (within_kept g.R.Inlet reads first c.loop-refusal.reader c.loop-refusal.self c.take.new.self
+    c.in-Ok-None.ensures.reads (c.loop-refusal.invariant.within first reads h)))
 
 pub returns-in_err-refill-clause-kept : goal.returns-in_err-refill-clause-kept
 returns-in_err-refill-clause-kept g c =
@@ -45,7 +48,12 @@ returns-in_err-refill-clause-kept g c =
     let gives = none_went g.A.Asked.of g.I.Items from mid _ c.in-Ok-None.field-0-is t.gives in
     on_err c.from_residual.result _ (λ catalog limits first s h.
     c.in_err-refill.ensures.kept catalog limits first s
-    (record { given = h.given; each = reads_none g.R.Inlet g.I.Items catalog limits first c.loop-refusal.reader from mid h.given (i.reads catalog limits first h.given h.each) gives t.catalog t.limits; values = h.values }))
+    (record {
+      given = h.given;
+      each = reads_none g.R.Inlet g.I.Items catalog limits first c.loop-refusal.reader from mid h.given
+          (i.reads catalog limits first h.given h.each) gives t.catalog t.limits;
+      values = h.values;
+    }))
 
 pub loop-refusal-preserved : goal.loop-refusal-preserved
 loop-refusal-preserved g c =
@@ -65,9 +73,11 @@ loop-refusal-preserved g c =
       handed = omega (arith, handed, t.reads, f.few_octets);
       unasked = record { either = inr f.no_read_failed };
       heard = λ h. record { either = inl f.no_read_failed };
-      within = λ first reads h. f.within (search rules) first reads (within_kept g.R.Inlet reads first c.loop-refusal.reader from mid t.reads (i.within first reads h));
+      within = λ first reads h. f.within (search rules) first reads
+          (within_kept g.R.Inlet reads first c.loop-refusal.reader from mid t.reads (i.within first reads h));
       reads = λ catalog limits first given h.
-          f.goes_on (search rules) catalog limits first given (reads_none g.R.Inlet g.I.Items catalog limits first c.loop-refusal.reader from mid given (i.reads catalog limits first given h) gives t.catalog t.limits);
+          f.goes_on (search rules) catalog limits first given (reads_none g.R.Inlet g.I.Items catalog limits first c.loop-refusal.reader from mid given
+          (i.reads catalog limits first given h) gives t.catalog t.limits);
     }
 
 pub returns-then-not-branch-clause-gives : goal.returns-then-not-branch-clause-gives
@@ -78,11 +88,14 @@ returns-then-not-branch-clause-gives g c =
     let t = c.in-Ok-None.ensures in
     let gives = none_went g.A.Asked.of g.I.Items from mid _ c.in-Ok-None.field-0-is t.gives in
     λ catalog limits first given h.
-    c.in_ok-refill.ensures.ends (search rules) catalog limits first given (reads_none g.R.Inlet g.I.Items catalog limits first c.loop-refusal.reader from mid given (i.reads catalog limits first given h) gives t.catalog t.limits)
+    c.in_ok-refill.ensures.ends (search rules) catalog limits first given
+    (reads_none g.R.Inlet g.I.Items catalog limits first c.loop-refusal.reader from mid given (i.reads catalog limits first given h) gives t.catalog
+    t.limits)
 
 pub returns-in-Ok-Some-clause-no_read_failed : goal.returns-in-Ok-Some-clause-no_read_failed
 returns-in-Ok-Some-clause-no_read_failed g c = λ h.
-    gave_some g.R.Inlet g.I.Items c.loop-refusal.reader c.loop-refusal.self _ c.in-Ok-Some.found c.in-Ok-Some.field-0-is c.in-Ok-Some.ensures.nothing (c.loop-refusal.invariant.heard h)
+    gave_some g.R.Inlet g.I.Items c.loop-refusal.reader c.loop-refusal.self _ c.in-Ok-Some.found c.in-Ok-Some.field-0-is c.in-Ok-Some.ensures.nothing
+    (c.loop-refusal.invariant.heard h)
 
 pub returns-in-Err-clause-no_read_failed : goal.returns-in-Err-clause-no_read_failed
 returns-in-Err-clause-no_read_failed g c =

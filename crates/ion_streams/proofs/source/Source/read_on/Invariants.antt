@@ -15,7 +15,8 @@ invariant-loop-refusal g l = record {
   unasked : NoReadFailed g.R.Inlet l.fn.reader l.reader;
   heard : NoneFailed g.R.Inlet g.I.Items l.fn.reader l.fn.self → NoneFailed g.R.Inlet g.I.Items l.reader l.self;
   within : (first : g.row.R.Denot) (reads : ℕ) → IsWithin g.R.Inlet reads first l.fn.reader l.fn.self → IsWithin g.R.Inlet reads first l.reader l.self;
-  reads : (catalog : Catalog) (limits : Limits) (first : g.row.R.Denot) (given : List (Value × ℕ)) → ReadsEach g.R.Inlet g.I.Items catalog limits first l.fn.reader l.fn.self given
+  reads : (catalog : Catalog) (limits : Limits) (first : g.row.R.Denot) (given : List (Value × ℕ))
+      → ReadsEach g.R.Inlet g.I.Items catalog limits first l.fn.reader l.fn.self given
       → ReadsEach g.R.Inlet g.I.Items catalog limits first l.reader l.self given;
 }
 

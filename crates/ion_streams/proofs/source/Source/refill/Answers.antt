@@ -29,7 +29,8 @@ returns-then-not-branch-clause-ends g c =
     let done = f.ends (search rules) in
     let nothing = between_nil to.piece.items to.at to.end (omega (arith, f.within.0, done.1)) in
     let empty = between_nil from.piece.items from.at from.end (omega (arith, c.requires.used_up)) in
-    λ ended catalog limits first given h. reads_filled g.R.Inlet g.I.Items catalog limits first c.args.reader.now c.fill.new.reader from to [] true given h empty done.0 nothing f.items
+    λ ended catalog limits first given h. reads_filled g.R.Inlet g.I.Items catalog limits first c.args.reader.now c.fill.new.reader from to [] true given h
+    empty done.0 nothing f.items
 
 pub returns-then-not-branch-clause-spent : goal.returns-then-not-branch-clause-spent
 returns-then-not-branch-clause-spent g c =
@@ -40,7 +41,11 @@ returns-then-not-branch-clause-spent g c =
     let done = f.ends (search rules) in
     let nothing = between_nil to.piece.items to.at to.end (omega (arith, f.within.0, done.1)) in
     let empty = between_nil from.piece.items from.at from.end (omega (arith, c.requires.used_up)) in
-    λ ended. record { empty = nothing; awaited = rw f.items (none_awaited (g.I.Items.awaits from.items) (left_of from) empty ready.begins); counted = rw (f.items, f.used) ready.counted }
+    λ ended. record {
+      empty = nothing;
+      awaited = rw f.items (none_awaited (g.I.Items.awaits from.items) (left_of from) empty ready.begins);
+      counted = rw (f.items, f.used) ready.counted;
+    }
 
 pub returns-clause-ready : goal.returns-clause-ready
 returns-clause-ready g c =
@@ -54,7 +59,8 @@ returns-clause-ready g c =
       fits = f.within.1;
       piece = f.piece;
       room = rw f.items (omega (arith, ready.room, f.within.0, f.within.1, f.reads, c.requires.used_up));
-      begins = begins_any (g.I.Items.awaits from.items) (g.I.Items.awaits to.items) (left_of from) (left_of to) (ap (λ x. g.I.Items.awaits x) f.items) empty ready.begins;
+      begins = begins_any (g.I.Items.awaits from.items) (g.I.Items.awaits to.items) (left_of from) (left_of to) (ap (λ x. g.I.Items.awaits x) f.items) empty
+          ready.begins;
       counted = rw (f.items, f.used) ready.counted;
     }
 
@@ -76,4 +82,5 @@ returns-clause-goes_on g c =
     let to = c.fill.new.self in
     let f = c.in_ok-fill.ensures in
     let empty = between_nil from.piece.items from.at from.end (omega (arith, c.requires.used_up)) in
-    λ more catalog limits first given h. reads_filled g.R.Inlet g.I.Items catalog limits first c.args.reader.now c.fill.new.reader from to (left_of to) false given h empty (f.heard (search rules)) refl f.items
+    λ more catalog limits first given h. reads_filled g.R.Inlet g.I.Items catalog limits first c.args.reader.now c.fill.new.reader from to (left_of to) false
+    given h empty (f.heard (search rules)) refl f.items

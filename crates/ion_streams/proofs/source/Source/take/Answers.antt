@@ -12,7 +12,8 @@ returns-in-Err-clause-refuses g c = λ other u given h more.
     let limits = g.I.Items.limits c.args.self.now.items in
     let w = u ++ left_of c.args.self.now in
     let a = rw c.deref.ensures.value at (c.in-Err.ensures.refuses u given h other) in
-    refused_early (format_of g.I.Items catalog limits) (g.met.I.Items.reasons catalog limits) w more given c.in-Err.refusal a.0 a.1 (g.met.I.Items.refused catalog limits w c.in-Err.refusal a.1) (g.met.I.Items.settled catalog limits w more)
+    refused_early (format_of g.I.Items catalog limits) (g.met.I.Items.reasons catalog limits) w more given c.in-Err.refusal a.0 a.1
+    (g.met.I.Items.refused catalog limits w c.in-Err.refusal a.1) (g.met.I.Items.settled catalog limits w more)
 
 pub returns-in-Ok-clause-gives : goal.returns-in-Ok-clause-gives
 returns-in-Ok-clause-gives g c = λ u given h.
@@ -23,7 +24,8 @@ returns-in-Ok-clause-gives g c = λ u given h.
     let stood = rw c.deref.ensures.value at (c.in-Ok.ensures.stands u given h) in (
       stood.0,
       stood.1,
-      went g.I.Items u given c.args.self.now.piece.items c.args.self.now.at c.args.self.now.end c.in-Ok.used (length u + c.in-Ok.used) _ stood.0 fits refl (omega (arith, total, counted)) stood.2,
+      went g.I.Items u given c.args.self.now.piece.items c.args.self.now.at c.args.self.now.end c.in-Ok.used (length u + c.in-Ok.used) _ stood.0 fits refl
+          (omega (arith, total, counted)) stood.2,
     )
 
 pub returns-in-Ok-clause-ready : goal.returns-in-Ok-clause-ready
@@ -37,7 +39,8 @@ returns-in-Ok-clause-ready g c =
       fits = ready.fits;
       piece = ready.piece;
       room = omega (arith, ready.room, ready.within, fits, taken);
-      begins = begins_drop (g.I.Items.awaits c.take.new.items) c.args.self.now.piece.items c.args.self.now.at c.args.self.now.end c.in-Ok.used fits (rw c.deref.ensures.value at c.in-Ok.ensures.awaited);
+      begins = begins_drop (g.I.Items.awaits c.take.new.items) c.args.self.now.piece.items c.args.self.now.at c.args.self.now.end c.in-Ok.used fits
+          (rw c.deref.ensures.value at c.in-Ok.ensures.awaited);
       counted = omega (arith, ready.counted, taken);
     }
 
@@ -45,7 +48,8 @@ pub returns-in-Ok-clause-nothing : goal.returns-in-Ok-clause-nothing
 returns-in-Ok-clause-nothing g c = λ asks.
     let used = c.in-Ok.ensures.used in
     let fits : c.in-Ok.used ≤ c.args.self.now.end - c.args.self.now.at = omega (arith, used, length-take {A = ℕ}, length-drop {A = ℕ}) in
-    none_there c.in-Ok.found (λ some. let less = c.in-Ok.ensures.progress some in let owes = asks.owes in let used_up = asks.used_up in absurd (omega (arith, less, owes, used_up, fits)))
+    none_there c.in-Ok.found (λ some. let less = c.in-Ok.ensures.progress some in let owes = asks.owes in let used_up = asks.used_up in
+    absurd (omega (arith, less, owes, used_up, fits)))
 
 pub returns-in-Err-clause-none_refused : goal.returns-in-Err-clause-none_refused
 returns-in-Err-clause-none_refused g c = λ other asks.

@@ -19,11 +19,13 @@ returns-in_ok-close-in-Ok-End-clause-gives g c = λ catalog limits first given h
     let found = c.in_ok-close-in-Ok-End.field-0 in
     rw c.told.ensures (gave_last g.A.Asked.of g.R.Inlet g.I.Items catalog limits first c.read_on.new.reader c.close.new.self given found
     (last_refused g.R.Inlet g.I.Items catalog limits first c.read_on.new.reader c.read_on.new.self given c.close.new.self found ends end)
-    (last_gives g.R.Inlet g.I.Items catalog limits first c.read_on.new.reader c.read_on.new.self given c.close.new.self found (rw c.in-Ok-End.field-0-is at c.in-Ok-End.ensures.ended).empty ends end))
+    (last_gives g.R.Inlet g.I.Items catalog limits first c.read_on.new.reader c.read_on.new.self given c.close.new.self found
+    (rw c.in-Ok-End.field-0-is at c.in-Ok-End.ensures.ended).empty ends end))
 
 pub returns-in_err-close-in-Ok-End-clause-kept : goal.returns-in_err-close-in-Ok-End-clause-kept
 returns-in_err-close-in-Ok-End-clause-kept g c =
     on_err c.from_residual.result _ (λ catalog limits first s h.
     let read : Reads g.R.Inlet g.I.Items catalog limits first c.args.reader.now c.in-Open.source s = rw c.in-Open.is at h in
-    gave_so_far g.R.Inlet g.I.Items catalog limits first c.read_on.new.reader c.read_on.new.self.items (left_of c.read_on.new.self) true read.given s read.values
+    gave_so_far g.R.Inlet g.I.Items catalog limits first c.read_on.new.reader c.read_on.new.self.items (left_of c.read_on.new.self) true read.given s
+    read.values
     (rw c.in-Ok-End.field-0-is at (c.in-Ok-End.ensures.gives catalog limits first read.given read.each)))
