@@ -184,6 +184,7 @@ impl<I: Items + Drop> Source<I> {
     /// Reads on up to the next value or to the end.
     ///
     /// Faults are `Memory`, `Read` and `TooManyReads`.
+    #[inline(always)]
     fn read_on<A: Asked, R: Inlet>(&mut self, reader: &mut R) -> Result<Reached<A>, Fault>
         requires { IsReady I.Items self.old }
         ensures gives { IfOk result (λ reached.
@@ -357,7 +358,7 @@ impl<I: Items + Drop> Standing<I> {
                     self.refuse(refusal);
                     Ok(None)
                 }
-                Ok(Reached::End) => Ok(told::<A>(self.close()?)),
+                Ok(Reached::End) => self.end::<A>(),
                 Err(fault) => {
                     self.give_up();
                     Err(fault)
@@ -390,9 +391,29 @@ impl<I: Items + Drop> Standing<I> {
         }
     }
 
+    /// Closes a document whose octets were all used, as `close` does: what is told of the value
+    /// that the end gave.
+    #[inline(never)]
+    fn end<A: Asked>(&mut self) -> Result<Option<(A, u64)>, Fault>
+        requires { IfOpen self.old (IsSpent I.Items) }
+        ensures ends { IfOk result (λ found. (last : Option (Value × ℕ))
+            × (option_map (λ next. (A.of next.0, next.1)) last ≡ found)
+            × IfOpen self.old (λ source.
+            (u : List ℕ) (given : List (Value × ℕ)) → I.stands source.items u given →
+            MatchClosed self.new
+            (EndsWell (format_of I.Items (I.catalog source.items) (I.limits source.items)) u
+            (given ++ option_to_list last))
+            (λ refusal. (last ≡ Option.None) × EndsRefused
+            (format_of I.Items (I.catalog source.items) (I.limits source.items))
+            u given refusal))) }
+        ensures closed { IfOpen self.new (λ source. ⊥) }
+        ensures cause { IfErr result (λ fault. fault ≡ Fault.Memory) }
+    {
+        Ok(told::<A>(self.close()?))
+    }
+
     /// Closes a document whose octets were all used: it stands where `last` says, and gives what
     /// that gives. At a fault, which is `Memory`, it is closed, too.
-    #[inline(never)]
     fn close(&mut self) -> Result<Option<(Value, u64)>, Fault>
         requires { IfOpen self.old (IsSpent I.Items) }
         ensures ends { IfOk result (λ found. IfOpen self.old (λ source.
@@ -421,7 +442,6 @@ impl<I: Items + Drop> Standing<I> {
 }
 
 /// What is told of the value that the end gave.
-#[inline(never)]
 fn told<A: Asked>(found: Option<(Value, u64)>) -> Option<(A, u64)>
     ensures { result ≡ option_map (λ next. (A.of next.0, next.1)) found }
 {
