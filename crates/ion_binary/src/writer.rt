@@ -235,6 +235,7 @@ impl<S: BuildHasher + Drop> BinaryWriter<S> {
     }
 
     // Keeps a fault for the later calls.
+    #[inline(always)]
     fn note_fault(&mut self, answer: Result<(), Fault>) -> Result<(), Fault>
         ensures answer { result ≡ answer }
         ensures failed { IfErr result (λ fault. self.new.failed ≡ Some fault) }
@@ -273,6 +274,7 @@ impl<S: BuildHasher + Drop> BinaryWriter<S> {
 }
 
 // Writes octets, behind the marker where none is out. The only fault is `Write`.
+#[inline(always)]
 fn put_opened<W: Outlet>(out: &mut W, begun: bool, octets: &[u8]) -> Result<(), Fault>
     ensures ok { OnOk result (Took W.took W.written out.old out.new (opening begun ++ octets.now)) }
     ensures front { OnErr result (TookFront W.took W.written out.old out.new
