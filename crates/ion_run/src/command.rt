@@ -388,10 +388,10 @@ fn conversion<H: Hashers, R: Inlet, O: Outlet>(
         ⊎ (fault ≡ Fault.Read) × LacksHasher (H.refuses hashers.now) target) }
 {
     match target {
-        Target::Text => convert(alloc, reader, out, target, catalog, limits),
+        Target::Text => convert(alloc, reader, out, Target::Text, catalog, limits),
         Target::Binary => {
             let hasher = hashers.hasher()?;
-            convert_with_hasher(alloc, hasher, reader, out, target, catalog, limits)
+            convert_with_hasher(alloc, hasher, reader, out, Target::Binary, catalog, limits)
         }
     }
 }
