@@ -1,8 +1,8 @@
 //! Rows of words: what they ask for, with memory enough.
 
 use crate::answers::same;
-use ion_symtab::Limits;
-use ion_words::{Encoding, Request, Task, WordsError, parse};
+use ion_symtab::{Limits, Target};
+use ion_words::{Request, Task, WordsError, parse};
 
 /// The words, and what they ask for: the task, the catalog, the depth and the octets of an item.
 struct Row {
@@ -21,11 +21,11 @@ static PLAIN: [(&[&str], Task); 10] = [
     (&["show", "-"], Task::Show("-")),
     (
         &["convert", "--to", "binary", "a"],
-        Task::Convert("a", Encoding::Binary),
+        Task::Convert("a", Target::Binary),
     ),
     (
         &["convert", "-", "--to=text"],
-        Task::Convert("-", Encoding::Text),
+        Task::Convert("-", Target::Text),
     ),
     (&["compare", "a", "b"], Task::Compare("a", "b")),
     (&["compare", "a", "a"], Task::Compare("a", "a")),
