@@ -3,6 +3,7 @@
 use Rattle.std.specs.Prelude.{ℕ, zero, suc, ◌+◌, ◌-◌, ◌*◌, ◌%◌, ◌≤◌, Bool, not, ◌&&◌, ◌||◌, ◌==◌, if◌then◌else◌, ℤ, pos, ◌≤ℤ◌, ◌<ℤ◌}
 use Rattle.ion_atoms.specs.declared.calendar.Date.{Date}
 use Rattle.ion_atoms.specs.declared.calendar.Minute.{Minute}
+use Rattle.ion_atoms.specs.TimestampBounds.{last_year, last_month, last_hour, last_minute}
 
 -- every fourth year, but of the centuries only every fourth
 abbrev pub is_leap : ℕ → Bool
@@ -28,8 +29,8 @@ days_of_months year (suc n) = days_of_months year n + month_length year (suc n)
 
 -- the years 1 to 9999 have this day
 pub record IsDate (d : Date) : Type 0 where
-  pub year : (1 ≤ d.year) × (d.year ≤ 9999)
-  pub month : (1 ≤ d.month) × (d.month ≤ 12)
+  pub year : (1 ≤ d.year) × (d.year ≤ last_year)
+  pub month : (1 ≤ d.month) × (d.month ≤ last_month)
   pub day : (1 ≤ d.day) × (d.day ≤ month_length d.year d.month)
 
 -- the days of the years before it, of the months before it, and those of its month before it
@@ -41,13 +42,13 @@ abbrev pub first_day : ℕ
 first_day = day_number (record { year = 1; month = 1; day = 1 })
 
 abbrev pub last_day : ℕ
-last_day = day_number (record { year = 9999; month = 12; day = 31 })
+last_day = day_number (record { year = last_year; month = last_month; day = 31 })
 
 -- a day of those years, and a minute of that day
 pub record IsMinute (m : Minute) : Type 0 where
   pub date : IsDate m.date
-  pub hour : m.hour ≤ 23
-  pub minute : m.minute ≤ 59
+  pub hour : m.hour ≤ last_hour
+  pub minute : m.minute ≤ last_minute
 
 -- how many minutes there are before it
 abbrev pub minute_number : Minute → ℕ

@@ -3,6 +3,7 @@ pub mod Ranges
 pub mod Reasons
 pub mod Kinds
 pub mod Decimals
+pub mod TimestampBounds
 pub mod Calendar
 pub mod Neighbours
 pub mod Timestamps

@@ -1,6 +1,7 @@
 -- The day before and the day after, by the lengths of months.
 use Rattle.std.specs.Prelude.{ℕ, ◌+◌, ◌-◌, nat_lt, if◌then◌else◌}
 use Rattle.ion_atoms.specs.declared.calendar.Date.{Date}
+use Rattle.ion_atoms.specs.TimestampBounds.{last_month}
 use Rattle.ion_atoms.specs.Calendar.{month_length}
 
 abbrev pub day_of : ℕ → ℕ → ℕ → Date
@@ -10,10 +11,10 @@ abbrev pub previous_day : Date → Date
 previous_day d =
     if nat_lt 1 d.day then day_of d.year d.month (d.day - 1)
     else if nat_lt 1 d.month then day_of d.year (d.month - 1) (month_length d.year (d.month - 1))
-    else day_of (d.year - 1) 12 31
+    else day_of (d.year - 1) last_month 31
 
 abbrev pub next_day : Date → Date
 next_day d =
     if nat_lt d.day (month_length d.year d.month) then day_of d.year d.month (d.day + 1)
-    else if nat_lt d.month 12 then day_of d.year (d.month + 1) 1
+    else if nat_lt d.month last_month then day_of d.year (d.month + 1) 1
     else day_of (d.year + 1) 1 1

@@ -8,6 +8,7 @@ use Rattle.ion_atoms.specs.declared.calendar.Minute.{Minute}
 use Rattle.ion_atoms.specs.declared.timestamp.Local.{Local}
 use Rattle.ion_atoms.specs.declared.timestamp.Precision.{Precision}
 use Rattle.ion_atoms.specs.declared.timestamp.Precision.TheVariants as precisions
+use Rattle.ion_atoms.specs.TimestampBounds.{last_hour, last_minute, last_second, farthest_offset, most_digits}
 use Rattle.ion_atoms.specs.Calendar.{IsDate, InYears, minute_number}
 
 -- local fields, how many of them are known, and the offset in minutes, None where it is unknown
@@ -24,7 +25,7 @@ local_minute l = record { date = local_date l; hour = l.hour; minute = l.minute 
 
 -- a time of day; there is no leap second
 abbrev pub IsTime : Local → Type 0
-IsTime l = (l.hour ≤ 23) × (l.minute ≤ 59) × (l.second ≤ 59)
+IsTime l = (l.hour ≤ last_hour) × (l.minute ≤ last_minute) × (l.second ≤ last_second)
 
 -- the fields past the precision are 1, of month and day, or 0; a fraction has 1 to 38 digits
 abbrev pub IsCut : Precision → Local → Type 0
@@ -33,11 +34,11 @@ IsCut precisions.Month l = (l.day ≡ 1) × (l.hour ≡ 0) × (l.minute ≡ 0) �
 IsCut precisions.Day l = (l.hour ≡ 0) × (l.minute ≡ 0) × (l.second ≡ 0) × (l.fraction ≡ 0)
 IsCut precisions.Minute l = (l.second ≡ 0) × (l.fraction ≡ 0)
 IsCut precisions.Second l = l.fraction ≡ 0
-IsCut (precisions.Fraction digits) l = (1 ≤ digits) × (digits ≤ 38) × (l.fraction < 10 ^ digits)
+IsCut (precisions.Fraction digits) l = (1 ≤ digits) × (digits ≤ most_digits) × (l.fraction < 10 ^ digits)
 
 -- less than a day either way
 abbrev pub IsOffset : ℤ → Type 0
-IsOffset minutes = (neg_ℤ (pos 1439) ≤ℤ minutes) × (minutes ≤ℤ pos 1439)
+IsOffset minutes = (neg_ℤ (pos farthest_offset) ≤ℤ minutes) × (minutes ≤ℤ pos farthest_offset)
 
 -- only from minute precision on an offset can be known
 abbrev pub HasOffset : Precision → Option ℤ → Type 0

@@ -5,9 +5,11 @@
 ghost use Rattle.std.specs.Prelude.{◌≡◌, ◌≤◌, ◌<◌, ◌+◌, ◌*◌, ◌⊎◌, ◌+ℤ◌, ◌≤ℤ◌, ◌<ℤ◌, pos, neg_ℤ, SomeIff, IfSome, IfNone, IsSome, IsTrue, ◌↔◌};
 ghost use Rattle.jiff.specs.Words.{IsYmd};
 ghost use Rattle.ion_atoms.specs.declared.calendar.Date.{Date as Day};
+ghost use Rattle.ion_atoms.specs.TimestampBounds.{last_year, last_month, farthest_offset};
 ghost use Rattle.ion_atoms.specs.Calendar.{IsDate, IsMinute, InYears, month_length, day_number, minute_number, first_day, last_day};
 ghost use Rattle.ion_atoms.specs.Neighbours.{day_of};
 
+use crate::bounds::{LAST_MONTH, LAST_YEAR};
 use jiff::civil;
 
 /// A day: its year, and its month and day of the month, both counted from 1.
@@ -29,8 +31,8 @@ pub struct Minute {
 /// Whether a month of the years 1 to 9999 has a day of this number.
 #[inline(always)]
 pub fn has_day(year: u16, month: u8, day: u8) -> bool
-    requires year { (1 ≤ year) × (year ≤ 9999) }
-    requires month { (1 ≤ month) × (month ≤ 12) }
+    requires year { (1 ≤ year) × (year ≤ last_year) }
+    requires month { (1 ≤ month) × (month ≤ last_month) }
     ensures { IsTrue result ↔ ((1 ≤ day) × (day ≤ month_length year month)) }
 {
     1 <= day && (day <= 28 || day <= days_of_month(year, month))
@@ -39,8 +41,8 @@ pub fn has_day(year: u16, month: u8, day: u8) -> bool
 // How many days a month of the years 1 to 9999 has.
 #[inline(never)]
 fn days_of_month(year: u16, month: u8) -> u8
-    requires year { (1 ≤ year) × (year ≤ 9999) }
-    requires month { (1 ≤ month) × (month ≤ 12) }
+    requires year { (1 ≤ year) × (year ≤ last_year) }
+    requires month { (1 ≤ month) × (month ≤ last_month) }
     ensures { result ≡ month_length year month }
 {
     match civil::Date::new(year as i16, month as i8, 1) {
@@ -56,7 +58,7 @@ impl Date {
         ensures { let date : Day = record { year = year; month = month; day = day } in
             SomeIff result (IsDate date) date }
     {
-        if year < 1 || year > 9999 || month < 1 || month > 12 {
+        if year < 1 || year > LAST_YEAR || month < 1 || month > LAST_MONTH {
             return None;
         }
         if !has_day(year, month, day) {
@@ -169,7 +171,7 @@ fn neighbour(date: Date, days: u16) -> Option<Date>
 // counted as 0, and which minute of that day it is.
 fn carried(minute: u16, by: i16) -> (u16, u16)
     requires minute { minute < 1440 }
-    requires by { (neg_ℤ (pos 1439) ≤ℤ by) × (by ≤ℤ pos 1439) }
+    requires by { (neg_ℤ (pos farthest_offset) ≤ℤ by) × (by ≤ℤ pos farthest_offset) }
     ensures sum { pos (result.0 * 1440 + result.1) ≡ pos (minute + 1440) +ℤ by }
     ensures days { result.0 ≤ 2 }
     ensures minute { result.1 < 1440 }
@@ -183,7 +185,7 @@ impl Minute {
     /// exactly where that isn't in the years 1 to 9999. The number is at most 1439 either way.
     pub fn moved(self, by: i16) -> Option<Minute>
         requires minute { IsMinute self }
-        requires by { (neg_ℤ (pos 1439) ≤ℤ by) × (by ≤ℤ pos 1439) }
+        requires by { (neg_ℤ (pos farthest_offset) ≤ℤ by) × (by ≤ℤ pos farthest_offset) }
         ensures some { IsSome result ↔ InYears (pos (minute_number self) +ℤ by) }
         ensures value { IfSome result (λ m. IsMinute m
             × (pos (minute_number m) ≡ pos (minute_number self) +ℤ by)) }

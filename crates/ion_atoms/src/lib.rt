@@ -2,6 +2,7 @@
 //! decimals, timestamps and texts; and the reasons for which octets are refused.
 #![tactic(auto)]
 
+pub mod bounds;
 pub mod calendar;
 mod decimal;
 mod display;

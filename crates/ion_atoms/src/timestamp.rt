@@ -2,9 +2,11 @@
 ghost use Rattle.std.specs.Prelude.{◌≡◌, ◌↔◌, ◌≤◌, ◌<◌, ◌^◌, ◌-ℤ◌, pos, IsTrue, SomeIff};
 ghost use Rattle.std.specs.Option.{option_eq, option_cmp};
 ghost use Rattle.std.specs.Ordering.{int_eq, int_cmp};
+ghost use Rattle.ion_atoms.specs.TimestampBounds.{most_digits};
 ghost use Rattle.ion_atoms.specs.Calendar.{IsMinute, InYears, minute_number};
 ghost use Rattle.ion_atoms.specs.Timestamps.{TimestampParts, IsTimestamp, IsCut, IsOffset, HasOffset, minutes_ahead, precision_rank, local_same, timestamp_same, date_cmp, time_cmp, timestamp_cmp};
 
+use crate::bounds::{FARTHEST_OFFSET, LAST_HOUR, LAST_MINUTE, LAST_SECOND, MOST_DIGITS};
 use crate::calendar::{Date, Minute};
 use crate::halves::Halves;
 use std::cmp::Ordering;
@@ -102,7 +104,7 @@ impl Timestamp {
             SomeIff result (IsTimestamp parts) parts }
     {
         let date = Date::new(local.year, local.month, local.day)?;
-        if local.hour > 23 || local.minute > 59 || local.second > 59 {
+        if local.hour > LAST_HOUR || local.minute > LAST_MINUTE || local.second > LAST_SECOND {
             return None;
         }
         if !precision.cuts(local) || !precision.allows(offset) {
@@ -222,7 +224,7 @@ impl Precision {
         match (self, offset) {
             (_, None) => true,
             (Precision::Year | Precision::Month | Precision::Day, Some(_)) => false,
-            (_, Some(minutes)) => -1439 <= minutes && minutes <= 1439,
+            (_, Some(minutes)) => -FARTHEST_OFFSET <= minutes && minutes <= FARTHEST_OFFSET,
         }
     }
 
@@ -275,9 +277,9 @@ impl Local {
 
 // Whether the fraction has so many digits, and so many are kept.
 fn fits(fraction: u128, digits: u8) -> bool
-    ensures { IsTrue result ↔ ((1 ≤ digits) × (digits ≤ 38) × (fraction < 10 ^ digits)) }
+    ensures { IsTrue result ↔ ((1 ≤ digits) × (digits ≤ most_digits) × (fraction < 10 ^ digits)) }
 {
-    if digits < 1 || digits > 38 {
+    if digits < 1 || digits > MOST_DIGITS {
         return false;
     }
     match 10u128.checked_pow(u32::from(digits)) {

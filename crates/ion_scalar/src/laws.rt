@@ -17,6 +17,7 @@ ghost use Rattle.ion_scalar.specs.text.Texts.{number_text};
 ghost use Rattle.ion_scalar.specs.binary.laws.DescriptorRows.{IsTable};
 ghost use Rattle.ion_scalar.specs.binary.Shifted.{moved};
 ghost use Rattle.ion_atoms.specs.declared.calendar.Minute.{Minute};
+ghost use Rattle.ion_atoms.specs.TimestampBounds.{last_year};
 ghost use Rattle.ion_atoms.specs.Calendar.{IsMinute, InYears, minute_number};
 ghost use Rattle.ion_atoms.specs.Timestamps.{TimestampParts, IsTimestamp, IsOffset};
 ghost use Rattle.ion_scalar.specs.binary.TimestampReasons.{ReadsTimestampBody};
@@ -78,7 +79,7 @@ pub fn moved_by_number()
         → InYears (pos (minute_number m) +ℤ by)
         → IsMinute (moved m by) × (pos (minute_number (moved m by)) ≡ pos (minute_number m) +ℤ by) }
     ensures years { (m : Minute) (by : ℤ) → IsMinute m → IsOffset by → 1 ≤ (moved m by).date.year
-        → (moved m by).date.year ≤ 9999
+        → (moved m by).date.year ≤ last_year
         → InYears (pos (minute_number m) +ℤ by) }
 {}
 

@@ -13,6 +13,7 @@ use crate::decimals::{Tail, power, tail_of, whole_of};
 use crate::digits::all_digits;
 use crate::ints::split_sign;
 use crate::timestamps::stamp_of;
+use ion_atoms::bounds::MOST_DIGITS;
 use ion_atoms::{Decimal, Precision, Reason, Timestamp, Whole};
 
 /// A number, as a token spells it.
@@ -74,7 +75,7 @@ fn is_short(precision: Precision) -> bool
     ensures { IsTrue result ↔ IsShort precision }
 {
     match precision {
-        Precision::Fraction(digits) => digits <= 38,
+        Precision::Fraction(digits) => digits <= MOST_DIGITS,
         _ => true,
     }
 }

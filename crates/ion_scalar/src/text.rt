@@ -1,6 +1,7 @@
 //! Numbers written as text, each in its one spelling (Ion 1.0, "Ion Text Encoding" and its grammar,
 //! ints, decimals and timestamps).
 ghost use Rattle.std.specs.Prelude.{◌≡◌, ◌<◌, ◌≤◌, ◌+◌, ◌∷◌, ◌++◌, OnOk, OnErr, IsOkUnless, Ok, ◌%◌, ◌/◌, IfSome, Some, length, vec_len, vec_capacity};
+ghost use Rattle.ion_atoms.specs.TimestampBounds.{farthest_offset};
 ghost use Rattle.ion_atoms.specs.Timestamps.{IsOffset};
 ghost use Rattle.ion_scalar.specs.text.Timestamps.{IsShort};
 ghost use Rattle.std.specs.Fmt.{decimal, signed_decimal};
@@ -228,7 +229,7 @@ fn second_before(octets: &mut Backward, local: Local)
 
 fn clock_before(octets: &mut Backward, sign: u8, minutes: u16)
     requires room { length octets.old + 6 ≤ 96 }
-    requires small { minutes ≤ 1439 }
+    requires small { minutes ≤ farthest_offset }
     ensures { octets.new ≡ (sign ∷ clock_text minutes) ++ octets.old }
 {
     let (hour, minute) = ((minutes / 60) as u8, (minutes % 60) as u8);

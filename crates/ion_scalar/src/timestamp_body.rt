@@ -1,5 +1,6 @@
 //! The bodies of timestamps in binary (Ion 1.0, "Ion Binary Encoding", timestamp).
 ghost use Rattle.std.specs.Prelude.{Result, ◌≡◌, ◌<◌, ◌≤◌, ◌^◌, length, IfOk, IfSome};
+ghost use Rattle.ion_atoms.specs.TimestampBounds.{last_year, last_month, farthest_offset};
 ghost use Rattle.ion_atoms.specs.Calendar.{month_length};
 ghost use Rattle.ion_atoms.specs.Timestamps.{TimestampParts, IsOffset, minutes_ahead};
 ghost use Rattle.ion_scalar.specs.binary.Timestamp.{timestamp_of_body, shown_by, shown, kept_offset, offset_from, local_in, day_known, time_known};
@@ -8,6 +9,9 @@ ghost use Rattle.ion_scalar.specs.binary.laws.Timestamp.{IsUtc};
 ghost use Rattle.ion_scalar.specs.binary.TimestampReasons.{ReadsTimestampBody};
 
 use crate::fields::{Signed, int_of, read_var_int, read_var_uint};
+use ion_atoms::bounds::{
+    FARTHEST_OFFSET, LAST_HOUR, LAST_MINUTE, LAST_MONTH, LAST_SECOND, LAST_YEAR, MOST_DIGITS,
+};
 use ion_atoms::calendar::{Date, Minute, has_day};
 use ion_atoms::{Local, Precision, Reason, Timestamp};
 
@@ -93,7 +97,7 @@ pub(crate) fn offset_of(octets: &[u8]) -> Result<(Option<i16>, usize), Reason>
     ensures within { IfOk result (λ r. r.1 ≤ length octets.now) }
 {
     match read_var_int(octets) {
-        Ok((minutes, used)) if minutes.magnitude <= 1439 => Ok((minutes_of(minutes), used)),
+        Ok((by, used)) if by.magnitude <= FARTHEST_OFFSET as u64 => Ok((minutes_of(by), used)),
         Err(Reason::TooLarge) => Err(Reason::TooLarge),
         _ => Err(Reason::Malformed),
     }
@@ -101,7 +105,7 @@ pub(crate) fn offset_of(octets: &[u8]) -> Result<(Option<i16>, usize), Reason>
 
 #[inline(always)]
 fn minutes_of(minutes: Signed) -> Option<i16>
-    requires { minutes.magnitude ≤ 1439 }
+    requires { minutes.magnitude ≤ farthest_offset }
     ensures value { result ≡ offset_from minutes.negative minutes.magnitude }
     ensures near { IfSome result IsOffset }
 {
@@ -144,14 +148,14 @@ pub(crate) fn field(least: u64, most: u64, octets: &[u8]) -> Result<(u16, usize)
 fn fields_of(octets: &[u8]) -> Result<Utc, Reason>
     ensures { result ≡ read_fields octets.now }
 {
-    let (year, used) = field(1, 9999, octets)?;
+    let (year, used) = field(1, LAST_YEAR as u64, octets)?;
     behind_year(year, &octets[used..])
 }
 
 #[tactic(auto, unfolding(crate::specs::binary::Timestamp::read_behind_year))]
 #[inline(always)]
 fn behind_year(year: u16, octets: &[u8]) -> Result<Utc, Reason>
-    requires { (1 ≤ year) × (year ≤ 9999) }
+    requires { (1 ≤ year) × (year ≤ last_year) }
     ensures { result ≡ read_behind_year year octets.now }
 {
     if octets.is_empty() {
@@ -162,15 +166,15 @@ fn behind_year(year: u16, octets: &[u8]) -> Result<Utc, Reason>
         };
         return Ok(Utc::of_day(Precision::Year, date));
     }
-    let (month, used) = field(1, 12, octets)?;
+    let (month, used) = field(1, LAST_MONTH as u64, octets)?;
     behind_month(year, month as u8, &octets[used..])
 }
 
 #[tactic(auto, unfolding(crate::specs::binary::Timestamp::read_behind_month))]
 #[inline(always)]
 fn behind_month(year: u16, month: u8, octets: &[u8]) -> Result<Utc, Reason>
-    requires year { (1 ≤ year) × (year ≤ 9999) }
-    requires month { (1 ≤ month) × (month ≤ 12) }
+    requires year { (1 ≤ year) × (year ≤ last_year) }
+    requires month { (1 ≤ month) × (month ≤ last_month) }
     ensures { result ≡ read_behind_month year month octets.now }
 {
     if octets.is_empty() {
@@ -193,8 +197,8 @@ fn behind_month(year: u16, month: u8, octets: &[u8]) -> Result<Utc, Reason>
 // The VarUInt at the front, if the month has that day, and how many octets it takes.
 #[inline(always)]
 fn day_field(year: u16, month: u8, octets: &[u8]) -> Result<(u16, usize), Reason>
-    requires year { (1 ≤ year) × (year ≤ 9999) }
-    requires month { (1 ≤ month) × (month ≤ 12) }
+    requires year { (1 ≤ year) × (year ≤ last_year) }
+    requires month { (1 ≤ month) × (month ≤ last_month) }
     ensures value { result ≡ read_field 1 (month_length year month) octets.now }
     ensures range { IfOk result (λ r. (1 ≤ r.0) × (r.0 ≤ month_length year month)) }
     ensures within { IfOk result (λ r. r.1 ≤ length octets.now) }
@@ -214,7 +218,7 @@ fn behind_day(date: Date, octets: &[u8]) -> Result<Utc, Reason>
     if octets.is_empty() {
         return Ok(Utc::of_day(Precision::Day, date));
     }
-    let (hour, used) = field(0, 23, octets)?;
+    let (hour, used) = field(0, LAST_HOUR as u64, octets)?;
     behind_hour(date, hour as u8, &octets[used..])
 }
 
@@ -223,7 +227,7 @@ fn behind_day(date: Date, octets: &[u8]) -> Result<Utc, Reason>
 fn behind_hour(date: Date, hour: u8, octets: &[u8]) -> Result<Utc, Reason>
     ensures { result ≡ read_behind_hour date hour octets.now }
 {
-    let (minute, used) = field(0, 59, octets)?;
+    let (minute, used) = field(0, LAST_MINUTE as u64, octets)?;
     let minute = Minute {
         date,
         hour,
@@ -240,7 +244,7 @@ fn behind_minute(minute: Minute, octets: &[u8]) -> Result<Utc, Reason>
     if octets.is_empty() {
         return Ok(Utc::of_time(Precision::Minute, minute, 0, 0));
     }
-    let (second, used) = field(0, 59, octets)?;
+    let (second, used) = field(0, LAST_SECOND as u64, octets)?;
     behind_second(minute, second as u8, &octets[used..])
 }
 
@@ -263,7 +267,7 @@ fn behind_second(minute: Minute, second: u8, octets: &[u8]) -> Result<Utc, Reaso
 fn with_fraction(minute: Minute, second: u8, power: Signed, octets: &[u8]) -> Result<Utc, Reason>
     ensures { result ≡ read_fraction minute second power octets.now }
 {
-    if power.negative && power.magnitude > 38 {
+    if power.negative && power.magnitude > MOST_DIGITS as u64 {
         return Err(Reason::TooLarge);
     }
     let Ok((negative, magnitude)) = int_of(octets) else {

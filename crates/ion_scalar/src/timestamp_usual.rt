@@ -4,11 +4,13 @@
 ghost use Rattle.std.specs.Prelude.{◌≡◌, ◌<◌, ◌≤◌, ◌^◌, ℕ, true, Ok, is_ok, IsOkAnd, IfSome, length};
 ghost use Rattle.ion_atoms.specs.declared.calendar.Date.{Date};
 ghost use Rattle.ion_atoms.specs.declared.calendar.Minute.{Minute};
+ghost use Rattle.ion_atoms.specs.TimestampBounds.{last_year, last_month};
 ghost use Rattle.ion_atoms.specs.Calendar.{month_length};
 ghost use Rattle.ion_scalar.specs.binary.Timestamp.{timestamp_of_body, read_field, read_fields, read_behind_year, read_behind_month, read_behind_day, read_behind_hour, read_behind_minute, read_behind_second};
 
 use crate::fields::int_of;
 use crate::timestamp_body::{field, offset_of, timestamp_of};
+use ion_atoms::bounds::{LAST_HOUR, LAST_MINUTE, LAST_MONTH, LAST_SECOND, LAST_YEAR};
 use ion_atoms::calendar::has_day;
 
 /// Whether the octets are the body of a timestamp, that is, whether `timestamp_of` answers one.
@@ -36,10 +38,10 @@ fn is_usual(octets: &[u8]) -> bool
 #[tactic(auto, unfolding(crate::specs::binary::Timestamp::read_fields))]
 fn is_usual_time(octets: &[u8]) -> bool
     ensures { result ≡ true → IsOkAnd (read_fields octets.now)
-        (λ utc. (2 ≤ utc.minute.date.year) × (utc.minute.date.year ≤ 9998)) }
+        (λ utc. (2 ≤ utc.minute.date.year) × (utc.minute.date.year < last_year)) }
 {
-    match field(1, 9999, octets) {
-        Ok((year, used)) if 2 <= year && year <= 9998 => usual_month(year, &octets[used..]),
+    match field(1, LAST_YEAR as u64, octets) {
+        Ok((year, used)) if 2 <= year && year < LAST_YEAR => usual_month(year, &octets[used..]),
         _ => false,
     }
 }
@@ -65,8 +67,8 @@ fn part(least: u8, most: u8, octets: &[u8]) -> Option<u8>
 // The day, where it has one octet, if the month has that day.
 #[inline(always)]
 fn day_part(year: u16, month: u8, octets: &[u8]) -> Option<u8>
-    requires year { (1 ≤ year) × (year ≤ 9999) }
-    requires month { (1 ≤ month) × (month ≤ 12) }
+    requires year { (1 ≤ year) × (year ≤ last_year) }
+    requires month { (1 ≤ month) × (month ≤ last_month) }
     ensures some { IfSome result (λ day. 0 < length octets.now) }
     ensures read { IfSome result (λ day. read_field 1 (month_length year month) octets.now
         ≡ Ok (day, 1)) }
@@ -80,14 +82,14 @@ fn day_part(year: u16, month: u8, octets: &[u8]) -> Option<u8>
 #[inline(always)]
 #[tactic(auto, unfolding(crate::specs::binary::Timestamp::read_behind_year))]
 fn usual_month(year: u16, octets: &[u8]) -> bool
-    requires { (1 ≤ year) × (year ≤ 9999) }
+    requires { (1 ≤ year) × (year ≤ last_year) }
     ensures { result ≡ true → IsOkAnd (read_behind_year year octets.now)
         (λ utc. utc.minute.date.year ≡ year) }
 {
     if octets.is_empty() {
         return true;
     }
-    match part(1, 12, octets) {
+    match part(1, LAST_MONTH, octets) {
         Some(month) => usual_day(year, month, &octets[1..]),
         None => false,
     }
@@ -96,8 +98,8 @@ fn usual_month(year: u16, octets: &[u8]) -> bool
 #[inline(always)]
 #[tactic(auto, unfolding(crate::specs::binary::Timestamp::read_behind_month))]
 fn usual_day(year: u16, month: u8, octets: &[u8]) -> bool
-    requires year { (1 ≤ year) × (year ≤ 9999) }
-    requires month { (1 ≤ month) × (month ≤ 12) }
+    requires year { (1 ≤ year) × (year ≤ last_year) }
+    requires month { (1 ≤ month) × (month ≤ last_month) }
     ensures { result ≡ true → IsOkAnd (read_behind_month year month octets.now)
         (λ utc. utc.minute.date.year ≡ year) }
 {
@@ -119,7 +121,7 @@ fn usual_hour(octets: &[u8]) -> bool
     if octets.is_empty() {
         return true;
     }
-    match part(0, 23, octets) {
+    match part(0, LAST_HOUR, octets) {
         Some(_) => usual_minute(&octets[1..]),
         None => false,
     }
@@ -132,7 +134,7 @@ fn usual_minute(octets: &[u8]) -> bool
         → IsOkAnd (read_behind_hour date hour octets.now)
         (λ utc. utc.minute.date ≡ date) }
 {
-    let minute = part(0, 59, octets);
+    let minute = part(0, LAST_MINUTE, octets);
     match minute {
         Some(_) => usual_second(&octets[1..]),
         None => false,
@@ -148,7 +150,7 @@ fn usual_second(octets: &[u8]) -> bool
     if octets.is_empty() {
         return true;
     }
-    let second = part(0, 59, octets);
+    let second = part(0, LAST_SECOND, octets);
     match second {
         Some(_) => usual_fraction(&octets[1..]),
         None => false,

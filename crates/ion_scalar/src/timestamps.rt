@@ -1,13 +1,18 @@
 //! The parts of timestamp tokens (Ion 1.0, "Timestamps").
 ghost use Rattle.std.specs.Prelude.{ℕ, ◌≡◌, ◌<◌, ◌≤◌, ◌+◌, ◌-◌, ◌*◌, ◌^◌, ◌++◌, List, length, drop, min, slice_index, IfSome, IfNone, SomeIff, IsTrue, ◌↔◌, ◌⊎◌, ◌==◌, if◌then◌else◌, pos, neg_ℤ, Some, None};
 ghost use Rattle.ion_atoms.specs.declared.timestamp.Precision.TheVariants as precisions;
+ghost use Rattle.ion_atoms.specs.TimestampBounds.{farthest_offset, most_digits};
 ghost use Rattle.ion_atoms.specs.Timestamps.{TimestampParts};
 ghost use Rattle.ion_scalar.specs.text.Ints.{number};
 ghost use Rattle.ion_scalar.specs.text.Decimals.{IsPlain};
 ghost use Rattle.ion_scalar.specs.text.Timestamps.{IsAt, IsDigitAt, AreTwoAt, two, AreFourAt, four, BeginsWithMonth, BeginsWithDay, BeginsWithMinute, BeginsWithSecond, IsOffsetToken, offset_read, minute_read, dated, IsYear, IsMonth, IsDay, IsFractionEnd, IsTimestampToken, stamp};
 
 use crate::digits::digits_at;
+use ion_atoms::bounds::{LAST_HOUR, LAST_MINUTE, MOST_DIGITS};
 use ion_atoms::{Local, Precision};
+
+// So many fraction digits stand for all numbers of them that are too great.
+const TOO_MANY_DIGITS: usize = MOST_DIGITS as usize + 1;
 
 /// The parts that a token spells, whether or not there is such a day and time.
 #[derive(Clone, Copy, Debug)]
@@ -163,7 +168,7 @@ fn offset_of(octets: &[u8]) -> Option<Option<i16>>
     let Some(minutes) = two_at(octets, 4) else {
         return None
     };
-    if hours > 23 || minutes > 59 {
+    if hours > LAST_HOUR || minutes > LAST_MINUTE {
         return None;
     }
     signed_offset(octets[0], u16::from(hours) * 60 + u16::from(minutes))
@@ -171,7 +176,7 @@ fn offset_of(octets: &[u8]) -> Option<Option<i16>>
 
 /// The offset of a sign and so many minutes; `-00:00` is the unknown one.
 fn signed_offset(sign: u8, minutes: u16) -> Option<Option<i16>>
-    requires { minutes ≤ 1439 }
+    requires { minutes ≤ farthest_offset }
     ensures { SomeIff result ((sign ≡ 43) ⊎ (sign ≡ 45))
         (if sign == 43 then Some (pos minutes) else if minutes == 0 then None else Some
         (neg_ℤ (pos minutes))) }
@@ -244,7 +249,7 @@ fn with_fraction(local: Local, octets: &[u8]) -> Option<Stamp>
     ensures some { IfSome result (λ s. (digits rest : List ℕ) × IsFractionEnd octets.now digits rest
         × (s ≡ record {
           local = record local { fraction = min (number 10 digits) (2 ^ 127) };
-          precision = precisions.Fraction (min (length digits) 39);
+          precision = precisions.Fraction (min (length digits) (most_digits + 1));
           offset = offset_read rest;
         })) }
     ensures none { IfNone result ((digits rest : List ℕ) → IsFractionEnd octets.now digits rest
@@ -258,7 +263,7 @@ fn with_fraction(local: Local, octets: &[u8]) -> Option<Stamp>
         fraction: digits.value,
         ..local
     };
-    let precision = Precision::Fraction(digits.count.min(39) as u8);
+    let precision = Precision::Fraction(digits.count.min(TOO_MANY_DIGITS) as u8);
     with_offset(local, precision, &octets[digits.used..])
 }
 

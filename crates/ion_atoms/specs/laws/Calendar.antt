@@ -8,6 +8,7 @@ use Rattle.jiff_core.specs.declared.civil.date.Date.{Date as CivilDate}
 use Rattle.jiff_core.specs.Calendar.{days_from_civil, day_count, days_in_year, days_of_years as civil_years, days_of_months as civil_months}
 use Rattle.ion_atoms.specs.declared.calendar.Date.{Date}
 use Rattle.ion_atoms.specs.declared.calendar.Minute.{Minute}
+use Rattle.ion_atoms.specs.TimestampBounds.{last_year, last_month}
 use Rattle.ion_atoms.specs.Calendar.{IsDate, IsMinute, InYears, year_length, month_length, days_of_years, days_of_months, day_number, minute_number, first_day, last_day}
 
 civil_year_more : (n : ℕ) → civil_years (suc n) ≡ civil_years n + days_in_year (pos n -ℤ pos 10000)
@@ -121,7 +122,7 @@ module _ (d : Date) (h : IsDate d) where
     civil_day_number d h,
     epoch_day_range (civil_date d h),
     days_from_civil-max,
-    days_from_civil-day_number (record { year = 9999; month = 12; day = 31 }) (omega arith),
+    days_from_civil-day_number (record { year = last_year; month = last_month; day = 31 }) (omega arith),
   )
 
   -- a day of jiff's that follows one before the year 1 is the first
@@ -141,7 +142,7 @@ module _ (d : Date) (h : IsDate d) where
         le-last,
         civil_number c i,
         days_from_civil-max,
-        days_from_civil-day_number (record { year = 9999; month = 12; day = 31 }) (omega arith),
+        days_from_civil-day_number (record { year = last_year; month = last_month; day = 31 }) (omega arith),
       ))
 
   pub stays : (c₀ c : CivilDate) → IsYmd (pos d.year) (pos d.month) (pos d.day) c₀ → epoch_day c ≡ epoch_day c₀ +ℤ pos 1 → c.year <ℤ pos 1 → ⊥

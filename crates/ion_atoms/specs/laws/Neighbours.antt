@@ -2,6 +2,7 @@
 use Rattle.std.proofs.Common.{◌≡◌, ℕ, suc, ◌+◌, ◌-◌, ◌<◌, ◌≤◌, inl, inr, Bool, true, false, cond, refl, ap, arith}
 use Rattle.std.proofs.lemmas.Bool.{lt-ltb, le-ltb, cases_lt}
 use Rattle.ion_atoms.specs.declared.calendar.Date.{Date}
+use Rattle.ion_atoms.specs.TimestampBounds.{last_year, last_month}
 use Rattle.ion_atoms.specs.Calendar.{IsDate, is_leap, year_length, month_length, days_of_months, day_number, first_day, last_day}
 use Rattle.ion_atoms.specs.Neighbours.{day_of, previous_day, next_day}
 use Rattle.ion_atoms.specs.laws.Calendar.{year_more, no_month}
@@ -43,30 +44,30 @@ module _ (d : Date) (h : IsDate d) where
   next_number =
       elim (cases_lt d.day (month_length d.year d.month)) [
         | inl within ↦ rw (lt-ltb d.day (month_length d.year d.month) within) (omega (arith, h.day))
-        | inr last ↦ elim (cases_lt d.month 12) [
+        | inr last ↦ elim (cases_lt d.month last_month) [
           | inl month ↦
               let same : d.month + 1 - 1 ≡ d.month = omega arith in
-              rw (le-ltb d.day (month_length d.year d.month) last, lt-ltb d.month 12 month, same) (omega (arith, h.day, month_before d.month h.month.0))
+              rw (le-ltb d.day (month_length d.year d.month) last, lt-ltb d.month last_month month, same) (omega (arith, h.day, month_before d.month h.month.0))
           | inr december ↦
-              let twelfth : d.month ≡ 12 = omega (arith, h.month) in
+              let twelfth : d.month ≡ last_month = omega (arith, h.month) in
               let next : d.year + 1 ≡ suc d.year = omega arith in
               let long : d.day ≡ 31 = omega (arith, h.day, ap (month_length d.year) twelfth) in
               let months : days_of_months d.year (d.month - 1) ≡ days_of_months d.year 11 = ap (λ m. days_of_months d.year (m - 1)) twelfth in
-              rw (le-ltb d.day (month_length d.year d.month) last, le-ltb d.month 12 december, next)
+              rw (le-ltb d.day (month_length d.year d.month) last, le-ltb d.month last_month december, next)
               (omega (arith, year_more d.year, year_months d.year, no_month (suc d.year), months, long))
         ]
       ]
 
-  pub next_is : (next_day d).year ≤ 9999 → IsDate (next_day d)
+  pub next_is : (next_day d).year ≤ last_year → IsDate (next_day d)
   next_is bound =
       elim (cases_lt d.day (month_length d.year d.month)) [
         | inl within ↦ rw (lt-ltb d.day (month_length d.year d.month) within) (record { year = h.year; month = h.month; day = (omega arith, omega arith) })
-        | inr last ↦ elim (cases_lt d.month 12) [
-          | inl month ↦ rw (le-ltb d.day (month_length d.year d.month) last, lt-ltb d.month 12 month)
+        | inr last ↦ elim (cases_lt d.month last_month) [
+          | inl month ↦ rw (le-ltb d.day (month_length d.year d.month) last, lt-ltb d.month last_month month)
               (record { year = h.year; month = (omega arith, omega arith); day = (omega arith, omega (arith, month_least d.year (d.month + 1))) })
           | inr december ↦
-              let small = rw (le-ltb d.day (month_length d.year d.month) last, le-ltb d.month 12 december) at bound in
-              rw (le-ltb d.day (month_length d.year d.month) last, le-ltb d.month 12 december)
+              let small = rw (le-ltb d.day (month_length d.year d.month) last, le-ltb d.month last_month december) at bound in
+              rw (le-ltb d.day (month_length d.year d.month) last, le-ltb d.month last_month december)
               (record { year = (omega arith, small); month = (omega arith, omega arith); day = (omega arith, omega arith) })
         ]
       ]
@@ -122,16 +123,16 @@ module _ (d : Date) (h : IsDate d) where
         ]
       ]
 
-  pub next_last : 9999 < (next_day d).year → day_number d ≡ last_day
+  pub next_last : last_year < (next_day d).year → day_number d ≡ last_day
   next_last past =
       elim (cases_lt d.day (month_length d.year d.month)) [
         | inl within ↦ absurd (omega (arith, h.year, rw (lt-ltb d.day (month_length d.year d.month) within) at past))
-        | inr last ↦ elim (cases_lt d.month 12) [
-          | inl month ↦ absurd (omega (arith, h.year, rw (le-ltb d.day (month_length d.year d.month) last, lt-ltb d.month 12 month) at past))
+        | inr last ↦ elim (cases_lt d.month last_month) [
+          | inl month ↦ absurd (omega (arith, h.year, rw (le-ltb d.day (month_length d.year d.month) last, lt-ltb d.month last_month month) at past))
           | inr december ↦
-              let beyond = rw (le-ltb d.day (month_length d.year d.month) last, le-ltb d.month 12 december) at past in
-              let year : d.year ≡ 9999 = omega (arith, h.year) in
-              let month : d.month ≡ 12 = omega (arith, h.month) in
+              let beyond = rw (le-ltb d.day (month_length d.year d.month) last, le-ltb d.month last_month december) at past in
+              let year : d.year ≡ last_year = omega (arith, h.year) in
+              let month : d.month ≡ last_month = omega (arith, h.month) in
               let day : d.day ≡ 31 = omega (arith, h.day, ap (month_length d.year) month) in
               λ i. day_number (day_of (year i) (month i) (day i))
         ]

@@ -9,6 +9,7 @@ use Rattle.ion_atoms.specs.declared.refusal.Reason.TheVariants.{TooLarge, Malfor
 use Rattle.ion_atoms.specs.declared.timestamp.Local.{Local}
 use Rattle.ion_atoms.specs.declared.timestamp.Precision.{Precision}
 use Rattle.ion_atoms.specs.declared.timestamp.Precision.TheVariants as precisions
+use Rattle.ion_atoms.specs.TimestampBounds.{last_year, last_month, last_hour, last_minute, last_second, farthest_offset, most_digits}
 use Rattle.ion_atoms.specs.Calendar.{month_length, minute_number}
 use Rattle.ion_atoms.specs.Timestamps.{TimestampParts, IsTimestamp, instant, minutes_ahead}
 use Rattle.ion_scalar.specs.declared.fields.Signed.{Signed}
@@ -44,7 +45,7 @@ pub record Begins (least most : ℕ) (Behind : ℕ → List ℕ → Type 0) (oct
 -- with the exponent -d the coefficient, 0 or more, has d digits; with any other it is 0, and there is no fraction
 abbrev pub IsFractionOf : Bool → ℕ → List ℕ → Minute → ℕ → Utc → Type 0
 IsFractionOf below power coefficient minute second utc =
-    ((below ≡ true) × (1 ≤ power) × (power ≤ 38) × ((int_negative coefficient ≡ false) ⊎ (int_magnitude coefficient ≡ 0))
+    ((below ≡ true) × (1 ≤ power) × (power ≤ most_digits) × ((int_negative coefficient ≡ false) ⊎ (int_magnitude coefficient ≡ 0))
     × (int_magnitude coefficient < 10 ^ power)
     × (utc ≡ time_known (precisions.Fraction power) minute second (int_magnitude coefficient)))
     ⊎ (((below ≡ false) ⊎ (power ≡ 0)) × (int_magnitude coefficient ≡ 0) × (utc ≡ time_known precisions.Second minute second 0))
@@ -66,14 +67,14 @@ IsBehindSecond minute second octets utc =
 
 abbrev pub IsBehindMinute : Minute → List ℕ → Utc → Type 0
 IsBehindMinute minute octets utc =
-    ((octets ≡ []) × (utc ≡ time_known precisions.Minute minute 0 0)) ⊎ Begins 0 59 (λ second rest. IsBehindSecond minute second rest utc) octets
+    ((octets ≡ []) × (utc ≡ time_known precisions.Minute minute 0 0)) ⊎ Begins 0 last_second (λ second rest. IsBehindSecond minute second rest utc) octets
 
 abbrev pub IsBehindHour : Date → ℕ → List ℕ → Utc → Type 0
-IsBehindHour date hour octets utc = Begins 0 59 (λ minute rest. IsBehindMinute (minute_of date hour minute) rest utc) octets
+IsBehindHour date hour octets utc = Begins 0 last_minute (λ minute rest. IsBehindMinute (minute_of date hour minute) rest utc) octets
 
 abbrev pub IsBehindDay : Date → List ℕ → Utc → Type 0
 IsBehindDay date octets utc =
-    ((octets ≡ []) × (utc ≡ day_known precisions.Day date)) ⊎ Begins 0 23 (λ hour rest. IsBehindHour date hour rest utc) octets
+    ((octets ≡ []) × (utc ≡ day_known precisions.Day date)) ⊎ Begins 0 last_hour (λ hour rest. IsBehindHour date hour rest utc) octets
 
 abbrev pub IsBehindMonth : ℕ → ℕ → List ℕ → Utc → Type 0
 IsBehindMonth year month octets utc =
@@ -82,11 +83,11 @@ IsBehindMonth year month octets utc =
 
 abbrev pub IsBehindYear : ℕ → List ℕ → Utc → Type 0
 IsBehindYear year octets utc =
-    ((octets ≡ []) × (utc ≡ day_known precisions.Year (day_of year 1 1))) ⊎ Begins 1 12 (λ month rest. IsBehindMonth year month rest utc) octets
+    ((octets ≡ []) × (utc ≡ day_known precisions.Year (day_of year 1 1))) ⊎ Begins 1 last_month (λ month rest. IsBehindMonth year month rest utc) octets
 
 -- these octets are the fields in UTC, from the year on
 abbrev pub AreFields : List ℕ → Utc → Type 0
-AreFields octets utc = Begins 1 9999 (λ year rest. IsBehindYear year rest utc) octets
+AreFields octets utc = Begins 1 last_year (λ year rest. IsBehindYear year rest utc) octets
 
 -- the offset in minutes; -0 is the unknown one
 abbrev pub offset_from : Bool → ℕ → Option ℤ
@@ -108,7 +109,7 @@ pub record IsTimestampBody (body : List ℕ) (t : TimestampParts) : Type 0 where
   pub utc : Utc
   pub cut : body ≡ ahead ++ fields
   pub is_ahead : VarInt ahead below minutes
-  pub range : minutes ≤ 1439
+  pub range : minutes ≤ farthest_offset
   pub are_fields : AreFields fields utc
   pub precision : t.precision ≡ utc.precision
   pub offset : t.offset ≡ kept_offset utc.precision (offset_from below minutes)
@@ -145,7 +146,7 @@ read_no_digits minute second octets =
 -- more than 38 digits are too many
 unfoldable pub read_fraction : Minute → ℕ → Signed → List ℕ → Result Utc Reason
 read_fraction minute second power octets =
-    if power.negative && nat_lt 38 power.magnitude then Err TooLarge
+    if power.negative && nat_lt most_digits power.magnitude then Err TooLarge
     else if not (nat_lt (int_magnitude octets) (2 ^ 127)) then Err TooLarge
     else if power.negative && nat_lt 0 power.magnitude then read_digits power.magnitude minute second octets
     else read_no_digits minute second octets
@@ -161,14 +162,14 @@ read_behind_second minute second (octet ∷ rest) = with_power minute second (oc
 
 unfoldable pub read_behind_minute : Minute → List ℕ → Result Utc Reason
 read_behind_minute minute [] = Ok (time_known precisions.Minute minute 0 0)
-read_behind_minute minute (octet ∷ rest) = and_then (octet ∷ rest) (read_behind_second minute) (read_field 0 59 (octet ∷ rest))
+read_behind_minute minute (octet ∷ rest) = and_then (octet ∷ rest) (read_behind_second minute) (read_field 0 last_second (octet ∷ rest))
 
 unfoldable pub read_behind_hour : Date → ℕ → List ℕ → Result Utc Reason
-read_behind_hour date hour octets = and_then octets (λ minute. read_behind_minute (minute_of date hour minute)) (read_field 0 59 octets)
+read_behind_hour date hour octets = and_then octets (λ minute. read_behind_minute (minute_of date hour minute)) (read_field 0 last_minute octets)
 
 unfoldable pub read_behind_day : Date → List ℕ → Result Utc Reason
 read_behind_day date [] = Ok (day_known precisions.Day date)
-read_behind_day date (octet ∷ rest) = and_then (octet ∷ rest) (read_behind_hour date) (read_field 0 23 (octet ∷ rest))
+read_behind_day date (octet ∷ rest) = and_then (octet ∷ rest) (read_behind_hour date) (read_field 0 last_hour (octet ∷ rest))
 
 unfoldable pub read_behind_month : ℕ → ℕ → List ℕ → Result Utc Reason
 read_behind_month year month [] = Ok (day_known precisions.Month (day_of year month 1))
@@ -177,13 +178,13 @@ read_behind_month year month (octet ∷ rest) =
 
 unfoldable pub read_behind_year : ℕ → List ℕ → Result Utc Reason
 read_behind_year year [] = Ok (day_known precisions.Year (day_of year 1 1))
-read_behind_year year (octet ∷ rest) = and_then (octet ∷ rest) (read_behind_month year) (read_field 1 12 (octet ∷ rest))
+read_behind_year year (octet ∷ rest) = and_then (octet ∷ rest) (read_behind_month year) (read_field 1 last_month (octet ∷ rest))
 
 unfoldable pub read_fields : List ℕ → Result Utc Reason
-read_fields octets = and_then octets read_behind_year (read_field 1 9999 octets)
+read_fields octets = and_then octets read_behind_year (read_field 1 last_year octets)
 
 abbrev pub near : Result (Signed × ℕ) Reason → Result (Option ℤ × ℕ) Reason
-near (Ok read) = if nat_le read.0.magnitude 1439 then Ok (offset_from read.0.negative read.0.magnitude, read.1) else Err Malformed
+near (Ok read) = if nat_le read.0.magnitude farthest_offset then Ok (offset_from read.0.negative read.0.magnitude, read.1) else Err Malformed
 near (Err TooLarge) = Err TooLarge
 near (Err _) = Err Malformed
 
@@ -197,7 +198,7 @@ local_in utc m =
 
 abbrev pub shown_at : Utc → Option ℤ → Minute → Result TimestampParts Reason
 shown_at utc offset m =
-    if nat_le 1 m.date.year && nat_le m.date.year 9999 then Ok (record { local = local_in utc m; precision = utc.precision; offset = offset })
+    if nat_le 1 m.date.year && nat_le m.date.year last_year then Ok (record { local = local_in utc m; precision = utc.precision; offset = offset })
     else Err Malformed
 
 -- last, the local year is to be one of 1 to 9999

@@ -2,6 +2,7 @@
 use Rattle.std.specs.Prelude.{◌≡◌, ◌⊎◌, ℕ, ◌^◌, ◌<◌, ◌≤◌, Bool, true, List, ◌++◌, Result, Ok, Err}
 use Rattle.ion_atoms.specs.declared.refusal.Reason.{Reason}
 use Rattle.ion_atoms.specs.declared.refusal.Reason.TheVariants.{TooLarge, Malformed}
+use Rattle.ion_atoms.specs.TimestampBounds.{last_year, last_month, last_hour, last_minute, last_second, farthest_offset, most_digits}
 use Rattle.ion_atoms.specs.Calendar.{month_length}
 use Rattle.ion_atoms.specs.Timestamps.{TimestampParts}
 use Rattle.ion_scalar.specs.binary.Fields.{VarInt, int_magnitude}
@@ -20,28 +21,28 @@ pub record IsLargeFraction (octets : List ℕ) : Type 0 where
   pub power : ℕ
   pub cut : octets ≡ exponent ++ coefficient
   pub is : VarInt exponent below power
-  pub large : ((below ≡ true) × (38 < power)) ⊎ (2 ^ 127 ≤ int_magnitude coefficient)
+  pub large : ((below ≡ true) × (most_digits < power)) ⊎ (2 ^ 127 ≤ int_magnitude coefficient)
 
 abbrev pub IsLargeBehindSecond : List ℕ → Type 0
 IsLargeBehindSecond octets = ReachesInt octets ⊎ IsLargeFraction octets
 
 abbrev pub IsLargeBehindMinute : List ℕ → Type 0
-IsLargeBehindMinute octets = IsLargePart 0 59 (λ second rest. IsLargeBehindSecond rest) octets
+IsLargeBehindMinute octets = IsLargePart 0 last_second (λ second rest. IsLargeBehindSecond rest) octets
 
 abbrev pub IsLargeBehindHour : List ℕ → Type 0
-IsLargeBehindHour octets = IsLargePart 0 59 (λ minute rest. IsLargeBehindMinute rest) octets
+IsLargeBehindHour octets = IsLargePart 0 last_minute (λ minute rest. IsLargeBehindMinute rest) octets
 
 abbrev pub IsLargeBehindDay : List ℕ → Type 0
-IsLargeBehindDay octets = IsLargePart 0 23 (λ hour rest. IsLargeBehindHour rest) octets
+IsLargeBehindDay octets = IsLargePart 0 last_hour (λ hour rest. IsLargeBehindHour rest) octets
 
 abbrev pub IsLargeBehindMonth : ℕ → ℕ → List ℕ → Type 0
 IsLargeBehindMonth year month octets = IsLargePart 1 (month_length year month) (λ day rest. IsLargeBehindDay rest) octets
 
 abbrev pub IsLargeBehindYear : ℕ → List ℕ → Type 0
-IsLargeBehindYear year octets = IsLargePart 1 12 (λ month rest. IsLargeBehindMonth year month rest) octets
+IsLargeBehindYear year octets = IsLargePart 1 last_month (λ month rest. IsLargeBehindMonth year month rest) octets
 
 abbrev pub AreLargeFields : List ℕ → Type 0
-AreLargeFields octets = IsLargePart 1 9999 IsLargeBehindYear octets
+AreLargeFields octets = IsLargePart 1 last_year IsLargeBehindYear octets
 
 -- an offset in range, and fields of which one is too large
 pub record HasLargeFields (body : List ℕ) : Type 0 where
@@ -51,7 +52,7 @@ pub record HasLargeFields (body : List ℕ) : Type 0 where
   pub minutes : ℕ
   pub cut : body ≡ ahead ++ fields
   pub is : VarInt ahead below minutes
-  pub range : minutes ≤ 1439
+  pub range : minutes ≤ farthest_offset
   pub large : AreLargeFields fields
 
 abbrev pub IsLargeBody : List ℕ → Type 0

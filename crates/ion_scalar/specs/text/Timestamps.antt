@@ -4,6 +4,7 @@ use Rattle.std.specs.Prelude.{ℕ, ℤ, ◌≡◌, ◌+◌, ◌-◌, ◌*◌, �
 use Rattle.ion_atoms.specs.declared.timestamp.Local.{Local}
 use Rattle.ion_atoms.specs.declared.timestamp.Precision.{Precision}
 use Rattle.ion_atoms.specs.declared.timestamp.Precision.TheVariants as precisions
+use Rattle.ion_atoms.specs.TimestampBounds.{last_hour, last_minute, most_digits}
 use Rattle.ion_atoms.specs.Timestamps.{TimestampParts}
 use Rattle.ion_scalar.specs.declared.timestamps.Stamp.{Stamp}
 use Rattle.ion_scalar.specs.text.Ints.{number}
@@ -50,7 +51,7 @@ BeginsWithSecond os = BeginsWithMinute os × IsAt os 16 58 × AreTwoAt os 17
 abbrev pub IsOffsetToken : List ℕ → Type 0
 IsOffsetToken os =
     ((length os ≡ 1) × IsAt os 0 90)
-    ⊎ ((length os ≡ 6) × (IsAt os 0 43 ⊎ IsAt os 0 45) × AreTwoAt os 1 × IsAt os 3 58 × AreTwoAt os 4 × (two os 1 ≤ 23) × (two os 4 ≤ 59))
+    ⊎ ((length os ≡ 6) × (IsAt os 0 43 ⊎ IsAt os 0 45) × AreTwoAt os 1 × IsAt os 3 58 × AreTwoAt os 4 × (two os 1 ≤ last_hour) × (two os 4 ≤ last_minute))
 
 abbrev pub offset_minutes : List ℕ → ℕ
 offset_minutes os = two os 1 * 60 + two os 4
@@ -107,7 +108,7 @@ pub data IsTimestampToken (os : List ℕ) : TimestampParts → Type 0 where
 
 -- parts as they are read: 39 fraction digits stand for all more, and 2^127 for a fraction of that or more
 abbrev pub read_precision : Precision → Precision
-read_precision (precisions.Fraction digits) = precisions.Fraction (min digits 39)
+read_precision (precisions.Fraction digits) = precisions.Fraction (min digits (most_digits + 1))
 read_precision p = p
 
 abbrev pub read_local : Local → Local
@@ -118,5 +119,5 @@ stamp t = record { local = read_local t.local; precision = read_precision t.prec
 
 -- at most 38 fraction digits
 abbrev pub IsShort : Precision → Type 0
-IsShort (precisions.Fraction digits) = digits ≤ 38
+IsShort (precisions.Fraction digits) = digits ≤ most_digits
 IsShort _ = Unit {0}

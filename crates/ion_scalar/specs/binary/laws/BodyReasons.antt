@@ -4,6 +4,7 @@ use Rattle.ion_atoms.specs.declared.calendar.Date.{Date}
 use Rattle.ion_atoms.specs.declared.calendar.Minute.{Minute}
 use Rattle.ion_atoms.specs.declared.refusal.Reason.{Reason}
 use Rattle.ion_atoms.specs.declared.refusal.Reason.TheVariants as reasons
+use Rattle.ion_atoms.specs.TimestampBounds.{last_year, last_month, last_hour, last_minute, last_second, farthest_offset, most_digits}
 use Rattle.ion_atoms.specs.Calendar.{month_length}
 use Rattle.ion_atoms.specs.Decimals.{DecimalParts}
 use Rattle.ion_atoms.specs.Timestamps.{TimestampParts, minutes_ahead}
@@ -58,7 +59,7 @@ fraction_judges : (minute : Minute) (second : ℕ) (power : Signed) (octets : Li
 unfolding read_fraction
 fraction_judges minute second power octets =
     let P : Result Utc Reason → Type 0 = λ r. JudgesBody r in
-    either P (power.negative && nat_lt 38 power.magnitude) _ _ tt
+    either P (power.negative && nat_lt most_digits power.magnitude) _ _ tt
     (either P (not (nat_lt (int_magnitude octets) (2 ^ 127))) _ _ tt
     (either P (power.negative && nat_lt 0 power.magnitude) _ _ (digits_judge power.magnitude minute second octets) (no_digits_judge minute second octets)))
 
@@ -75,19 +76,19 @@ second_judges minute second (octet ∷ rest) = power_judges minute second (octet
 minute_judges : (minute : Minute) (octets : List ℕ) → JudgesBody (read_behind_minute minute octets)
 unfolding read_behind_minute
 minute_judges minute [] = tt
-minute_judges minute (octet ∷ rest) = and_then_judges (octet ∷ rest) (read_behind_second minute) (read_field 0 59 (octet ∷ rest))
-    (field_judges 0 59 (octet ∷ rest)) (second_judges minute)
+minute_judges minute (octet ∷ rest) = and_then_judges (octet ∷ rest) (read_behind_second minute) (read_field 0 last_second (octet ∷ rest))
+    (field_judges 0 last_second (octet ∷ rest)) (second_judges minute)
 
 hour_judges : (date : Date) (hour : ℕ) (octets : List ℕ) → JudgesBody (read_behind_hour date hour octets)
 unfolding read_behind_hour
-hour_judges date hour octets = and_then_judges octets (λ minute. read_behind_minute (minute_of date hour minute)) (read_field 0 59 octets)
-    (field_judges 0 59 octets) (λ minute. minute_judges (minute_of date hour minute))
+hour_judges date hour octets = and_then_judges octets (λ minute. read_behind_minute (minute_of date hour minute)) (read_field 0 last_minute octets)
+    (field_judges 0 last_minute octets) (λ minute. minute_judges (minute_of date hour minute))
 
 day_judges : (date : Date) (octets : List ℕ) → JudgesBody (read_behind_day date octets)
 unfolding read_behind_day
 day_judges date [] = tt
-day_judges date (octet ∷ rest) = and_then_judges (octet ∷ rest) (read_behind_hour date) (read_field 0 23 (octet ∷ rest)) (field_judges 0 23 (octet ∷ rest))
-    (hour_judges date)
+day_judges date (octet ∷ rest) = and_then_judges (octet ∷ rest) (read_behind_hour date) (read_field 0 last_hour (octet ∷ rest))
+    (field_judges 0 last_hour (octet ∷ rest)) (hour_judges date)
 
 month_judges : (year month : ℕ) (octets : List ℕ) → JudgesBody (read_behind_month year month octets)
 unfolding read_behind_month
@@ -99,15 +100,15 @@ month_judges year month (octet ∷ rest) =
 year_judges : (year : ℕ) (octets : List ℕ) → JudgesBody (read_behind_year year octets)
 unfolding read_behind_year
 year_judges year [] = tt
-year_judges year (octet ∷ rest) = and_then_judges (octet ∷ rest) (read_behind_month year) (read_field 1 12 (octet ∷ rest)) (field_judges 1 12 (octet ∷ rest))
-    (month_judges year)
+year_judges year (octet ∷ rest) = and_then_judges (octet ∷ rest) (read_behind_month year) (read_field 1 last_month (octet ∷ rest))
+    (field_judges 1 last_month (octet ∷ rest)) (month_judges year)
 
 fields_judge : (octets : List ℕ) → JudgesBody (read_fields octets)
 unfolding read_fields
-fields_judge octets = and_then_judges octets read_behind_year (read_field 1 9999 octets) (field_judges 1 9999 octets) year_judges
+fields_judge octets = and_then_judges octets read_behind_year (read_field 1 last_year octets) (field_judges 1 last_year octets) year_judges
 
 near_judges : (r : Result (Signed × ℕ) Reason) → JudgesBody (near r)
-near_judges (Ok read) = either (JudgesBody {X = Option ℤ × ℕ}) (nat_le read.0.magnitude 1439) _ _ tt tt
+near_judges (Ok read) = either (JudgesBody {X = Option ℤ × ℕ}) (nat_le read.0.magnitude farthest_offset) _ _ tt tt
 near_judges (Err reasons.TooLarge) = tt
 near_judges (Err _) = tt
 
@@ -116,7 +117,7 @@ unfolding read_offset
 offset_judges octets = near_judges (var_int octets)
 
 at_judges : (utc : Utc) (offset : Option ℤ) (m : Minute) → JudgesBody (shown_at utc offset m)
-at_judges utc offset m = either (JudgesBody {X = TimestampParts}) (nat_le 1 m.date.year && nat_le m.date.year 9999) _ _ tt tt
+at_judges utc offset m = either (JudgesBody {X = TimestampParts}) (nat_le 1 m.date.year && nat_le m.date.year last_year) _ _ tt tt
 
 shown_judges : (offset : Option ℤ) (utc : Utc) → JudgesBody (shown offset utc)
 unfolding shown

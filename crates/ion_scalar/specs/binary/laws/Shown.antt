@@ -11,6 +11,7 @@ use Rattle.ion_atoms.specs.declared.refusal.Reason.TheVariants.{TooLarge, Malfor
 use Rattle.ion_atoms.specs.declared.timestamp.Local.{Local}
 use Rattle.ion_atoms.specs.declared.timestamp.Precision.{Precision}
 use Rattle.ion_atoms.specs.declared.timestamp.Precision.TheVariants as precisions
+use Rattle.ion_atoms.specs.TimestampBounds.{last_year, farthest_offset}
 use Rattle.ion_atoms.specs.Calendar.{IsMinute, InYears, minute_number}
 use Rattle.ion_atoms.specs.laws.Calendar.{minute-in_years, minute_number-injective}
 use Rattle.ion_atoms.specs.Timestamps.{TimestampParts, IsTimestamp, IsCut, IsOffset, HasOffset, instant, utc_minute, local_minute, minutes_ahead}
@@ -78,14 +79,14 @@ module _ (utc : Utc) (h : IsUtc utc) (offset : Option ℤ) (o : IfSome offset Is
   parts m = record { local = local_in utc m; precision = utc.precision; offset = kept_offset utc.precision offset }
 
   -- in the years 1 to 9999, and outside of them
-  shown_within : 1 ≤ (moved utc.minute by).date.year → (moved utc.minute by).date.year ≤ 9999 → shown offset utc ≡ Ok (parts (moved utc.minute by))
+  shown_within : 1 ≤ (moved utc.minute by).date.year → (moved utc.minute by).date.year ≤ last_year → shown offset utc ≡ Ok (parts (moved utc.minute by))
   unfolding shown
   shown_within low high =
-      rw (le-leb 1 (moved utc.minute by).date.year low, le-leb (moved utc.minute by).date.year 9999 high) refl
+      rw (le-leb 1 (moved utc.minute by).date.year low, le-leb (moved utc.minute by).date.year last_year high) refl
 
   abbrev IsShownBody : Type 0
   IsShownBody =
-      ((1 ≤ (moved utc.minute by).date.year) × ((moved utc.minute by).date.year ≤ 9999))
+      ((1 ≤ (moved utc.minute by).date.year) × ((moved utc.minute by).date.year ≤ last_year))
       ⊎ (shown offset utc ≡ Err Malformed)
 
   shown_cases : IsShownBody
@@ -93,8 +94,8 @@ module _ (utc : Utc) (h : IsUtc utc) (offset : Option ℤ) (o : IfSome offset Is
   shown_cases =
       elim (cases_lt (moved utc.minute by).date.year 1) [
         | inl none ↦ inr (rw (lt-leb 1 (moved utc.minute by).date.year none) refl)
-        | inr low ↦ elim (cases_lt 9999 (moved utc.minute by).date.year) [
-          | inl beyond ↦ inr (rw (le-leb 1 (moved utc.minute by).date.year low, lt-leb (moved utc.minute by).date.year 9999 beyond) refl)
+        | inr low ↦ elim (cases_lt last_year (moved utc.minute by).date.year) [
+          | inl beyond ↦ inr (rw (le-leb 1 (moved utc.minute by).date.year low, lt-leb (moved utc.minute by).date.year last_year beyond) refl)
           | inr high ↦ inl (low, high)
         ]
       ]
@@ -146,16 +147,16 @@ module _ (utc : Utc) (h : IsUtc utc) (offset : Option ℤ) (o : IfSome offset Is
         | inr refused ↦ absurd cc
       ]
 
-negative_near : (n : ℕ) (none : Bool) → n ≤ 1439 → IfSome (cond none None (Some (signed true n))) IsOffset
+negative_near : (n : ℕ) (none : Bool) → n ≤ farthest_offset → IfSome (cond none None (Some (signed true n))) IsOffset
 negative_near n true h = tt
 negative_near n false h = (omega (arith, ints, h), omega (arith, ints))
 
-pub near_from : (below : Bool) (n : ℕ) → n ≤ 1439 → IfSome (offset_from below n) IsOffset
+pub near_from : (below : Bool) (n : ℕ) → n ≤ farthest_offset → IfSome (offset_from below n) IsOffset
 near_from false n h = (omega (arith, ints), omega (arith, ints, h))
 near_from true n h = negative_near n (n == 0) h
 
 module _ (body : List ℕ) (t : TimestampParts) where
-  fields_on : (read : Signed × ℕ) → VarInt (take read.1 body) read.0.negative read.0.magnitude → read.0.magnitude ≤ 1439
+  fields_on : (read : Signed × ℕ) → VarInt (take read.1 body) read.0.negative read.0.magnitude → read.0.magnitude ≤ farthest_offset
       → (r : Result Utc Reason) → read_fields (drop read.1 body) ≡ r → shown_by (offset_from read.0.negative read.0.magnitude) r ≡ Ok t → IsTimestampBody body t
   fields_on read is range (Ok utc) fields e =
       let offset = offset_from read.0.negative read.0.magnitude in
@@ -186,9 +187,9 @@ module _ (body : List ℕ) (t : TimestampParts) where
 
   offset_on : (r : Result (Signed × ℕ) Reason) → ReadsVarInt body r → with_offset body (near r) ≡ Ok t → IsTimestampBody body t
   offset_on (Ok read) a e =
-      elim (cases_lt 1439 read.0.magnitude) [
-        | inl far ↦ absurd (let h = rw (lt-leb read.0.magnitude 1439 far) at e in cc)
-        | inr range ↦ fields_on read a.is range (read_fields (drop read.1 body)) refl (rw (le-leb read.0.magnitude 1439 range) at e)
+      elim (cases_lt farthest_offset read.0.magnitude) [
+        | inl far ↦ absurd (let h = rw (lt-leb read.0.magnitude farthest_offset far) at e in cc)
+        | inr range ↦ fields_on read a.is range (read_fields (drop read.1 body)) refl (rw (le-leb read.0.magnitude farthest_offset range) at e)
       ]
   offset_on (Err TooLarge) a e = absurd cc
   offset_on (Err Incomplete) a e = absurd cc
@@ -234,7 +235,7 @@ timestamp_read body t b =
     let here : P (b.ahead ++ b.fields) =
     rw (
       var_int_read b.ahead b.fields b.below b.minutes b.is_ahead,
-      le-leb b.minutes 1439 b.range,
+      le-leb b.minutes farthest_offset b.range,
       drop-append_seam b.ahead b.fields,
       fields_read b.utc b.fields b.are_fields,
     ) so in

@@ -10,6 +10,7 @@ use Rattle.ion_atoms.specs.declared.calendar.Minute.{Minute}
 use Rattle.ion_atoms.specs.declared.refusal.Reason.{Reason}
 use Rattle.ion_atoms.specs.declared.refusal.Reason.TheVariants.{TooLarge, Malformed, Incomplete}
 use Rattle.ion_atoms.specs.declared.timestamp.Precision.TheVariants as precisions
+use Rattle.ion_atoms.specs.TimestampBounds.{last_year, last_month, last_hour, last_minute, last_second, most_digits}
 use Rattle.ion_atoms.specs.Calendar.{IsDate, IsMinute, month_length}
 use Rattle.ion_atoms.specs.Timestamps.{IsCut}
 use Rattle.ion_scalar.specs.declared.fields.Signed.{Signed}
@@ -25,7 +26,7 @@ use Rattle.ion_scalar.specs.binary.Timestamp.{time_known, minute_of, Begins, IsF
 -- fields of a day and a time of day, those past the precision the least
 pub record IsUtc (utc : Utc) : Type 0 where
   pub minute : IsMinute utc.minute
-  pub second : utc.second ≤ 59
+  pub second : utc.second ≤ last_second
   pub cut : IsCut utc.precision (local_in utc utc.minute)
 
 -- a part that is read is one, and lies in its range
@@ -139,9 +140,9 @@ module _ (minute : Minute) (second : ℕ) (octets : List ℕ) (utc : Utc) where
       too_large : (b : Bool) → read_fraction minute second (signed_of b power) octets ≡ Ok utc → 2 ^ 127 ≤ int_magnitude octets → ⊥
       too_large false h large = let k = rw (le-ltb (int_magnitude octets) (2 ^ 127) large) at h in cc
       too_large true h large =
-          elim (cases_lt 38 power) [
-            | inl many ↦ let k = rw (lt-ltb 38 power many) at h in cc
-            | inr few ↦ let k = rw (le-ltb 38 power few, le-ltb (int_magnitude octets) (2 ^ 127) large) at h in cc
+          elim (cases_lt most_digits power) [
+            | inl many ↦ let k = rw (lt-ltb most_digits power many) at h in cc
+            | inr few ↦ let k = rw (le-ltb most_digits power few, le-ltb (int_magnitude octets) (2 ^ 127) large) at h in cc
           ]
 
       fits : (b : Bool) → read_fraction minute second (signed_of b power) octets ≡ Ok utc → int_magnitude octets < 2 ^ 127
@@ -150,15 +151,15 @@ module _ (minute : Minute) (second : ℕ) (octets : List ℕ) (utc : Utc) where
           let none = no_digits (rw (lt-ltb (int_magnitude octets) (2 ^ 127) small) at h) in
           inr (inl refl, none.0, none.1)
       fits true h small =
-          elim (cases_lt 38 power) [
-            | inl many ↦ absurd (let k = rw (lt-ltb 38 power many) at h in cc)
+          elim (cases_lt most_digits power) [
+            | inl many ↦ absurd (let k = rw (lt-ltb most_digits power many) at h in cc)
             | inr few ↦ elim (cases_lt 0 power) [
               | inl some ↦
                   let d = digits_case power (int_negative octets) refl
-                  (rw (le-ltb 38 power few, lt-ltb (int_magnitude octets) (2 ^ 127) small, lt-ltb 0 power some) at h) in
+                  (rw (le-ltb most_digits power few, lt-ltb (int_magnitude octets) (2 ^ 127) small, lt-ltb 0 power some) at h) in
                   inl (refl, some, few, d.0, d.1.0, d.1.1)
               | inr zeroth ↦
-                  let none = no_digits (rw (le-ltb 38 power few, lt-ltb (int_magnitude octets) (2 ^ 127) small, le-ltb 0 power zeroth) at h) in
+                  let none = no_digits (rw (le-ltb most_digits power few, lt-ltb (int_magnitude octets) (2 ^ 127) small, le-ltb 0 power zeroth) at h) in
                   inr (inr (omega arith), none.0, none.1)
             ]
           ]
@@ -167,7 +168,7 @@ module _ (minute : Minute) (second : ℕ) (octets : List ℕ) (utc : Utc) where
       → read_fraction minute second (signed_of below power) octets ≡ Ok utc
   unfolding read_fraction
   fraction_read below power (inl (b, some, few, sign, bound, same)) =
-      let most : 10 ^ power ≤ 10 ^ 38 = pow-le-pow_right (omega arith) few in
+      let most : 10 ^ power ≤ 10 ^ most_digits = pow-le-pow_right (omega arith) few in
       let small : int_magnitude octets < 2 ^ 127 = omega (arith, most) in
       let no_minus : (int_negative octets && nat_lt 0 (int_magnitude octets)) ≡ false = elim sign [
         | inl plus ↦ rw plus refl
@@ -175,14 +176,14 @@ module _ (minute : Minute) (second : ℕ) (octets : List ℕ) (utc : Utc) where
       ] in
       rw (
         b,
-        le-ltb 38 power few,
+        le-ltb most_digits power few,
         lt-ltb (int_magnitude octets) (2 ^ 127) small,
         lt-ltb 0 power some,
         no_minus,
         lt-ltb (int_magnitude octets) (10 ^ power) bound,
       ) (ap Ok (sym same))
   fraction_read below power (inr (whole, nothing, same)) =
-      let few : (below && nat_lt 38 power) ≡ false = elim whole [
+      let few : (below && nat_lt most_digits power) ≡ false = elim whole [
         | inl plus ↦ rw plus refl
         | inr zeroth ↦ rw zeroth (and_false below)
       ] in
@@ -216,17 +217,18 @@ second_told minute second utc (o ∷ os) e = inr (power_told minute second (o �
 minute_told : (minute : Minute) (utc : Utc) (octets : List ℕ) → read_behind_minute minute octets ≡ Ok utc → IsBehindMinute minute octets utc
 unfolding read_behind_minute
 minute_told minute utc [] e = inl (refl, cc)
-minute_told minute utc (o ∷ os) e = inr (part_told 0 59 (o ∷ os) (read_behind_second minute) _ utc (λ n rest low high. second_told minute n utc rest) e)
+minute_told minute utc (o ∷ os) e =
+    inr (part_told 0 last_second (o ∷ os) (read_behind_second minute) _ utc (λ n rest low high. second_told minute n utc rest) e)
 
 hour_told : (date : Date) (hour : ℕ) (utc : Utc) (octets : List ℕ) → read_behind_hour date hour octets ≡ Ok utc → IsBehindHour date hour octets utc
 unfolding read_behind_hour
-hour_told date hour utc octets e = part_told 0 59 octets (λ n. read_behind_minute (minute_of date hour n)) _ utc
+hour_told date hour utc octets e = part_told 0 last_minute octets (λ n. read_behind_minute (minute_of date hour n)) _ utc
     (λ n rest low high. minute_told (minute_of date hour n) utc rest) e
 
 day_told : (date : Date) (utc : Utc) (octets : List ℕ) → read_behind_day date octets ≡ Ok utc → IsBehindDay date octets utc
 unfolding read_behind_day
 day_told date utc [] e = inl (refl, cc)
-day_told date utc (o ∷ os) e = inr (part_told 0 23 (o ∷ os) (read_behind_hour date) _ utc (λ n rest low high. hour_told date n utc rest) e)
+day_told date utc (o ∷ os) e = inr (part_told 0 last_hour (o ∷ os) (read_behind_hour date) _ utc (λ n rest low high. hour_told date n utc rest) e)
 
 month_told : (year month : ℕ) (utc : Utc) (octets : List ℕ) → read_behind_month year month octets ≡ Ok utc → IsBehindMonth year month octets utc
 unfolding read_behind_month
@@ -237,11 +239,11 @@ month_told year month utc (o ∷ os) e = inr (part_told 1 (month_length year mon
 year_told : (year : ℕ) (utc : Utc) (octets : List ℕ) → read_behind_year year octets ≡ Ok utc → IsBehindYear year octets utc
 unfolding read_behind_year
 year_told year utc [] e = inl (refl, cc)
-year_told year utc (o ∷ os) e = inr (part_told 1 12 (o ∷ os) (read_behind_month year) _ utc (λ n rest low high. month_told year n utc rest) e)
+year_told year utc (o ∷ os) e = inr (part_told 1 last_month (o ∷ os) (read_behind_month year) _ utc (λ n rest low high. month_told year n utc rest) e)
 
 pub fields_told : (utc : Utc) (octets : List ℕ) → read_fields octets ≡ Ok utc → AreFields octets utc
 unfolding read_fields
-fields_told utc octets e = part_told 1 9999 octets read_behind_year _ utc (λ n rest low high. year_told n utc rest) e
+fields_told utc octets e = part_told 1 last_year octets read_behind_year _ utc (λ n rest low high. year_told n utc rest) e
 
 -- and the other way
 pub int_some : (w rest : List ℕ) (below : Bool) (n : ℕ) → VarInt w below n → [] ≡ w ++ rest → ⊥
@@ -267,19 +269,20 @@ second_read minute second utc (o ∷ os) (inr f) = power_read minute second utc 
 minute_read : (minute : Minute) (utc : Utc) (octets : List ℕ) → IsBehindMinute minute octets utc → read_behind_minute minute octets ≡ Ok utc
 unfolding read_behind_minute
 minute_read minute utc octets (inl none) = rw (none.0, none.1) refl
-minute_read minute utc [] (inr b) = absurd (begins_some 0 59 _ b)
-minute_read minute utc (o ∷ os) (inr b) = part_read 0 59 (read_behind_second minute) _ (Ok utc) (o ∷ os) (λ n rest low high. second_read minute n utc rest) b
+minute_read minute utc [] (inr b) = absurd (begins_some 0 last_second _ b)
+minute_read minute utc (o ∷ os) (inr b) =
+    part_read 0 last_second (read_behind_second minute) _ (Ok utc) (o ∷ os) (λ n rest low high. second_read minute n utc rest) b
 
 hour_read : (date : Date) (hour : ℕ) (utc : Utc) (octets : List ℕ) → IsBehindHour date hour octets utc → read_behind_hour date hour octets ≡ Ok utc
 unfolding read_behind_hour
-hour_read date hour utc octets b = part_read 0 59 (λ n. read_behind_minute (minute_of date hour n)) _ (Ok utc) octets
+hour_read date hour utc octets b = part_read 0 last_minute (λ n. read_behind_minute (minute_of date hour n)) _ (Ok utc) octets
     (λ n rest low high. minute_read (minute_of date hour n) utc rest) b
 
 day_read : (date : Date) (utc : Utc) (octets : List ℕ) → IsBehindDay date octets utc → read_behind_day date octets ≡ Ok utc
 unfolding read_behind_day
 day_read date utc octets (inl none) = rw (none.0, none.1) refl
-day_read date utc [] (inr b) = absurd (begins_some 0 23 _ b)
-day_read date utc (o ∷ os) (inr b) = part_read 0 23 (read_behind_hour date) _ (Ok utc) (o ∷ os) (λ n rest low high. hour_read date n utc rest) b
+day_read date utc [] (inr b) = absurd (begins_some 0 last_hour _ b)
+day_read date utc (o ∷ os) (inr b) = part_read 0 last_hour (read_behind_hour date) _ (Ok utc) (o ∷ os) (λ n rest low high. hour_read date n utc rest) b
 
 month_read : (year month : ℕ) (utc : Utc) (octets : List ℕ) → IsBehindMonth year month octets utc → read_behind_month year month octets ≡ Ok utc
 unfolding read_behind_month
@@ -291,15 +294,16 @@ month_read year month utc (o ∷ os) (inr b) = part_read 1 (month_length year mo
 year_read : (year : ℕ) (utc : Utc) (octets : List ℕ) → IsBehindYear year octets utc → read_behind_year year octets ≡ Ok utc
 unfolding read_behind_year
 year_read year utc octets (inl none) = rw (none.0, none.1) refl
-year_read year utc [] (inr b) = absurd (begins_some 1 12 _ b)
-year_read year utc (o ∷ os) (inr b) = part_read 1 12 (read_behind_month year) _ (Ok utc) (o ∷ os) (λ n rest low high. month_read year n utc rest) b
+year_read year utc [] (inr b) = absurd (begins_some 1 last_month _ b)
+year_read year utc (o ∷ os) (inr b) = part_read 1 last_month (read_behind_month year) _ (Ok utc) (o ∷ os) (λ n rest low high. month_read year n utc rest) b
 
 pub fields_read : (utc : Utc) (octets : List ℕ) → AreFields octets utc → read_fields octets ≡ Ok utc
 unfolding read_fields
-fields_read utc octets b = part_read 1 9999 read_behind_year _ (Ok utc) octets (λ n rest low high. year_read n utc rest) b
+fields_read utc octets b = part_read 1 last_year read_behind_year _ (Ok utc) octets (λ n rest low high. year_read n utc rest) b
 
 -- fields that stand in a body are those of a day and a time of day
-second_is : (minute : Minute) (second : ℕ) (octets : List ℕ) (utc : Utc) → IsMinute minute → second ≤ 59 → IsBehindSecond minute second octets utc → IsUtc utc
+second_is : (minute : Minute) (second : ℕ) (octets : List ℕ) (utc : Utc) → IsMinute minute → second ≤ last_second
+    → IsBehindSecond minute second octets utc → IsUtc utc
 second_is minute second octets utc h s (inl none) = subst IsUtc (sym none.1) (record { minute = h; second = s; cut = refl })
 second_is minute second octets utc h s (inr f) =
     elim (f.fraction) [
@@ -311,7 +315,7 @@ minute_is : (minute : Minute) (octets : List ℕ) (utc : Utc) → IsMinute minut
 minute_is minute octets utc h (inl none) = subst IsUtc (sym none.1) (record { minute = h; second = omega arith; cut = (refl, refl) })
 minute_is minute octets utc h (inr b) = second_is minute b.number b.rest utc h b.range.1 b.behind
 
-hour_is : (date : Date) (hour : ℕ) (octets : List ℕ) (utc : Utc) → IsDate date → hour ≤ 23 → IsBehindHour date hour octets utc → IsUtc utc
+hour_is : (date : Date) (hour : ℕ) (octets : List ℕ) (utc : Utc) → IsDate date → hour ≤ last_hour → IsBehindHour date hour octets utc → IsUtc utc
 hour_is date hour octets utc h k b = minute_is (minute_of date hour b.number) b.rest utc (record { date = h; hour = k; minute = b.range.1 }) b.behind
 
 day_is : (date : Date) (octets : List ℕ) (utc : Utc) → IsDate date → IsBehindDay date octets utc → IsUtc utc
@@ -324,8 +328,8 @@ day_is date octets utc h (inl none) =
     })
 day_is date octets utc h (inr b) = hour_is date b.number b.rest utc h b.range.1 b.behind
 
-month_is : (year month : ℕ) (octets : List ℕ) (utc : Utc) → (1 ≤ year) × (year ≤ 9999) → (1 ≤ month) × (month ≤ 12) → IsBehindMonth year month octets utc
-    → IsUtc utc
+month_is : (year month : ℕ) (octets : List ℕ) (utc : Utc) → (1 ≤ year) × (year ≤ last_year) → (1 ≤ month) × (month ≤ last_month)
+    → IsBehindMonth year month octets utc → IsUtc utc
 month_is year month octets utc y m (inl none) =
     let date : IsDate (day_of year month 1) = record { year = y; month = m; day = (omega arith, omega (arith, month_least year month)) } in
     subst IsUtc (sym none.1) (record {
@@ -336,7 +340,7 @@ month_is year month octets utc y m (inl none) =
     })
 month_is year month octets utc y m (inr b) = day_is (day_of year month b.number) b.rest utc (record { year = y; month = m; day = b.range }) b.behind
 
-year_is : (year : ℕ) (octets : List ℕ) (utc : Utc) → (1 ≤ year) × (year ≤ 9999) → IsBehindYear year octets utc → IsUtc utc
+year_is : (year : ℕ) (octets : List ℕ) (utc : Utc) → (1 ≤ year) × (year ≤ last_year) → IsBehindYear year octets utc → IsUtc utc
 year_is year octets utc y (inl none) =
     let date : IsDate (day_of year 1 1) = record { year = y; month = (omega arith, omega arith); day = (omega arith, omega arith) } in
     subst IsUtc (sym none.1) (record {

@@ -8,6 +8,7 @@ use Rattle.ion_atoms.specs.declared.calendar.Date.{Date}
 use Rattle.ion_atoms.specs.declared.calendar.Minute.{Minute}
 use Rattle.ion_atoms.specs.declared.refusal.Reason.{Reason}
 use Rattle.ion_atoms.specs.declared.refusal.Reason.TheVariants.{TooLarge, Malformed, Incomplete}
+use Rattle.ion_atoms.specs.TimestampBounds.{last_year, last_month, last_hour, last_minute, last_second, farthest_offset, most_digits}
 use Rattle.ion_atoms.specs.Calendar.{month_length}
 use Rattle.ion_atoms.specs.Timestamps.{TimestampParts}
 use Rattle.ion_scalar.specs.declared.fields.Signed.{Signed}
@@ -82,7 +83,7 @@ module _ (least most : ℕ) (octets : List ℕ) (judge : ℕ → List ℕ → Re
   part_err behind e = err_on (read_field least most octets) (field_told least most octets) (field_err least most octets) behind e
 
 abbrev LargeParts : Bool → ℕ → List ℕ → Type 0
-LargeParts below power octets = ((below ≡ true) × (38 < power)) ⊎ (2 ^ 127 ≤ int_magnitude octets)
+LargeParts below power octets = ((below ≡ true) × (most_digits < power)) ⊎ (2 ^ 127 ≤ int_magnitude octets)
 
 module _ (minute : Minute) (second : ℕ) (octets : List ℕ) (reason : Reason) where
   picked : (b c : Bool) (utc : Utc) → cond b (Err Malformed) (cond c (Ok utc) (Err Malformed)) ≡ Err reason → reason ≡ Malformed
@@ -108,8 +109,8 @@ module _ (minute : Minute) (second : ℕ) (octets : List ℕ) (reason : Reason) 
         | inl small ↦ fits below e small
       ]
     where
-      too_large : (b : Bool) → cond (b && nat_lt 38 power) large large ≡ Err reason → reason ≡ TooLarge
-      too_large b h = one (b && nat_lt 38 power) h
+      too_large : (b : Bool) → cond (b && nat_lt most_digits power) large large ≡ Err reason → reason ≡ TooLarge
+      too_large b h = one (b && nat_lt most_digits power) h
         where
           one : (c : Bool) → cond c large large ≡ Err reason → reason ≡ TooLarge
           one true k = cc
@@ -119,10 +120,10 @@ module _ (minute : Minute) (second : ℕ) (octets : List ℕ) (reason : Reason) 
           → Refused (LargeParts b power octets) reason
       fits false h small = inr (picked_none _ _ (rw (lt-ltb (int_magnitude octets) (2 ^ 127) small) at h))
       fits true h small =
-          elim (cases_lt 38 power) [
-            | inl many ↦ inl (let k = rw (lt-ltb 38 power many) at h in cc, inl (refl, many))
+          elim (cases_lt most_digits power) [
+            | inl many ↦ inl (let k = rw (lt-ltb most_digits power many) at h in cc, inl (refl, many))
             | inr few ↦ inr (which (nat_lt 0 power) (read_digits power minute second octets) (read_no_digits minute second octets) (picked _ _ _)
-                (picked_none _ _) (rw (le-ltb 38 power few, lt-ltb (int_magnitude octets) (2 ^ 127) small) at h))
+                (picked_none _ _) (rw (le-ltb most_digits power few, lt-ltb (int_magnitude octets) (2 ^ 127) small) at h))
           ]
 
 power_err : (minute : Minute) (second : ℕ) (octets : List ℕ) (reason : Reason) (r : Result (Signed × ℕ) Reason) → ReadsVarInt octets r
@@ -158,17 +159,17 @@ module _ (reason : Reason) where
   minute_err : (minute : Minute) (octets : List ℕ) → read_behind_minute minute octets ≡ Err reason → Refused (IsLargeBehindMinute octets) reason
   unfolding read_behind_minute
   minute_err minute [] e = absurd cc
-  minute_err minute (o ∷ os) e = part_err 0 59 (o ∷ os) (read_behind_second minute) _ reason (λ n rest. second_err minute n rest) e
+  minute_err minute (o ∷ os) e = part_err 0 last_second (o ∷ os) (read_behind_second minute) _ reason (λ n rest. second_err minute n rest) e
 
   hour_err : (date : Date) (hour : ℕ) (octets : List ℕ) → read_behind_hour date hour octets ≡ Err reason → Refused (IsLargeBehindHour octets) reason
   unfolding read_behind_hour
-  hour_err date hour octets e = part_err 0 59 octets (λ n. read_behind_minute (minute_of date hour n)) _ reason
+  hour_err date hour octets e = part_err 0 last_minute octets (λ n. read_behind_minute (minute_of date hour n)) _ reason
       (λ n rest. minute_err (minute_of date hour n) rest) e
 
   day_err : (date : Date) (octets : List ℕ) → read_behind_day date octets ≡ Err reason → Refused (IsLargeBehindDay octets) reason
   unfolding read_behind_day
   day_err date [] e = absurd cc
-  day_err date (o ∷ os) e = part_err 0 23 (o ∷ os) (read_behind_hour date) _ reason (λ n rest. hour_err date n rest) e
+  day_err date (o ∷ os) e = part_err 0 last_hour (o ∷ os) (read_behind_hour date) _ reason (λ n rest. hour_err date n rest) e
 
   month_err : (year month : ℕ) (octets : List ℕ) → read_behind_month year month octets ≡ Err reason → Refused (IsLargeBehindMonth year month octets) reason
   unfolding read_behind_month
@@ -179,11 +180,11 @@ module _ (reason : Reason) where
   year_err : (year : ℕ) (octets : List ℕ) → read_behind_year year octets ≡ Err reason → Refused (IsLargeBehindYear year octets) reason
   unfolding read_behind_year
   year_err year [] e = absurd cc
-  year_err year (o ∷ os) e = part_err 1 12 (o ∷ os) (read_behind_month year) _ reason (λ n rest. month_err year n rest) e
+  year_err year (o ∷ os) e = part_err 1 last_month (o ∷ os) (read_behind_month year) _ reason (λ n rest. month_err year n rest) e
 
   fields_err : (octets : List ℕ) → read_fields octets ≡ Err reason → Refused (AreLargeFields octets) reason
   unfolding read_fields
-  fields_err octets e = part_err 1 9999 octets read_behind_year _ reason (λ n rest. year_err n rest) e
+  fields_err octets e = part_err 1 last_year octets read_behind_year _ reason (λ n rest. year_err n rest) e
 
 -- and the other way
 module _ (least most : ℕ) (judge : ℕ → List ℕ → Result Utc Reason) (Large : ℕ → List ℕ → Type 0) where
@@ -200,8 +201,8 @@ no_part least most Large (inr b) = begins_some least most Large b
 fraction_large : (minute : Minute) (second : ℕ) (octets : List ℕ) (below : Bool) (power : ℕ) → LargeParts below power octets
     → read_fraction minute second (signed_of below power) octets ≡ Err TooLarge
 unfolding read_fraction
-fraction_large minute second octets below power (inl (b, many)) = rw (b, lt-ltb 38 power many) refl
-fraction_large minute second octets below power (inr high) = rw (le-ltb (int_magnitude octets) (2 ^ 127) high) (one (below && nat_lt 38 power))
+fraction_large minute second octets below power (inl (b, many)) = rw (b, lt-ltb most_digits power many) refl
+fraction_large minute second octets below power (inr high) = rw (le-ltb (int_magnitude octets) (2 ^ 127) high) (one (below && nat_lt most_digits power))
   where
     one : (c : Bool) → cond c large large ≡ Err TooLarge
     one true = refl
@@ -224,18 +225,18 @@ second_large minute second (o ∷ os) (inr f) = power_large minute second (o ∷
 
 minute_large : (minute : Minute) (octets : List ℕ) → IsLargeBehindMinute octets → read_behind_minute minute octets ≡ Err TooLarge
 unfolding read_behind_minute
-minute_large minute [] l = absurd (no_part 0 59 _ l)
-minute_large minute (o ∷ os) l = part_large 0 59 (read_behind_second minute) _ (o ∷ os) (λ n rest. second_large minute n rest) l
+minute_large minute [] l = absurd (no_part 0 last_second _ l)
+minute_large minute (o ∷ os) l = part_large 0 last_second (read_behind_second minute) _ (o ∷ os) (λ n rest. second_large minute n rest) l
 
 hour_large : (date : Date) (hour : ℕ) (octets : List ℕ) → IsLargeBehindHour octets → read_behind_hour date hour octets ≡ Err TooLarge
 unfolding read_behind_hour
-hour_large date hour octets l = part_large 0 59 (λ n. read_behind_minute (minute_of date hour n)) _ octets (λ n rest. minute_large (minute_of date hour n) rest)
-    l
+hour_large date hour octets l = part_large 0 last_minute (λ n. read_behind_minute (minute_of date hour n)) _ octets
+    (λ n rest. minute_large (minute_of date hour n) rest) l
 
 day_large : (date : Date) (octets : List ℕ) → IsLargeBehindDay octets → read_behind_day date octets ≡ Err TooLarge
 unfolding read_behind_day
-day_large date [] l = absurd (no_part 0 23 _ l)
-day_large date (o ∷ os) l = part_large 0 23 (read_behind_hour date) _ (o ∷ os) (λ n rest. hour_large date n rest) l
+day_large date [] l = absurd (no_part 0 last_hour _ l)
+day_large date (o ∷ os) l = part_large 0 last_hour (read_behind_hour date) _ (o ∷ os) (λ n rest. hour_large date n rest) l
 
 month_large : (year month : ℕ) (octets : List ℕ) → IsLargeBehindMonth year month octets → read_behind_month year month octets ≡ Err TooLarge
 unfolding read_behind_month
@@ -245,12 +246,12 @@ month_large year month (o ∷ os) l = part_large 1 (month_length year month) (λ
 
 year_large : (year : ℕ) (octets : List ℕ) → IsLargeBehindYear year octets → read_behind_year year octets ≡ Err TooLarge
 unfolding read_behind_year
-year_large year [] l = absurd (no_part 1 12 _ l)
-year_large year (o ∷ os) l = part_large 1 12 (read_behind_month year) _ (o ∷ os) (λ n rest. month_large year n rest) l
+year_large year [] l = absurd (no_part 1 last_month _ l)
+year_large year (o ∷ os) l = part_large 1 last_month (read_behind_month year) _ (o ∷ os) (λ n rest. month_large year n rest) l
 
 fields_large : (octets : List ℕ) → AreLargeFields octets → read_fields octets ≡ Err TooLarge
 unfolding read_fields
-fields_large octets l = part_large 1 9999 read_behind_year _ octets (λ n rest. year_large n rest) l
+fields_large octets l = part_large 1 last_year read_behind_year _ octets (λ n rest. year_large n rest) l
 
 -- the whole body
 shown_err : (offset : Option ℤ) (utc : Utc) (reason : Reason) → shown offset utc ≡ Err reason → reason ≡ Malformed
@@ -262,7 +263,7 @@ shown_err offset utc reason e = pick _ _ e
     pick false t h = cc
 
 module _ (body : List ℕ) (reason : Reason) where
-  fields_on : (read : Signed × ℕ) → VarInt (take read.1 body) read.0.negative read.0.magnitude → read.0.magnitude ≤ 1439
+  fields_on : (read : Signed × ℕ) → VarInt (take read.1 body) read.0.negative read.0.magnitude → read.0.magnitude ≤ farthest_offset
       → (r : Result Utc Reason) → read_fields (drop read.1 body) ≡ r → shown_by (offset_from read.0.negative read.0.magnitude) r ≡ Err reason
       → Refused (IsLargeBody body) reason
   fields_on read is range (Ok utc) fields e = inr (shown_err (offset_from read.0.negative read.0.magnitude) utc reason e)
@@ -288,9 +289,9 @@ module _ (body : List ℕ) (reason : Reason) where
 
   offset_on : (r : Result (Signed × ℕ) Reason) → ReadsVarInt body r → with_offset body (near r) ≡ Err reason → Refused (IsLargeBody body) reason
   offset_on (Ok read) a e =
-      elim (cases_lt 1439 read.0.magnitude) [
-        | inl far ↦ inr (let h = rw (lt-leb read.0.magnitude 1439 far) at e in cc)
-        | inr range ↦ fields_on read a.is range (read_fields (drop read.1 body)) refl (rw (le-leb read.0.magnitude 1439 range) at e)
+      elim (cases_lt farthest_offset read.0.magnitude) [
+        | inl far ↦ inr (let h = rw (lt-leb read.0.magnitude farthest_offset far) at e in cc)
+        | inr range ↦ fields_on read a.is range (read_fields (drop read.1 body)) refl (rw (le-leb read.0.magnitude farthest_offset range) at e)
       ]
   offset_on (Err TooLarge) a e = inl (cc, inl a)
   offset_on (Err Incomplete) a e = inr cc
@@ -306,8 +307,12 @@ body_large body (inl r) = rw (var_int_reaches body r) refl
 body_large body (inr l) =
     let P : List ℕ → Type 0 = λ os. with_offset os (near (var_int os)) ≡ Err TooLarge in
     let here : P (l.ahead ++ l.fields) =
-    rw (var_int_read l.ahead l.fields l.below l.minutes l.is, le-leb l.minutes 1439 l.range, drop-append_seam l.ahead l.fields, fields_large l.fields l.large)
-    refl in
+    rw (
+      var_int_read l.ahead l.fields l.below l.minutes l.is,
+      le-leb l.minutes farthest_offset l.range,
+      drop-append_seam l.ahead l.fields,
+      fields_large l.fields l.large,
+    ) refl in
     subst P (sym l.cut) here
 
 answer_is : (body : List ℕ) (r : Result TimestampParts Reason) → timestamp_of_body body ≡ r → ReadsTimestampBody body r

@@ -8,6 +8,7 @@ use Rattle.ion_atoms.specs.declared.calendar.Minute.{Minute}
 use Rattle.ion_atoms.specs.declared.timestamp.Local.{Local}
 use Rattle.ion_atoms.specs.declared.timestamp.Precision.{Precision}
 use Rattle.ion_atoms.specs.declared.timestamp.Precision.TheVariants as precisions
+use Rattle.ion_atoms.specs.TimestampBounds.{last_year, last_month, last_hour, last_minute, last_second, farthest_offset, most_digits}
 use Rattle.ion_atoms.specs.Calendar.{IsMinute, InYears, minute_number, month_length}
 use Rattle.ion_atoms.specs.laws.Calendar.{minute_number-injective}
 use Rattle.ion_atoms.specs.Timestamps.{TimestampParts, IsTimestamp, IsCut, IsOffset, HasOffset, utc_minute, local_minute, minutes_ahead}
@@ -37,7 +38,7 @@ begins least most Behind n rest small low high behind = record {
   behind = behind;
 }
 
-module _ (m : Minute) (h : IsMinute m) (s : ℕ) (k : s ≤ 59) (f : ℕ) where
+module _ (m : Minute) (h : IsMinute m) (s : ℕ) (k : s ≤ last_second) (f : ℕ) where
   abbrev utc : Precision → Utc
   utc p = time_known p m s f
 
@@ -66,12 +67,12 @@ module _ (m : Minute) (h : IsMinute m) (s : ℕ) (k : s ≤ 59) (f : ℕ) where
 
   -- a second behind a minute, an hour and a minute behind a day, and so on
   seconds : (u : Utc) (rest : List ℕ) → IsBehindSecond m s rest u → IsBehindMinute m (var_uint_octets s ++ rest) u
-  seconds u rest is = inr (begins 0 59 (λ n r. IsBehindSecond m n r u) s rest (omega arith) (omega arith) k is)
+  seconds u rest is = inr (begins 0 last_second (λ n r. IsBehindSecond m n r u) s rest (omega arith) (omega arith) k is)
 
   hours : (u : Utc) (rest : List ℕ) → IsBehindMinute m rest u → IsBehindDay m.date (var_uint_octets m.hour ++ (var_uint_octets m.minute ++ rest)) u
   hours u rest is =
-      inr (begins 0 23 (λ n r. IsBehindHour m.date n r u) m.hour (var_uint_octets m.minute ++ rest) (omega arith) (omega arith) h.hour
-      (begins 0 59 (λ n r. IsBehindMinute (minute_of m.date m.hour n) r u) m.minute rest (omega arith) (omega arith) h.minute is))
+      inr (begins 0 last_hour (λ n r. IsBehindHour m.date n r u) m.hour (var_uint_octets m.minute ++ rest) (omega arith) (omega arith) h.hour
+      (begins 0 last_minute (λ n r. IsBehindMinute (minute_of m.date m.hour n) r u) m.minute rest (omega arith) (omega arith) h.minute is))
 
   days : (u : Utc) (rest : List ℕ) → IsBehindDay m.date rest u → IsBehindMonth m.date.year m.date.month (var_uint_octets m.date.day ++ rest) u
   days u rest is =
@@ -80,10 +81,10 @@ module _ (m : Minute) (h : IsMinute m) (s : ℕ) (k : s ≤ 59) (f : ℕ) where
 
   months : (u : Utc) (rest : List ℕ) → IsBehindMonth m.date.year m.date.month rest u → IsBehindYear m.date.year (var_uint_octets m.date.month ++ rest) u
   months u rest is =
-      inr (begins 1 12 (λ n r. IsBehindMonth m.date.year n r u) m.date.month rest (omega arith) h.date.month.0 h.date.month.1 is)
+      inr (begins 1 last_month (λ n r. IsBehindMonth m.date.year n r u) m.date.month rest (omega arith) h.date.month.0 h.date.month.1 is)
 
   years : (u : Utc) (rest : List ℕ) → IsBehindYear m.date.year rest u → AreFields (var_uint_octets m.date.year ++ rest) u
-  years u rest is = begins 1 9999 (λ n r. IsBehindYear n r u) m.date.year rest (omega arith) h.date.year.0 h.date.year.1 is
+  years u rest is = begins 1 last_year (λ n r. IsBehindYear n r u) m.date.year rest (omega arith) h.date.year.0 h.date.year.1 is
 
   known : Precision → ℕ → ℕ → ℕ → ℕ → ℕ → ℕ → Utc
   known p month day hour minute second fraction = time_known p (minute_of (day_of m.date.year month day) hour minute) second fraction
@@ -106,7 +107,7 @@ record Ahead (offset : Option ℤ) : Type 0 where
   below : Bool
   minutes : ℕ
   is : VarInt (ahead_octets offset) below minutes
-  range : minutes ≤ 1439
+  range : minutes ≤ farthest_offset
   same : offset_from below minutes ≡ offset
 
 not_zero : (n : ℕ) (b : Bool) → (suc n == 0) ≡ b → offset_from true (suc n) ≡ Some (negsuc n)
@@ -219,7 +220,7 @@ cut_small precisions.Day l cut = omega (arith, cut.3)
 cut_small precisions.Minute l cut = omega (arith, cut.1)
 cut_small precisions.Second l cut = omega (arith, cut)
 cut_small (precisions.Fraction digits) l cut =
-    let most : 10 ^ digits ≤ 10 ^ 38 = pow-le-pow_right (omega arith) cut.1 in
+    let most : 10 ^ digits ≤ 10 ^ most_digits = pow-le-pow_right (omega arith) cut.1 in
     omega (arith, most, cut.2)
 
 pub fraction_small : (t : TimestampParts) → IsTimestamp t → t.local.fraction < 2 ^ 127

@@ -6,6 +6,7 @@ use Rattle.std.proofs.Math.Nat.{pow-le-pow_right}
 use Rattle.ion_atoms.specs.declared.calendar.Minute.{Minute}
 use Rattle.ion_atoms.specs.declared.refusal.Reason.{Reason}
 use Rattle.ion_atoms.specs.declared.timestamp.Precision.TheVariants as precisions
+use Rattle.ion_atoms.specs.TimestampBounds.{last_year}
 use Rattle.ion_atoms.specs.Timestamps.{minutes_ahead}
 use Rattle.ion_scalar.specs.declared.timestamp_body.Utc.{Utc}
 use Rattle.ion_scalar.specs.binary.Fields.{positional, short, var_int, uint_field, int_field, int_magnitude, int_negative, is_last, is_negative, seven_bits, six_bits, signed_of}
@@ -61,14 +62,14 @@ usual_decimal (octet ∷ rest) all last few =
 
 -- fields that are read, of a year that no offset leads out of the years from
 abbrev pub FarFromEnds : Utc → Type 0
-FarFromEnds utc = (2 ≤ utc.minute.date.year) × (utc.minute.date.year ≤ 9998)
+FarFromEnds utc = (2 ≤ utc.minute.date.year) × (utc.minute.date.year < last_year)
 
 far_shown : (offset : Option ℤ) (r : Result Utc Reason) → IsOkAnd r FarFromEnds → is_ok (shown_by offset r) ≡ true
 unfolding shown
 far_shown offset (Ok utc) far =
     let by = minutes_ahead (kept_offset utc.precision offset) in
     let years = moved_stays utc.minute by far.0 far.1 in
-    rw (le-leb 1 (moved utc.minute by).date.year years.0, le-leb (moved utc.minute by).date.year 9999 years.1) refl
+    rw (le-leb 1 (moved utc.minute by).date.year years.0, le-leb (moved utc.minute by).date.year last_year years.1) refl
 far_shown offset (Err reason) far = absurd far
 
 pub usual_timestamp : (body : List ℕ) (offset : Option ℤ) (used : ℕ) → Ok (offset, used) ≡ read_offset body → IsOkAnd (read_fields (drop used body)) FarFromEnds

@@ -1,6 +1,7 @@
 -- Whether octets are the token of a timestamp, and whether there is such a day and time.
 use Rattle.std.proofs.Common.{◌≡◌, ℕ, ◌+◌, ◌*◌, ◌^◌, ◌≤◌, ◌⊎◌, inl, inr, List, length, drop, slice_index, ℤ, pos, neg_ℤ, Option, Some, None, refl}
 use Rattle.std.proofs.Math.Decide.{map_dec, ℕ_discrete, dec_le, dec_lt}
+use Rattle.ion_atoms.specs.TimestampBounds.{last_year, last_month, last_hour, last_minute, last_second, farthest_offset, most_digits}
 use Rattle.ion_atoms.specs.Calendar.{IsDate, InYears, month_length, first_day, last_day}
 use Rattle.ion_atoms.specs.declared.calendar.Date.{Date}
 use Rattle.ion_atoms.specs.declared.timestamp.Local.{Local}
@@ -39,8 +40,8 @@ minute_front os = five (day_front os) (octet_at os 10 84) (two_at os 11) (octet_
 second_front : (os : List ℕ) → Dec (BeginsWithSecond os)
 second_front os = three (minute_front os) (octet_at os 16 58) (two_at os 17)
 
-clock : (os : List ℕ) → Dec (AreTwoAt os 1 × IsAt os 3 58 × AreTwoAt os 4 × (two os 1 ≤ 23) × (two os 4 ≤ 59))
-clock os = five (two_at os 1) (octet_at os 3 58) (two_at os 4) (dec_le (two os 1) 23) (dec_le (two os 4) 59)
+clock : (os : List ℕ) → Dec (AreTwoAt os 1 × IsAt os 3 58 × AreTwoAt os 4 × (two os 1 ≤ last_hour) × (two os 4 ≤ last_minute))
+clock os = five (two_at os 1) (octet_at os 3 58) (two_at os 4) (dec_le (two os 1) last_hour) (dec_le (two os 4) last_minute)
 
 offset : (os : List ℕ) → Dec (IsOffsetToken os)
 offset os =
@@ -109,11 +110,11 @@ timestamp os = map_dec (form_timestamp os) (λ h. timestamp_form os h.0 h.1) (fo
 date : (d : Date) → Dec (IsDate d)
 date d =
     map_dec (λ p. record { year = p.0; month = p.1; day = p.2 }) (λ p. (p.year, p.month, p.day))
-    (three (both (dec_le 1 d.year) (dec_le d.year 9999)) (both (dec_le 1 d.month) (dec_le d.month 12))
+    (three (both (dec_le 1 d.year) (dec_le d.year last_year)) (both (dec_le 1 d.month) (dec_le d.month last_month))
     (both (dec_le 1 d.day) (dec_le d.day (month_length d.year d.month))))
 
 time : (l : Local) → Dec (IsTime l)
-time l = three (dec_le l.hour 23) (dec_le l.minute 59) (dec_le l.second 59)
+time l = three (dec_le l.hour last_hour) (dec_le l.minute last_minute) (dec_le l.second last_second)
 
 no_seconds : (l : Local) → Dec ((l.second ≡ 0) × (l.fraction ≡ 0))
 no_seconds l = both (ℕ_discrete l.second 0) (ℕ_discrete l.fraction 0)
@@ -130,14 +131,14 @@ cut_there precisions.Month l =
 cut_there precisions.Day l = no_time l
 cut_there precisions.Minute l = no_seconds l
 cut_there precisions.Second l = ℕ_discrete l.fraction 0
-cut_there (precisions.Fraction digits) l = three (dec_le 1 digits) (dec_le digits 38) (dec_lt l.fraction (10 ^ digits))
+cut_there (precisions.Fraction digits) l = three (dec_le 1 digits) (dec_le digits most_digits) (dec_lt l.fraction (10 ^ digits))
 
 unknown : (o : Option ℤ) → Dec (o ≡ None)
 unknown None = yes refl
 unknown (Some z) = no (λ e. cc)
 
 near : (z : ℤ) → Dec (IsOffset z)
-near z = both (at_most (neg_ℤ (pos 1439)) z) (at_most z (pos 1439))
+near z = both (at_most (neg_ℤ (pos farthest_offset)) z) (at_most z (pos farthest_offset))
 
 offset_there : (p : Precision) (o : Option ℤ) → Dec (HasOffset p o)
 offset_there precisions.Year o = unknown o
@@ -164,4 +165,4 @@ short precisions.Month = yes tt
 short precisions.Day = yes tt
 short precisions.Minute = yes tt
 short precisions.Second = yes tt
-short (precisions.Fraction digits) = dec_le digits 38
+short (precisions.Fraction digits) = dec_le digits most_digits

@@ -6,6 +6,7 @@ use Rattle.std.proofs.Math.Nat.{pow-suc, pow-le-pow_right, mul-le-mul_right}
 use Rattle.ion_scalar.specs.binary.Fields.{positional}
 use Rattle.ion_scalar.specs.text.laws.DigitRuns.{not_mark}
 use Rattle.std.proofs.lemmas.List.{drop_more, take-append-drop, append_cancel_left, length-take-le}
+use Rattle.ion_atoms.specs.TimestampBounds.{most_digits}
 use Rattle.ion_atoms.specs.Timestamps.{TimestampParts, IsTimestamp, IsCut}
 use Rattle.ion_atoms.specs.declared.timestamp.Local.{Local}
 use Rattle.ion_atoms.specs.declared.timestamp.Precision.{Precision}
@@ -101,7 +102,7 @@ ShownEnd l os s = (digits rest : List ℕ) × IsFractionEnd os digits rest
     × (s ≡ record {
       local = record l { fraction = min (number 10 digits) (2 ^ 127) };
       precision =
-          precisions.Fraction (min (length digits) 39);
+          precisions.Fraction (min (length digits) (most_digits + 1));
       offset = offset_read rest;
     })
 
@@ -117,7 +118,7 @@ fraction_some os l (Some s) b colon two_there point e h =
       h.3 ∙ (λ i. record {
         local = record (e i) { fraction = min (number 10 digits) (2 ^ 127) };
         precision =
-            precisions.Fraction (min (length digits) 39);
+            precisions.Fraction (min (length digits) (most_digits + 1));
         offset = offset_read rest;
       }),
     )
@@ -164,14 +165,14 @@ no_end os digits rest used count d b g within many (inr (inr offset)) e =
 
 pub end_some : (os : List ℕ) (l : Local) (used count value shown : ℕ) (r : Option Stamp) → IsDigits 10 (take used os) → used ≤ length os
     → count ≡ length (digits_in (take used os)) → count ≡ used → value ≡ min (continued 10 0 (take used os)) (2 ^ 127)
-    → shown ≡ min count 39 → SomeIff r (IsOffsetToken (drop used os))
+    → shown ≡ min count (most_digits + 1) → SomeIff r (IsOffsetToken (drop used os))
     (record { local = record l { fraction = value }; precision = precisions.Fraction shown; offset = offset_read (drop used os) }) → IfSome r (ShownEnd l os)
 end_some os l used count value shown None d within many all v c h = tt
 end_some os l used count value shown (Some s) d within many all v c h =
     let digits = take used os in
     let size : count ≡ length digits = all ∙ sym (length-take-le used os within) in
     let number_of : value ≡ min (number 10 digits) (2 ^ 127) = v ∙ ap (λ (x : ℕ). min x (2 ^ 127)) (continued_none 10 digits) in
-    let capped : shown ≡ min (length digits) 39 = c ∙ ap (λ (x : ℕ). min x 39) size in (
+    let capped : shown ≡ min (length digits) (most_digits + 1) = c ∙ ap (λ (x : ℕ). min x (most_digits + 1)) size in (
       digits,
       drop used os,
       record { cut = sym (take-append-drop used os); plain = (d, sym many ∙ size); offset = h.0 },
@@ -283,8 +284,8 @@ number_small (c ∷ d ∷ os) h = elim (h.1) [
   | inr mark ↦ small_digit c (c ∷ d ∷ os) (digits_in os) (h.0) (digits_skipped c d os (h.0) (mark.0)) (number_small os (mark.1))
 ]
 
-pub power_small : (k : ℕ) → k ≤ 38 → 10 ^ k < 2 ^ 127
-power_small k h = let m : 10 ^ k ≤ 10 ^ 38 = pow-le-pow_right (omega arith) h in omega arith
+pub power_small : (k : ℕ) → k ≤ most_digits → 10 ^ k < 2 ^ 127
+power_small k h = let m : 10 ^ k ≤ 10 ^ most_digits = pow-le-pow_right (omega arith) h in omega arith
 
 -- parts with at most 38 fraction digits are read as they are
 pub read_short : (os : List ℕ) (t : TimestampParts) → IsTimestampToken os t → IsShort (read_precision t.precision) → IsShort t.precision
@@ -295,12 +296,12 @@ read_short os _ (day h) s = (tt, refl)
 read_short os _ (minute h o) s = (tt, refl)
 read_short os _ (second h o) s = (tt, refl)
 read_short os _ (fraction h p digits rest e) s =
-    let few : length digits ≤ 38 = omega arith in
+    let few : length digits ≤ most_digits = omega arith in
     let small = number_small digits (e.plain.0) in
     let same : length (digits_in digits) ≡ length digits = e.plain.1 in
     let bound = power_small (length (digits_in digits)) (omega arith) in
     let value : min (number 10 digits) (2 ^ 127) ≡ number 10 digits = omega arith in
-    let count : min (length digits) 39 ≡ length digits = omega arith in (
+    let count : min (length digits) (most_digits + 1) ≡ length digits = omega arith in (
       few,
       λ i. record {
         local = record (minute_read os) { second = two os 17; fraction = value i };

@@ -5,6 +5,7 @@ use Rattle.std.proofs.Math.Nat.{pow-suc}
 use Rattle.std.proofs.lemmas.Nat.{div_below}
 use Rattle.std.proofs.lemmas.Int.{ints}
 use Rattle.std.proofs.lemmas.Bool.{ne_eqb}
+use Rattle.ion_atoms.specs.TimestampBounds.{last_hour, last_minute, farthest_offset}
 use Rattle.ion_atoms.specs.Calendar.{month_length, is_leap}
 use Rattle.ion_atoms.specs.Timestamps.{TimestampParts, IsTimestamp, IsCut, IsOffset, HasOffset}
 use Rattle.ion_atoms.specs.declared.timestamp.Local.{Local}
@@ -64,8 +65,8 @@ near_offset precisions.Minute (Some z) h = h
 near_offset precisions.Second (Some z) h = h
 near_offset (precisions.Fraction d) (Some z) h = h
 
-clock_is : (c n : ℕ) → n ≤ 1439 → let os = c ∷ clock_text n in AreTwoAt os 1 × IsAt os 3 58 × AreTwoAt os 4 × (two os 1 ≤ 23) × (two os 4 ≤ 59)
-    × (offset_minutes os ≡ n)
+clock_is : (c n : ℕ) → n ≤ farthest_offset → let os = c ∷ clock_text n in AreTwoAt os 1 × IsAt os 3 58 × AreTwoAt os 4 × (two os 1 ≤ last_hour)
+    × (two os 4 ≤ last_minute) × (offset_minutes os ≡ n)
 clock_is c n h =
     let os = c ∷ clock_text n in
     let hours = two_at os 1 (n / 60) (omega arith) (omega arith) refl refl in
@@ -79,11 +80,11 @@ pub offset_is : (o : Option ℤ) → IfSome o IsOffset → IsOffsetToken (offset
 offset_is None h = let k = clock_is 45 0 (omega arith) in (inr (refl, inr (omega arith, refl), k.0, k.1, k.2, k.3, k.4), refl)
 offset_is (Some (pos zero)) h = (inl (refl, (omega arith, refl)), refl)
 offset_is (Some (pos (suc n))) h =
-    let small : suc n ≤ 1439 = grind (arith, ints) in
+    let small : suc n ≤ farthest_offset = grind (arith, ints) in
     let k = clock_is 43 (suc n) small in
     (inr (refl, inl (omega arith, refl), k.0, k.1, k.2, k.3, k.4), ap (λ (x : ℕ). Some (pos x)) k.5)
 offset_is (Some (negsuc n)) h =
-    let small : suc n ≤ 1439 = grind (arith, ints) in
+    let small : suc n ≤ farthest_offset = grind (arith, ints) in
     let k = clock_is 45 (suc n) small in
     (inr (refl, inr (omega arith, refl), k.0, k.1, k.2, k.3, k.4), behind_read (45 ∷ clock_text (suc n)) n refl k.5)
 
