@@ -7,11 +7,12 @@ ghost use Rattle.ion_scalar.specs.binary.Spellings.{sign_bit as spelled_sign};
 
 use std::marker::Model;
 
-/// More octets than any number takes, in text or in binary.
-const ROOM: usize = 96;
+/// As many octets as the longest number takes: a timestamp as text, up to the second, with a point,
+/// 38 digits and an offset.
+pub const ROOM: usize = 64;
 
 /// Octets that are written from the last to the first, as the digits of a number come. Contracts
-/// see those that are written; there is room for 96.
+/// see those that are written.
 #[derive(Drop)]
 pub struct Backward {
     octets: [u8; ROOM],
@@ -20,12 +21,13 @@ pub struct Backward {
 
 impl Model for Backward {
     ghost use Rattle.std.specs.Prelude.{ℕ, List, ◌≤◌, drop};
+    ghost use Rattle.ion_scalar.specs.declared.backward.TheConstants.{ROOM};
 
     ghost Value = { List ℕ };
 
     ghost view = { λ b. drop b.start b.octets };
 
-    ghost invariant = { λ b. b.start ≤ 96 };
+    ghost invariant = { λ b. b.start ≤ ROOM };
 }
 
 impl Backward {
@@ -51,7 +53,7 @@ impl Backward {
     /// Writes one octet in front of what is written.
     #[inline(always)]
     pub fn push_front(&mut self, octet: u8)
-        requires { length self.old < 96 }
+        requires { length self.old < ROOM }
         ensures { self.new ≡ octet ∷ self.old }
     {
         self.start -= 1;
@@ -61,7 +63,7 @@ impl Backward {
     /// Writes all these octets in front of what is written.
     #[inline(always)]
     pub fn push_all_front(&mut self, octets: &[u8])
-        requires { length octets.now + length self.old ≤ 96 }
+        requires { length octets.now + length self.old ≤ ROOM }
         ensures { self.new ≡ octets.now ++ self.old }
     {
         let start = self.start - octets.len();
@@ -76,7 +78,7 @@ impl Backward {
     #[inline(always)]
     pub fn push_digits(&mut self, base: u128, value: u128)
         requires base { (2 ≤ base) × (base ≤ 256) }
-        requires room { value < base ^ (96 - length self.old) }
+        requires room { value < base ^ (ROOM - length self.old) }
         ensures digits { self.new ≡ digits_of base value ++ self.old }
         ensures few { (k : ℕ) → value < base ^ k → length self.new ≤ length self.old + k }
     {
@@ -94,8 +96,8 @@ impl Backward {
     #[inline(always)]
     pub fn push_signed(&mut self, base: u128, negative: bool, value: u128)
         requires base { (base ≡ 128) ⊎ (base ≡ 256) }
-        requires within { length self.old < 96 }
-        requires room { value < base ^ (96 - length self.old - 1) }
+        requires within { length self.old < ROOM }
+        requires room { value < base ^ (ROOM - length self.old - 1) }
         ensures digits { self.new
             ≡ signed_digits (base / 2) negative (digits_of base value) ++ self.old }
         ensures few { (k : ℕ) → value < base ^ k → length self.new ≤ length self.old + k + 1 }
@@ -115,9 +117,9 @@ impl Backward {
 
     /// Writes a number of 64 bits in decimal.
     pub fn push_decimal(&mut self, value: u64)
-        requires { length self.old + 39 ≤ 96 }
+        requires { length self.old + 20 ≤ ROOM }
         ensures text { self.new ≡ decimal value ++ self.old }
-        ensures few { length self.new ≤ length self.old + 39 }
+        ensures few { length self.new ≤ length self.old + 20 }
     {
         let mut start = self.start;
         let mut rest = value;
@@ -133,7 +135,7 @@ impl Backward {
 
     /// Writes a number of 128 bits in decimal.
     pub fn push_long_decimal(&mut self, value: u128)
-        requires { length self.old + 39 ≤ 96 }
+        requires { length self.old + 39 ≤ ROOM }
         ensures text { self.new ≡ decimal value ++ self.old }
         ensures few { length self.new ≤ length self.old + 39 }
     {

@@ -2,6 +2,7 @@
 //! formats).
 ghost use Rattle.std.specs.Prelude.{◌≡◌, ℕ, ◌<◌, ◌≤◌, ◌+◌, ◌^◌, ◌++◌, List, OnOk, OnErr, IsOkUnless, Ok, length, vec_len, vec_capacity};
 ghost use Rattle.ion_atoms.specs.declared.refusal.Reason.TheVariants.{Memory};
+ghost use Rattle.ion_scalar.specs.declared.backward.TheConstants.{ROOM};
 ghost use Rattle.ion_scalar.specs.binary.Fields.{var_uint, var_int, uint_field, int_field};
 ghost use Rattle.ion_scalar.specs.binary.Decimal.{decimal_of_body};
 ghost use Rattle.ion_scalar.specs.binary.Spellings.{decimal_octets, var_uint_octets, var_int_octets, uint_octets, int_octets};
@@ -110,9 +111,10 @@ pub fn put_decimal(decimal: &Decimal, out: &mut Vec<u8>) -> Result<(), Reason>
 /// Writes a VarUInt in front of what is written. So do the others below.
 pub fn var_uint_before(octets: &mut Backward, value: u64)
     requires value { value < 2 ^ 63 }
-    requires room { length octets.old + 9 ≤ 96 }
+    requires room { length octets.old + 9 ≤ ROOM }
     ensures octets { octets.new ≡ var_uint_octets value ++ octets.old }
     ensures few { length octets.new ≤ length octets.old + 9 }
+    ensures few_of_small { value < 2 ^ 16 → length octets.new ≤ length octets.old + 3 }
 {
     octets.push_front(128 + (value % 128) as u8);
     octets.push_digits(128, u128::from(value / 128));
@@ -120,7 +122,7 @@ pub fn var_uint_before(octets: &mut Backward, value: u64)
 
 pub fn var_int_before(octets: &mut Backward, signed: Signed)
     requires value { signed.magnitude < 2 ^ 63 }
-    requires room { length octets.old + 10 ≤ 96 }
+    requires room { length octets.old + 10 ≤ ROOM }
     ensures octets { octets.new ≡ var_int_octets signed.negative signed.magnitude ++ octets.old }
     ensures few { length octets.new ≤ length octets.old + 10 }
 {
@@ -136,7 +138,7 @@ pub fn var_int_before(octets: &mut Backward, signed: Signed)
 
 pub fn int_before(octets: &mut Backward, negative: bool, magnitude: u128)
     requires value { magnitude < 2 ^ 127 }
-    requires room { length octets.old + 17 ≤ 96 }
+    requires room { length octets.old + 17 ≤ ROOM }
     ensures octets { octets.new ≡ int_octets negative magnitude ++ octets.old }
     ensures few { length octets.new ≤ length octets.old + 17 }
 {

@@ -1,11 +1,12 @@
 //! Numbers written as text, each in its one spelling (Ion 1.0, "Ion Text Encoding" and its grammar,
 //! ints, decimals and timestamps).
-ghost use Rattle.std.specs.Prelude.{◌≡◌, ◌<◌, ◌≤◌, ◌+◌, ◌∷◌, ◌++◌, OnOk, OnErr, IsOkUnless, Ok, ◌%◌, ◌/◌, IfSome, Some, length, vec_len, vec_capacity};
+ghost use Rattle.std.specs.Prelude.{◌≡◌, ◌<◌, ◌≤◌, ◌+◌, ◌^◌, ◌∷◌, ◌++◌, OnOk, OnErr, IsOkUnless, Ok, ◌%◌, ◌/◌, IfSome, Some, length, vec_len, vec_capacity, unsigned_abs};
 ghost use Rattle.ion_atoms.specs.TimestampBounds.{farthest_offset};
 ghost use Rattle.ion_atoms.specs.Timestamps.{IsOffset};
 ghost use Rattle.ion_scalar.specs.text.Timestamps.{IsShort};
 ghost use Rattle.std.specs.Fmt.{decimal, signed_decimal};
 ghost use Rattle.ion_atoms.specs.declared.refusal.Reason.TheVariants.{Memory};
+ghost use Rattle.ion_scalar.specs.declared.backward.TheConstants.{ROOM};
 ghost use Rattle.ion_scalar.specs.declared.number.Number.TheVariants as numbers;
 ghost use Rattle.ion_scalar.specs.text.Numbers.{ReadsNumber};
 ghost use Rattle.ion_scalar.specs.text.Ints.{minus};
@@ -40,7 +41,7 @@ pub fn put_number(number: &Number, out: &mut Vec<u8>) -> Result<(), Reason>
 // Each of these writes in front of what is written.
 
 fn int_before(octets: &mut Backward, whole: Whole)
-    requires { length octets.old + 40 ≤ 96 }
+    requires { length octets.old + 40 ≤ ROOM }
     ensures text { octets.new ≡ signed_decimal whole ++ octets.old }
     ensures again { ReadsNumber (signed_decimal whole) (Ok (numbers.Int whole)) }
 {
@@ -50,13 +51,14 @@ fn int_before(octets: &mut Backward, whole: Whole)
 
 // The sign, true for `-`, and the magnitude.
 fn sign_of(value: i128) -> (bool, u128)
-    ensures { signed_decimal value ≡ minus result.0 ++ decimal result.1 }
+    ensures text { signed_decimal value ≡ minus result.0 ++ decimal result.1 }
+    ensures magnitude { result.1 ≡ unsigned_abs value }
 {
     (value < 0, value.unsigned_abs())
 }
 
 fn decimal_before(octets: &mut Backward, value: Decimal)
-    requires { length octets.old + 81 ≤ 96 }
+    requires { length octets.old + 62 ≤ ROOM }
     ensures text { octets.new ≡ decimal_text value ++ octets.old }
     ensures again { ReadsNumber (decimal_text value) (Ok (numbers.Decimal value)) }
 {
@@ -67,9 +69,10 @@ fn decimal_before(octets: &mut Backward, value: Decimal)
 }
 
 fn signed_before(octets: &mut Backward, negative: bool, magnitude: u128)
-    requires { length octets.old + 40 ≤ 96 }
+    requires { length octets.old + 40 ≤ ROOM }
     ensures text { octets.new ≡ minus negative ++ (decimal magnitude ++ octets.old) }
     ensures few { length octets.new ≤ length octets.old + 40 }
+    ensures few_of_small { magnitude < 2 ^ 64 → length octets.new ≤ length octets.old + 21 }
 {
     digits_before(octets, magnitude);
     if negative {
@@ -79,9 +82,10 @@ fn signed_before(octets: &mut Backward, negative: bool, magnitude: u128)
 
 // Nearly all numbers fit 64 bits, and a division of those takes a tenth of the time of one of 128.
 fn digits_before(octets: &mut Backward, value: u128)
-    requires { length octets.old + 39 ≤ 96 }
+    requires { length octets.old + 39 ≤ ROOM }
     ensures text { octets.new ≡ decimal value ++ octets.old }
     ensures few { length octets.new ≤ length octets.old + 39 }
+    ensures few_of_small { value < 2 ^ 64 → length octets.new ≤ length octets.old + 20 }
 {
     if value < 1 << 64 {
         octets.push_decimal(value as u64);
@@ -91,7 +95,7 @@ fn digits_before(octets: &mut Backward, value: u128)
 }
 
 fn timestamp_before(octets: &mut Backward, value: Timestamp)
-    requires { length octets.old + 64 ≤ 96 }
+    requires { length octets.old + 64 ≤ ROOM }
     ensures text { octets.new ≡ timestamp_text value ++ octets.old }
     ensures again { ReadsNumber (timestamp_text value) (Ok (numbers.Timestamp value)) }
 {
@@ -99,7 +103,7 @@ fn timestamp_before(octets: &mut Backward, value: Timestamp)
 }
 
 fn cut_before(octets: &mut Backward, local: Local, precision: Precision, offset: Option<i16>)
-    requires room { length octets.old + 64 ≤ 96 }
+    requires room { length octets.old + 64 ≤ ROOM }
     requires small { (local.year < 10000) × (local.month < 100) × (local.day < 100)
         × (local.hour < 100) × (local.minute < 100) × (local.second < 100) }
     requires short { IsShort precision }
@@ -149,7 +153,7 @@ fn ones(value: u8) -> u8
 }
 
 fn four_before(octets: &mut Backward, value: u16)
-    requires room { length octets.old + 4 ≤ 96 }
+    requires room { length octets.old + 4 ≤ ROOM }
     requires small { value < 10000 }
     ensures { octets.new ≡ four_digits value ++ octets.old }
 {
@@ -159,7 +163,7 @@ fn four_before(octets: &mut Backward, value: u16)
 
 // So many digits of `value`, the last ones.
 fn padded_before(octets: &mut Backward, digits: u8, value: u128)
-    requires { length octets.old + digits ≤ 96 }
+    requires { length octets.old + digits ≤ ROOM }
     ensures text { octets.new ≡ padded digits value ++ octets.old }
     ensures many { length octets.new ≡ length octets.old + digits }
 {
@@ -171,7 +175,7 @@ fn padded_before(octets: &mut Backward, digits: u8, value: u128)
 }
 
 fn month_before(octets: &mut Backward, local: Local)
-    requires room { length octets.old + 7 ≤ 96 }
+    requires room { length octets.old + 7 ≤ ROOM }
     requires small { (local.year < 10000) × (local.month < 100) }
     ensures { octets.new ≡ month_text local ++ octets.old }
 {
@@ -180,7 +184,7 @@ fn month_before(octets: &mut Backward, local: Local)
 }
 
 fn day_before(octets: &mut Backward, local: Local)
-    requires room { length octets.old + 10 ≤ 96 }
+    requires room { length octets.old + 10 ≤ ROOM }
     requires small { (local.year < 10000) × (local.month < 100) × (local.day < 100) }
     ensures { octets.new ≡ day_text local ++ octets.old }
 {
@@ -200,7 +204,7 @@ fn day_before(octets: &mut Backward, local: Local)
 }
 
 fn minute_before(octets: &mut Backward, local: Local)
-    requires room { length octets.old + 16 ≤ 96 }
+    requires room { length octets.old + 16 ≤ ROOM }
     requires small { (local.year < 10000) × (local.month < 100) × (local.day < 100)
         × (local.hour < 100) × (local.minute < 100) }
     ensures { octets.new ≡ minute_text local ++ octets.old }
@@ -218,7 +222,7 @@ fn minute_before(octets: &mut Backward, local: Local)
 }
 
 fn second_before(octets: &mut Backward, local: Local)
-    requires room { length octets.old + 19 ≤ 96 }
+    requires room { length octets.old + 19 ≤ ROOM }
     requires small { (local.year < 10000) × (local.month < 100) × (local.day < 100)
         × (local.hour < 100) × (local.minute < 100) × (local.second < 100) }
     ensures { octets.new ≡ second_text local ++ octets.old }
@@ -228,7 +232,7 @@ fn second_before(octets: &mut Backward, local: Local)
 }
 
 fn clock_before(octets: &mut Backward, sign: u8, minutes: u16)
-    requires room { length octets.old + 6 ≤ 96 }
+    requires room { length octets.old + 6 ≤ ROOM }
     requires small { minutes ≤ farthest_offset }
     ensures { octets.new ≡ (sign ∷ clock_text minutes) ++ octets.old }
 {
@@ -244,7 +248,7 @@ fn clock_before(octets: &mut Backward, sign: u8, minutes: u16)
 }
 
 fn offset_before(octets: &mut Backward, offset: Option<i16>)
-    requires room { length octets.old + 6 ≤ 96 }
+    requires room { length octets.old + 6 ≤ ROOM }
     requires small { IfSome offset IsOffset }
     ensures text { octets.new ≡ offset_text offset ++ octets.old }
     ensures few { length octets.new ≤ length octets.old + 6 }
@@ -256,7 +260,7 @@ fn offset_before(octets: &mut Backward, offset: Option<i16>)
 }
 
 fn known_before(octets: &mut Backward, ahead: i16)
-    requires room { length octets.old + 6 ≤ 96 }
+    requires room { length octets.old + 6 ≤ ROOM }
     requires near { IsOffset ahead }
     ensures text { octets.new ≡ offset_text (Some ahead) ++ octets.old }
     ensures few { length octets.new ≤ length octets.old + 6 }

@@ -2,6 +2,7 @@
 ghost use Rattle.std.specs.Prelude.{◌≡◌, ◌≤◌, ◌<◌, ◌+◌, ◌^◌, ◌++◌, OnOk, OnErr, IsOkUnless, IfSome, Ok, length, vec_len, vec_capacity};
 ghost use Rattle.ion_atoms.specs.declared.refusal.Reason.TheVariants.{Memory};
 ghost use Rattle.ion_atoms.specs.Timestamps.{IsOffset, IsTimestamp};
+ghost use Rattle.ion_scalar.specs.declared.backward.TheConstants.{ROOM};
 ghost use Rattle.ion_scalar.specs.binary.Timestamp.{timestamp_of_body};
 ghost use Rattle.ion_scalar.specs.binary.TimestampSpellings.{timestamp_octets, ahead_octets, utc_of, fields_octets, octets_behind_year, octets_behind_month, octets_behind_day, octets_behind_minute, octets_behind_second};
 
@@ -32,7 +33,7 @@ pub fn put_timestamp(timestamp: &Timestamp, out: &mut Vec<u8>) -> Result<(), Rea
 // Each of these writes in front of what is written.
 
 fn timestamp_before(octets: &mut Backward, timestamp: Timestamp)
-    requires { length octets.old + 91 ≤ 96 }
+    requires { length octets.old + 55 ≤ ROOM }
     ensures octets { octets.new ≡ timestamp_octets timestamp ++ octets.old }
     ensures again { timestamp_of_body (timestamp_octets timestamp) ≡ Ok timestamp }
 {
@@ -69,7 +70,7 @@ fn utc_of(timestamp: Timestamp) -> Utc
 }
 
 fn ahead_before(octets: &mut Backward, offset: Option<i16>)
-    requires room { length octets.old + 10 ≤ 96 }
+    requires room { length octets.old + 10 ≤ ROOM }
     requires near { IfSome offset IsOffset }
     ensures { octets.new ≡ ahead_octets offset ++ octets.old }
 {
@@ -81,20 +82,20 @@ fn ahead_before(octets: &mut Backward, offset: Option<i16>)
 }
 
 fn fields_before(octets: &mut Backward, utc: Utc)
-    requires room { length octets.old + 81 ≤ 96 }
+    requires room { length octets.old + 51 ≤ ROOM }
     requires small { utc.fraction < 2 ^ 127 }
     ensures octets { octets.new ≡ fields_octets utc ++ octets.old }
-    ensures few { length octets.new ≤ length octets.old + 81 }
+    ensures few { length octets.new ≤ length octets.old + 45 }
 {
     behind_year(octets, utc);
     var_uint_before(octets, u64::from(utc.minute.date.year));
 }
 
 fn behind_year(octets: &mut Backward, utc: Utc)
-    requires room { length octets.old + 72 ≤ 96 }
+    requires room { length octets.old + 48 ≤ ROOM }
     requires small { utc.fraction < 2 ^ 127 }
     ensures octets { octets.new ≡ octets_behind_year utc.precision utc ++ octets.old }
-    ensures few { length octets.new ≤ length octets.old + 72 }
+    ensures few { length octets.new ≤ length octets.old + 42 }
 {
     match utc.precision {
         Precision::Year => {}
@@ -106,10 +107,10 @@ fn behind_year(octets: &mut Backward, utc: Utc)
 }
 
 fn behind_month(octets: &mut Backward, utc: Utc)
-    requires room { length octets.old + 63 ≤ 96 }
+    requires room { length octets.old + 45 ≤ ROOM }
     requires small { utc.fraction < 2 ^ 127 }
     ensures octets { octets.new ≡ octets_behind_month utc.precision utc ++ octets.old }
-    ensures few { length octets.new ≤ length octets.old + 63 }
+    ensures few { length octets.new ≤ length octets.old + 39 }
 {
     match utc.precision {
         Precision::Year | Precision::Month => {}
@@ -121,10 +122,10 @@ fn behind_month(octets: &mut Backward, utc: Utc)
 }
 
 fn behind_day(octets: &mut Backward, utc: Utc)
-    requires room { length octets.old + 54 ≤ 96 }
+    requires room { length octets.old + 42 ≤ ROOM }
     requires small { utc.fraction < 2 ^ 127 }
     ensures octets { octets.new ≡ octets_behind_day utc.precision utc ++ octets.old }
-    ensures few { length octets.new ≤ length octets.old + 54 }
+    ensures few { length octets.new ≤ length octets.old + 36 }
 {
     match utc.precision {
         Precision::Year | Precision::Month | Precision::Day => {}
@@ -137,10 +138,10 @@ fn behind_day(octets: &mut Backward, utc: Utc)
 }
 
 fn behind_minute(octets: &mut Backward, utc: Utc)
-    requires room { length octets.old + 36 ≤ 96 }
+    requires room { length octets.old + 36 ≤ ROOM }
     requires small { utc.fraction < 2 ^ 127 }
     ensures octets { octets.new ≡ octets_behind_minute utc.precision utc ++ octets.old }
-    ensures few { length octets.new ≤ length octets.old + 36 }
+    ensures few { length octets.new ≤ length octets.old + 30 }
 {
     match utc.precision {
         Precision::Second | Precision::Fraction(_) => {
@@ -152,7 +153,7 @@ fn behind_minute(octets: &mut Backward, utc: Utc)
 }
 
 fn behind_second(octets: &mut Backward, utc: Utc)
-    requires room { length octets.old + 27 ≤ 96 }
+    requires room { length octets.old + 27 ≤ ROOM }
     requires small { utc.fraction < 2 ^ 127 }
     ensures octets { octets.new ≡ octets_behind_second utc.precision utc ++ octets.old }
     ensures few { length octets.new ≤ length octets.old + 27 }

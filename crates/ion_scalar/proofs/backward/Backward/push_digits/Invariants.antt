@@ -1,11 +1,12 @@
 use Rattle.std.proofs.Common.{◌≡◌, ◌<◌, ◌≤◌, ◌^◌, ◌++◌, drop, length}
 use Rattle.std.specs.Int.Digits.{digits_of}
+use Rattle.ion_scalar.specs.declared.backward.TheConstants.{ROOM}
 use Rattle.ion_scalar.proofs.backward.Backward.push_digits.Given as goal
 
 abbrev pub invariant-loop-rest : goal.invariant-loop-rest
 invariant-loop-rest l = record {
-  within : l.start ≤ 96;
-  size : length l.self-inside.octets ≡ 96;
+  within : l.start ≤ ROOM;
+  size : length l.self-inside.octets ≡ ROOM;
   room : l.rest < l.base ^ l.start;
   digits : digits_of l.base l.rest ++ drop l.start l.self-inside.octets ≡ digits_of l.base l.value ++ l.fn.self;
 }

@@ -1,6 +1,7 @@
 use Rattle.std.proofs.Common.{◌≡◌, ◌+◌, ◌-◌, ◌%◌, drop, length, length-set, ◌∙◌, arith}
 use Rattle.ion_scalar.proofs.DigitSteps.{places, step, last}
 use Rattle.ion_scalar.proofs.Places.{put_front}
+use Rattle.ion_scalar.specs.declared.backward.TheConstants.{ROOM}
 use Rattle.ion_scalar.proofs.backward.Backward.push_long_decimal.Goals as goal
 
 pub loop-rest-preserved : goal.loop-rest-preserved
@@ -8,8 +9,9 @@ loop-rest-preserved c =
     let l = c.loop-rest in
     let octets = l.self-inside.octets in
     let before = length c.args.self.now in
-    let p = places l.rest (l.start + before - 57) c.loop-rest-test.true l.invariant.room in
-    let less : l.start - 1 + before - 57 ≡ l.start + before - 57 - 1 = omega arith in
+    let most = ROOM - 39 in
+    let p = places l.rest (l.start + before - most) c.loop-rest-test.true l.invariant.room in
+    let less : l.start - 1 + before - most ≡ l.start + before - most - 1 = omega arith in
     record {
       within = (omega arith, omega (arith, p.0));
       size = length-set octets (l.start - 1) (48 + l.rest % 10) ∙ l.invariant.size;

@@ -1,12 +1,13 @@
 use Rattle.std.proofs.Common.{◌≡◌, ◌<◌, ◌≤◌, ◌+◌, ◌-◌, ◌^◌, ◌++◌, drop, length}
 use Rattle.std.specs.Fmt.{decimal}
+use Rattle.ion_scalar.specs.declared.backward.TheConstants.{ROOM}
 use Rattle.ion_scalar.proofs.backward.Backward.push_long_decimal.Given as goal
 
 abbrev pub invariant-loop-rest : goal.invariant-loop-rest
 invariant-loop-rest l = record {
-  within : (l.start + length l.fn.self ≤ 96) × (57 < l.start + length l.fn.self);
-  size : length l.self-inside.octets ≡ 96;
-  room : l.rest < 10 ^ (l.start + length l.fn.self - 57);
+  within : (l.start + length l.fn.self ≤ ROOM) × (ROOM - 39 < l.start + length l.fn.self);
+  size : length l.self-inside.octets ≡ ROOM;
+  room : l.rest < 10 ^ (l.start + length l.fn.self - (ROOM - 39));
   text : decimal l.rest ++ drop l.start l.self-inside.octets ≡ decimal l.value ++ l.fn.self;
 }
 
