@@ -6,11 +6,6 @@ use Rattle.std.specs.List.{AllByRecursion}
 abbrev pub AreOctets : List ℕ → Type 0
 AreOctets octets = AllByRecursion (λ o. o < 256) octets
 
--- octets behind octets are octets
-pub octets_both : (u w : List ℕ) → AreOctets u → AreOctets w → AreOctets (u ++ w)
-octets_both [] w h k = k
-octets_both (o ∷ u) w h k = (h.0, octets_both u w h.1 k)
-
 -- and so is each part of octets
 pub octets_front : (u w : List ℕ) → AreOctets (u ++ w) → AreOctets u
 octets_front [] w h = tt

@@ -30,10 +30,6 @@ pub positional_mono : (base : ℕ) (xs ys : List ℕ) → 0 < base → positiona
 positional_mono base xs ys h =
     omega (arith, positional-append base xs ys, mul-le-mul_left (positional base xs) (one-le-pow (length ys) base h))
 
-pub positional_take : (base : ℕ) (xs : List ℕ) (i : ℕ) → 0 < base → positional base (take i xs) ≤ positional base xs
-positional_take base xs i h =
-    subst (λ (ys : List ℕ). positional base (take i xs) ≤ positional base ys) (take-append-drop i xs) (positional_mono base (take i xs) (drop i xs) h)
-
 -- a number in front is a digit like any other, however large
 pub positional_behind : (base before : ℕ) (xs : List ℕ) (i : ℕ) → i < length xs → positional base (before ∷ take (i + 1) xs)
     ≡ positional base (before ∷ take i xs) * base + get_or xs i 0

@@ -9,4 +9,3 @@ pub mod Judged
 pub mod Tokens
 pub mod TokensKept
 pub mod TokensTraced
-pub mod Waits

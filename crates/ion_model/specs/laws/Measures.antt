@@ -119,12 +119,6 @@ nodes-Null k = nodes-bare (payloads.Null k) _ (views.outs-Null k)
 pub nodes-Truth : (b : Bool) → nodes (bare (payloads.Truth b)) ≡ 1
 nodes-Truth b = nodes-bare (payloads.Truth b) _ (views.outs-Truth b)
 
-pub nodes-Int : (z : ℤ) → nodes (bare (payloads.Int z)) ≡ 1
-nodes-Int z = nodes-bare (payloads.Int z) _ (views.outs-Int z)
-
-pub nodes-List : (vs : List Value) → nodes (bare (payloads.List vs)) ≡ suc (sum (map nodes vs))
-nodes-List vs = nodes-bare (payloads.List vs) _ (views.outs-List vs)
-
 -- the nodes of a list and one more
 pub nodes-more : (vs : List Value) (v : Value) → sum (map nodes (vs ++ v ∷ [])) ≡ sum (map nodes vs) + nodes v
 nodes-more vs v =

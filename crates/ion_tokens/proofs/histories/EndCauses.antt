@@ -1,6 +1,6 @@
 -- The reasons for which the end of the octets is refused.
 use Rattle.std.proofs.Common.{◌≡◌, ◌≢◌, ℕ, zero, suc, ◌<◌, Bool, true, false, cond, refl, sym, ap, subst, ◌∙◌, arith, List, [], ◌∷◌, ◌++◌, Option, Some, None, Result, Ok, Err}
-use Rattle.std.specs.Prelude.{IsUtf8, slice_index}
+use Rattle.std.specs.Prelude.{IsUtf8}
 use Rattle.std.specs.Str.{IsAscii}
 use Rattle.std.proofs.lemmas.Str.{IsUtf8-from_ascii}
 use Rattle.std.proofs.lemmas.Bool.Decides.{nat_tests}
@@ -21,7 +21,7 @@ use Rattle.ion_tokens.specs.declared.mode.TokenKind.{TokenKind}
 use Rattle.ion_tokens.specs.declared.mode.TokenKind.TheVariants as kinds
 use Rattle.ion_tokens.specs.machine.Table.{end_of, is_sexp}
 use Rattle.ion_tokens.specs.machine.Scanning.{Known, kept_after, ends_at, at_end}
-use Rattle.ion_tokens.specs.Bodies.{Content, Spells, IsWordBody, IsBody, null_of, kind_named, id_of}
+use Rattle.ion_tokens.specs.Bodies.{IsWordBody, IsBody, null_of, kind_named, id_of}
 use Rattle.ion_tokens.specs.Lexed.{Placed}
 use Rattle.ion_tokens.specs.machine.Scanned.{Scanned}
 use Rattle.ion_tokens.specs.machine.Steps.{Ends, is_end_reason}
@@ -45,9 +45,6 @@ low_operator o h = grind (arith, nat_tests)
 -- a token that the end shows is refused for such a reason alone, if it is
 abbrev IsFairBody : TokenKind → List ℕ → Type 0
 IsFairBody kind octets = (e : Reason) → IsBody kind octets (Err e) → is_end_reason e ≡ true
-
-spelled_fair : (said : Content) (octets : List ℕ) → IsUtf8 octets → (e : Reason) → Spells said octets (Err e) → is_end_reason e ≡ true
-spelled_fair said octets u e h = absurd (h.1 u)
 
 word_fair : (octets : List ℕ) → Each is_word_octet octets → IsFairBody kinds.Word octets
 word_fair octets h e b = by (id_of octets) b where

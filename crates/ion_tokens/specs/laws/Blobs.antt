@@ -24,10 +24,6 @@ octet_at [] h i = omega arith
 octet_at (o ∷ os) h zero = h.0
 octet_at (o ∷ os) h (suc i) = octet_at os h.1 i
 
-pub octets_by_places : (octets : List ℕ) → ((i : ℕ) → slice_index octets i < 256) → AreOctets octets
-octets_by_places [] h = tt
-octets_by_places (o ∷ os) h = (h 0, octets_by_places os (λ i. h (suc i)))
-
 pub octets_append : (xs ys : List ℕ) → AreOctets xs → AreOctets ys → AreOctets (xs ++ ys)
 octets_append [] ys h k = k
 octets_append (x ∷ xs) ys h k = (h.0, octets_append xs ys h.1 k)

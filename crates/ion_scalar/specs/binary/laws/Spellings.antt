@@ -38,10 +38,6 @@ digits_are n =
     let ds = digits_of 128 n in
     rw (take_all (length ds) ds (omega arith)) at (digits_take ds (length ds) (omega arith) (below 128 ds (all_below_base_digits_of 128 n (omega arith))))
 
--- behind the digits of n / 128, the last digit makes n
-with_last : (front n : ℕ) → positional 128 (front ∷ digits_of 128 (n / 128) ++ n % 128 ∷ []) ≡ positional 128 (front ∷ digits_of 128 (n / 128)) * 128 + n % 128
-with_last front n = positional_push 128 (front ∷ digits_of 128 (n / 128)) (n % 128)
-
 last_digit : (n : ℕ) → positional 128 (digits_of 128 (n / 128) ++ n % 128 ∷ []) ≡ n
 last_digit n =
     positional_push 128 (digits_of 128 (n / 128)) (n % 128) ∙ rw (positional_digits_of 128 (n / 128) (omega arith)) (omega arith)

@@ -6,12 +6,12 @@ use Rattle.std.proofs.lemmas.List.{take-append-drop, length-take-le}
 use Rattle.ion_scalar.specs.Positional.{positional-append}
 use Rattle.ion_scalar.specs.binary.Fields.{positional}
 use Rattle.ion_scalar.specs.declared.decimals.Tail.{Tail}
-use Rattle.ion_scalar.specs.text.Ints.{IsDigits, GoesNotOn, BeginsWithNone, digits_in, number, continued}
+use Rattle.ion_scalar.specs.text.Ints.{IsDigits, GoesNotOn, digits_in, number, continued}
 use Rattle.ion_scalar.specs.text.Ints.{IsWholePart}
 use Rattle.ion_scalar.specs.text.Decimals.{IsTail, IsDecimalBody, Shows, signed}
 use Rattle.ion_scalar.specs.text.laws.OneRun.{one_run}
 use Rattle.ion_scalar.specs.text.laws.DigitRuns.{digits_in-append, cap_more}
-use Rattle.ion_scalar.specs.text.laws.DecimalTails.{begins_front, end_stops, one_rest}
+use Rattle.ion_scalar.specs.text.laws.DecimalTails.{end_stops, one_rest}
 
 pub whole_digits : (w : List ℕ) → IsWholePart w → IsDigits 10 w
 whole_digits w (inl one) = let P : List ℕ → Type 0 = IsDigits 10 in subst P (sym one) (omega arith)
@@ -21,9 +21,6 @@ pub one_whole : (os w t : List ℕ) (used : ℕ) → IsDigits 10 (take used os) 
     → w ≡ take used os
 one_whole os w t used d g cut h n = one_run 10 w (take used os) t (drop used os) (omega arith) (whole_digits w h) d n g
     (sym cut ∙ sym (take-append-drop used os))
-
-pub no_whole : (os w t : List ℕ) → BeginsWithNone 10 os → os ≡ w ++ t → IsWholePart w → ⊥
-no_whole os w t none cut h = begins_front 10 w t (whole_digits w h) (let P : List ℕ → Type 0 = BeginsWithNone 10 in subst P cut none)
 
 pub no_zero_first : (os w : List ℕ) (used : ℕ) → 1 < used → used ≤ length os → get_or os 0 0 ≡ 48 → w ≡ take used os → IsWholePart w → ⊥
 no_zero_first os w used more within zeroth e (inl one) = absurd (omega (arith, length-take-le used os within, ap length e, ap length one))

@@ -183,10 +183,6 @@ pub shown_where : (os : List ℕ) (t : TimestampParts) (r : Option Stamp) (P : T
 shown_where os t None P h is = tt
 shown_where os t (Some s) P h is = (t, is (h.0), h.1)
 
--- a date is no longer than eleven octets
-abbrev IsLong : List ℕ → Type 0
-IsLong os = 15 < length os
-
 day_short : (os : List ℕ) → IsDay os → (10 ≤ length os) × (length os ≤ 11)
 day_short os h = elim (h.1) [ inl e ↦ (omega arith, omega arith) | inr e ↦ (omega (arith, e.0), omega (arith, e.0)) ]
 
