@@ -9,9 +9,11 @@ use Rattle.ion_atoms.specs.TimestampBounds.{last_year, last_month, last_hour, la
 abbrev pub is_leap : ℕ → Bool
 is_leap year = (year % 4 == 0) && (not (year % 100 == 0) || (year % 400 == 0))
 
+-- 366 days where the year is a leap year, else 365
 abbrev pub year_length : ℕ → ℕ
 year_length year = if is_leap year then 366 else 365
 
+-- how many days a month of a year has
 abbrev pub month_length : ℕ → ℕ → ℕ
 month_length year month =
     if month == 2 then (if is_leap year then 29 else 28)
@@ -41,6 +43,7 @@ day_number d = days_of_years d.year + days_of_months d.year (d.month - 1) + (d.d
 abbrev pub first_day : ℕ
 first_day = day_number (record { year = 1; month = 1; day = 1 })
 
+-- the number of 9999-12-31
 abbrev pub last_day : ℕ
 last_day = day_number (record { year = last_year; month = last_month; day = 31 })
 

@@ -2,6 +2,7 @@
 use Rattle.ion_atoms.specs.declared.timestamp.Timestamp.TheInside.{Inside}
 use Rattle.ion_atoms.specs.Timestamps.{TimestampParts}
 
+-- its local fields as one record, its precision and its offset
 abbrev pub parts_of : Inside → TimestampParts
 parts_of t = record {
   local = record {

@@ -11,6 +11,7 @@ pub octets_front : (u w : List ℕ) → AreOctets (u ++ w) → AreOctets u
 octets_front [] w h = tt
 octets_front (o ∷ u) w h = (h.0, octets_front u w h.1)
 
+-- what stands behind the front of octets is octets
 pub octets_rest : (u w : List ℕ) → AreOctets (u ++ w) → AreOctets w
 octets_rest [] w h = h
 octets_rest (o ∷ u) w h = octets_rest u w h.1

@@ -17,9 +17,11 @@ pub record TimestampParts : Type 0 where
   pub precision : Precision
   pub offset : Option ℤ
 
+-- the year, the month and the day
 abbrev pub local_date : Local → Date
 local_date l = record { year = l.year; month = l.month; day = l.day }
 
+-- the day, the hour and the minute
 abbrev pub local_minute : Local → Minute
 local_minute l = record { date = local_date l; hour = l.hour; minute = l.minute }
 
@@ -71,6 +73,7 @@ pub record Instant : Type 0 where
   pub second : ℕ
   pub fraction : ℕ
 
+-- when it is: its minute in UTC, its second and its fraction
 abbrev pub instant : TimestampParts → Instant
 instant t = record { minute = utc_minute t; second = t.local.second; fraction = t.local.fraction }
 
@@ -83,6 +86,7 @@ precision_rank precisions.Minute = 3
 precision_rank precisions.Second = 4
 precision_rank (precisions.Fraction digits) = 5 + digits
 
+-- whether all local fields agree
 abbrev pub local_same : Local → Local → Bool
 local_same l m =
     nat_eq l.year m.year && nat_eq l.month m.month && nat_eq l.day m.day
@@ -97,6 +101,7 @@ timestamp_same s t =
 abbrev pub date_cmp : Local → Local → Ordering
 date_cmp = then_cmp (then_cmp (on (λ l. l.year) nat_cmp) (on (λ l. l.month) nat_cmp)) (on (λ l. l.day) nat_cmp)
 
+-- field by field, the hour first
 abbrev pub time_cmp : Local → Local → Ordering
 time_cmp =
     then_cmp (then_cmp (then_cmp (on (λ l. l.hour) nat_cmp) (on (λ l. l.minute) nat_cmp)) (on (λ l. l.second) nat_cmp)) (on (λ l. l.fraction) nat_cmp)

@@ -81,12 +81,15 @@ one_at_most : (b : Bool) → (if b then 1 else 0) ≤ 1
 one_at_most true = omega arith
 one_at_most false = omega arith
 
+-- an octet begins one more line at most
 pub next_lines : (s : Spot) (o : ℕ) → (next s o).lines ≤ s.lines + 1
 next_lines s o = stepped_lines (ends_line s.last o) (if begins_character o then 1 else 0) s o
 
+-- an octet makes the line one octet longer at most
 pub next_octets : (s : Spot) (o : ℕ) → (next s o).octets ≤ s.octets + 1
 next_octets s o = stepped_octets (ends_line s.last o) (if begins_character o then 1 else 0) s o
 
+-- an octet makes the line one character longer at most
 pub next_characters : (s : Spot) (o : ℕ) → (next s o).characters ≤ s.characters + 1
 next_characters s o = stepped_characters (ends_line s.last o) (if begins_character o then 1 else 0) s o (one_at_most (begins_character o))
 

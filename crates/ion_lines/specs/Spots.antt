@@ -9,6 +9,7 @@ last_octet [] = 0
 last_octet (octet ∷ []) = octet
 last_octet (octet ∷ following ∷ rest) = last_octet (following ∷ rest)
 
+-- where the last of some octets stands: lines before it, octets and characters up to it, and itself
 abbrev pub spot_of : List ℕ → Spot
 spot_of octets = record {
   lines = lines_before octets;
@@ -23,5 +24,6 @@ abbrev pub stepped : Bool → ℕ → Spot → ℕ → Spot
 stepped true began s octet = record { lines = s.lines + 1; octets = 1; characters = began; last = octet }
 stepped false began s octet = record { lines = s.lines; octets = s.octets + 1; characters = s.characters + began; last = octet }
 
+-- where the octet behind stands: on a new line where one ended before it, else further on the same
 abbrev pub next : Spot → ℕ → Spot
 next s octet = stepped (ends_line s.last octet) (if begins_character octet then 1 else 0) s octet

@@ -56,6 +56,7 @@ module _ (R : Value → Value → Ordering) where
       let right = null_of b (sym full ∙ none) in
       rw (left.1, right.1) refl
 
+  -- payloads of different kinds, or with a null among them, are ordered by kind and nullness alone
   pub heads_decide : (a b : Layer) → alike a b ≡ false → heads_cmp a b ≡ layer_cmp R a b
   heads_decide a b h =
       decided (nat_cmp (scalar a).kind (scalar b).kind) (bool_cmp (scalar a).full (scalar b).full) (parts_cmp (scalar a) (scalar b)) (inside_cmp a b)

@@ -33,6 +33,7 @@ normal_from v h = record { to = each } where
   each zero = tt
   each (suc n) = ((λ k d lt. (h.0 k d lt).to n), (λ k d lt. (h.1 k d lt).to n), h.2)
 
+-- of a normal value the values inside are normal, and the fields are in order
 pub layer_from : (v : Value) → IsNormal v → LayerNormal (out-Payload v.payload)
 layer_from v h = (
   (λ k d lt. record { to = λ n. (h.to (suc n)).0 k d lt }),
@@ -63,6 +64,7 @@ module _ {X : Type 0} (E : X → X → Bool) (eq : IsEquivalence E) where
       let zy : E z y ≡ true = first _ _ h in
       count_by-cons (E x) z xs ∙ rw (eq.symm x z, eq.congr z y x zy, eq.symm y x, count-pointwise xs ys x (second (E z y) _ h)) (sym (count_by-cons (E x) y ys))
 
+  -- lists that agree place by place have each item as often
   pub pointwise_counts : (xs ys : List X) → pointwise E xs ys ≡ true → Counts E xs ys
   pointwise_counts xs ys h = record { at = λ x. count-pointwise xs ys x h }
 
@@ -70,6 +72,7 @@ module _ {X : Type 0} (E : X → X → Bool) (eq : IsEquivalence E) where
   pub counts_moved : (xs ys zs : List X) → pointwise E ys xs ≡ true → IsPermutation ys zs → Counts E zs xs
   counts_moved xs ys zs h p = record { at = λ x. sum_by-IsPermutation (λ y. cond (E x y) 1 0) ys zs p ∙ count-pointwise ys xs x h }
 
+-- fields that agree with others place by place are the same as those in any other order
 pub fields_moved : (xs ys zs : List Field) → pointwise (field_same same) ys xs ≡ true → IsPermutation ys zs → fields_same same zs xs ≡ true
 fields_moved xs ys zs h p = alike_from (field_same same) zs xs (counts_moved (field_same same) (field_same-equiv same same-equiv) xs ys zs h p)
 
@@ -102,6 +105,7 @@ done_more P now i x lt done p k d below = ⊎_elim
     (λ (h : k < i). let ne : k ≢ i = omega arith in subst P (sym (get_or-set_other now i k x d ne)) (done k d h))
     (last_or_below k i below)
 
+-- a claim that always holds holds of every result
 pub always_ok : {T E : Type 0} (r : Result T E) → OnOk r (Unit {0})
 always_ok (Ok x) = tt
 always_ok (Err e) = tt

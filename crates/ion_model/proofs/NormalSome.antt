@@ -219,6 +219,7 @@ to_level : (n : ℕ) (v : Value) → depth v < n → NormalOf v
 to_level zero v h = absurd (omega arith)
 to_level (suc n) v h = at_layer n (to_level n) v (out-Payload v.payload) refl (omega (arith, h, depth-out v))
 
+-- each value has a normal form
 pub normal_some : (v : Value) → NormalOf v
 normal_some v = to_level (suc (depth v)) v (omega arith)
 

@@ -47,11 +47,13 @@ same_to-from (suc n) v w h =
     (pointwise_counts (field_same (same_to n)) (field_same-equiv (same_to n) (same_to-equiv n)) (fields a) (fields b) rows) in
     both _ _ annotations_same (both _ _ scalars (both _ _ items_same fields_are))
 
+-- values that tie in the order are equivalent
 pub same-from_order : (v w : Value) → order v w ≡ Equal → same v w ≡ true
 same-from_order v w h =
     let n = suc (max (depth v) (depth w)) in
     sym ((same-agrees n).at v w (omega arith) (omega arith)) ∙ same_to-from n v w ((order-agrees n).at v w (omega arith) (omega arith) ∙ h)
 
+-- fields that tie in the order are the same
 pub field_back : (f g : Field) → field_cmp order f g ≡ Equal → field_same same f g ≡ true
 field_back f g e = both _ _ (symbol_back f.name g.name (then_first (symbol_cmp f.name g.name) _ e))
     (same-from_order f.value g.value (then_second (symbol_cmp f.name g.name) _ e))
@@ -100,6 +102,7 @@ ties_to (suc n) v w p q nv nw h =
     (pointwise_tie symbol_same symbol_cmp v.annotations w.annotations (λ k d lx ly e. symbol_tie (get_or v.annotations k d) (get_or w.annotations k d) e)
     (first (pointwise symbol_same v.annotations w.annotations) _ s))
 
+-- normal forms that are equivalent tie in the order
 pub order-from_same : (v w : Value) → IsNormal v → IsNormal w → same v w ≡ true → order v w ≡ Equal
 order-from_same v w = ties_to (suc (max (depth v) (depth w))) v w (omega arith) (omega arith)
 

@@ -55,6 +55,7 @@ module _ {X : Type 0} (E : X → X → Bool) (e : IsEquivalence E) (R : X → X 
         omega (arith, c.at z, count_by-cons (E z) x xs, count_by-cons (E z) y ys, r);
   }
 
+  -- lists in order in which each item stands as often tie, where their items tie just if they are the same
   pub tie : (xs ys : List X) → Up xs → Up ys → Ties xs ys → Counts E xs ys → slice_cmp R xs ys ≡ Equal
   tie [] [] upx upy t c = refl
   tie [] (y ∷ ys) upx upy t c = absurd (omega (arith, c.at y, counted E e y ys))

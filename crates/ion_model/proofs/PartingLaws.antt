@@ -110,12 +110,14 @@ list_parts v w vs ws p q ann differ = not_true _ (λ h.
     contra _ (same_at v w (Payload-F.List vs) (Payload-F.List ws) (ap out-Payload p ∙ outs-List vs) (ap out-Payload q ∙ outs-List ws) ann (both _ _ h refl))
     differ)
 
+-- s-expressions that aren't equivalent, with the same annotations, differ in their items
 pub sexp_parts : (v w : Value) (vs ws : List Value) → v.payload ≡ payloads.Sexp vs → w.payload ≡ payloads.Sexp ws
     → pointwise symbol_same v.annotations w.annotations ≡ true → same v w ≡ false → pointwise same vs ws ≡ false
 sexp_parts v w vs ws p q ann differ = not_true _ (λ h.
     contra _ (same_at v w (Payload-F.Sexp vs) (Payload-F.Sexp ws) (ap out-Payload p ∙ outs-Sexp vs) (ap out-Payload q ∙ outs-Sexp ws) ann (both _ _ h refl))
     differ)
 
+-- structs that aren't equivalent, with the same annotations, differ in their fields
 pub struct_parts : (v w : Value) (fs gs : List Field) → v.payload ≡ payloads.Fields fs → w.payload ≡ payloads.Fields gs
     → pointwise symbol_same v.annotations w.annotations ≡ true → same v w ≡ false → fields_same same fs gs ≡ false
 struct_parts v w fs gs p q ann differ = not_true _ (λ h.
@@ -138,6 +140,7 @@ agree_suc (x ∷ vs) (y ∷ ws) zero v w p q e f h so_far = both _ _ (rw (← e,
 agree_suc (x ∷ vs) (y ∷ ws) (suc k) v w p q e f h so_far =
     both _ _ (first (same x y) _ so_far) (agree_suc vs ws k v w (omega arith) (omega arith) e f h (second (same x y) _ so_far))
 
+-- items that agree up to a place agree up to the next, where those at it are the same
 pub agree_more : (vs ws : List Value) (k : ℕ) (v w : Value) → k < length vs → k < length ws → v ≡ get_or vs k v → w ≡ get_or ws k w → same v w ≡ true
     → pointwise same (take k vs) (take k ws) ≡ true → pointwise same (take (k + 1) vs) (take (k + 1) ws) ≡ true
 agree_more vs ws k v w p q e f h so_far = rw (add-one k) (agree_suc vs ws k v w p q e f h so_far)
@@ -203,6 +206,7 @@ deep_filter : (test : Field → Bool) (fs : List Field) → deep (filter test fs
 deep_filter test [] = omega arith
 deep_filter test (f ∷ fs) = deep_cons (test f) f (filter test fs) (deep fs) (deep_filter test fs)
 
+-- the value of a name that stands once is no deeper than the deepest of the fields
 pub once_deep : (s : Option (List ℕ)) (fs : List Field) (f : Field) → once_named s fs ≡ Some f → depth f.value ≤ deep fs
 once_deep s fs f e =
     let k : deep (filter (λ g. symbol_same s g.name) fs) ≡ deep (f ∷ []) = ap deep (only_is _ f e) in
@@ -221,6 +225,7 @@ items_differ rest each (v ∷ vs) (w ∷ ws) (suc k) h s = items_differ rest eac
 fields_differ : (fs gs : List Field) (s : Option (List ℕ)) → LeastParting fs gs s → fields_same same fs gs ≡ true → ⊥
 fields_differ fs gs s l h = l.parted ((counts_from (field_same same) (field_same-equiv same same-equiv) fs gs h).at l.field)
 
+-- values with a path to where they part aren't equivalent
 pub path_differs : (path : List Part) (v w : Value) → IsPath path v w → same v w ≡ false
 path_differs [] v w h = not_true _ (λ s. contra _ (heads_from v w s) h)
 path_differs (parts.Item n ∷ rest) v w h = not_true _ (λ s.

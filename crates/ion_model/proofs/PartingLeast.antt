@@ -156,6 +156,7 @@ answer_from fs gs l r nl nr (Some s) h =
     let q = field_same-equiv same same-equiv in
     counts_part fs gs l r s (counts_from E q l fs nl.same) (counts_from E q r gs nr.same) h
 
+-- where normal forms of fields first don't tie, the lesser name is the least that parts them
 pub least-name : (fs gs l r : List Field) → AreNormalOf l fs → AreNormalOf r gs
     → MatchOption (first_untied l r) (fields_same same fs gs ≡ true) (λ s. LeastParting fs gs s)
 least-name fs gs l r nl nr =

@@ -90,6 +90,7 @@ kinds_agree : (v w : Value) → heads_same v w ≡ true → tag (scalar (out-Pay
 kinds_agree v w h = ap tag (scalar_from (scalar (out-Payload v.payload)) (scalar (out-Payload w.payload))
     (second (pointwise symbol_same v.annotations w.annotations) _ h))
 
+-- two values have one path to where they part at most
 pub path_one : (p q : List Part) (v w : Value) → IsPath p v w → IsPath q v w → p ≡ q
 path_one [] [] v w h k = refl
 path_one [] (y ∷ q) v w h k = absurd (contra _ k.0 h)

@@ -21,6 +21,7 @@ module _ (rest : List Part) (P Q : Value → Value → Type 0) (leads : (v w : V
   at_named N (Some f) None n h = (h, n)
   at_named N None g n h = (h, n)
 
+-- what stands at the end of a path to where two values part truly differs
 pub ends_apart : (path : List Part) (v w : Value) → IsPath path v w → EndsApart path v w
 ends_apart [] v w h = path_differs [] v w h
 ends_apart (parts.Item n ∷ rest) v w h =

@@ -112,5 +112,6 @@ path_to : (n : ℕ) (v w : Value) → depth v < n → same v w ≡ false → Pat
 path_to zero v w h differ = absurd (omega arith)
 path_to (suc n) v w h differ = at_heads n (path_to n) v w (heads_same v w) refl (omega arith) differ
 
+-- values that aren't equivalent have a path to where they part
 pub path_some : (v w : Value) → same v w ≡ false → PathOf v w
 path_some v w differ = path_to (suc (depth v)) v w (omega arith) differ

@@ -25,10 +25,12 @@ level a p q x y e f h =
     sym (same-payload (annotated a p) (annotated a q) ((lists_equiv symbol_same-equiv).refl a))
     ∙ ap (λ l. layer_same same l (views.out-Payload q)) e ∙ ap (λ l. layer_same same x l) f ∙ h
 
+-- lists of the same annotations are equivalent, where their items are place by place
 pub same-lists : (a : Symbols) (vs ws : List Value) → pointwise same vs ws ≡ true → same (annotated a (payloads.List vs)) (annotated a (payloads.List ws))
     ≡ true
 same-lists a vs ws h = level a _ _ _ _ (views.outs-List vs) (views.outs-List ws) (both _ _ h refl)
 
+-- s-expressions of the same annotations are equivalent, where their items are place by place
 pub same-sexps : (a : Symbols) (vs ws : List Value) → pointwise same vs ws ≡ true → same (annotated a (payloads.Sexp vs)) (annotated a (payloads.Sexp ws))
     ≡ true
 same-sexps a vs ws h = level a _ _ _ _ (views.outs-Sexp vs) (views.outs-Sexp ws) (both _ _ h refl)
@@ -36,10 +38,12 @@ same-sexps a vs ws h = level a _ _ _ _ (views.outs-Sexp vs) (views.outs-Sexp ws)
 structs : (a : Symbols) (fs gs : List Field) → fields_same same fs gs ≡ true → same (annotated a (payloads.Fields fs)) (annotated a (payloads.Fields gs)) ≡ true
 structs a fs gs h = level a _ _ _ _ (views.outs-Fields fs) (views.outs-Fields gs) h
 
+-- structs of the same annotations are equivalent, where their fields are the same place by place
 pub same-structs : (a : Symbols) (fs gs : List Field) → pointwise (field_same same) fs gs ≡ true
     → same (annotated a (payloads.Fields fs)) (annotated a (payloads.Fields gs)) ≡ true
 same-structs a fs gs h = structs a fs gs (alike_from (field_same same) fs gs (pointwise_counts (field_same same) (field_same-equiv same same-equiv) fs gs h))
 
+-- a struct with its fields in another order is equivalent
 pub same-reordered : (a : Symbols) (fs gs : List Field) → IsPermutation fs gs → same (annotated a (payloads.Fields fs)) (annotated a (payloads.Fields gs))
     ≡ true
 same-reordered a fs gs p =

@@ -11,34 +11,42 @@ use Rattle.ion_model.specs.Symbols.{has_text}
 
 -- of one level of a payload
 
+-- the bool, where it is one
 abbrev pub truth_in : Layer → Option Bool
 truth_in (Payload-F.Truth b) = Some b
 truth_in _ = None
 
+-- the int, where it is one
 abbrev pub int_in : Layer → Option ℤ
 int_in (Payload-F.Int z) = Some z
 int_in _ = None
 
+-- the decimal, where it is one
 abbrev pub decimal_in : Layer → Option DecimalParts
 decimal_in (Payload-F.Decimal d) = Some d
 decimal_in _ = None
 
+-- the timestamp, where it is one
 abbrev pub timestamp_in : Layer → Option TimestampParts
 timestamp_in (Payload-F.Timestamp t) = Some t
 timestamp_in _ = None
 
+-- the symbol, of known text or not, where it is one
 abbrev pub symbol_in : Layer → Option (Option (List ℕ))
 symbol_in (Payload-F.Symbol s) = Some s
 symbol_in _ = None
 
+-- the text, where it is a string
 abbrev pub text_in : Layer → Option (List ℕ)
 text_in (Payload-F.Str s) = Some s
 text_in _ = None
 
+-- the octets, where it is a clob
 abbrev pub clob_in : Layer → Option (List ℕ)
 clob_in (Payload-F.Clob s) = Some s
 clob_in _ = None
 
+-- the octets, where it is a blob
 abbrev pub blob_in : Layer → Option (List ℕ)
 blob_in (Payload-F.Blob s) = Some s
 blob_in _ = None

@@ -19,6 +19,7 @@ mutual
   pub data IsKept : Value → Type 0 where
     kept : (ss : List (Option (List ℕ))) (p : Payload) → AreTexts ss → KeptPayload p → IsKept (annotated ss p)
 
+  -- a payload that is kept, with all that is inside
   pub data KeptPayload : Payload → Type 0 where
     kept_null : (k : Kind) → KeptPayload (payloads.Null k)
     kept_truth : (b : Bool) → KeptPayload (payloads.Truth b)
@@ -33,14 +34,17 @@ mutual
     kept_sexp : (vs : List Value) → KeptItems vs → KeptPayload (payloads.Sexp vs)
     kept_fields : (ms : List Field) → KeptFields ms → KeptPayload (payloads.Fields ms)
 
+  -- the items of a list or s-expression, each of which is kept
   pub data KeptItems : List Value → Type 0 where
     no_items : KeptItems []
     an_item : (v : Value) (vs : List Value) → IsKept v → KeptItems vs → KeptItems (v ∷ vs)
 
+  -- the fields of a struct, each with a name that is UTF-8 or unknown and a value that is kept
   pub data KeptFields : List Field → Type 0 where
     no_fields : KeptFields []
     a_field : (s : Option (List ℕ)) (v : Value) (ms : List Field) → IsText s → IsKept v → KeptFields ms → KeptFields (field_of s v ∷ ms)
 
+-- values each of which is kept
 abbrev pub AreKept : List Value → Type 0
 AreKept [] = Unit {0}
 AreKept (v ∷ vs) = IsKept v × AreKept vs

@@ -27,6 +27,7 @@ layer_kind (Payload-F.Fields fs) = kinds.Fields
 abbrev pub kind_of : Value → Kind
 kind_of v = layer_kind (out-Payload v.payload)
 
+-- whether the kind is that of structs
 abbrev pub is_fields : Kind → Bool
 is_fields kinds.Fields = true
 is_fields _ = false

@@ -9,6 +9,7 @@ use Rattle.ion_model.specs.Measures.{Layer}
 use Rattle.ion_model.specs.Same.{items, fields, fields_same, same}
 use Rattle.ion_model.specs.Order.{order, field_cmp}
 
+-- the fields stand in ascending order, by name and then by value
 abbrev pub FieldsInOrder : List Field → Type 0
 FieldsInOrder fs = IsSortedBy (λ f g. is_lt (field_cmp order f g)) fs
 
@@ -20,12 +21,15 @@ IsNormalTo (suc n) v =
     × ((k : ℕ) (d : Field) → k < length (fields (out-Payload v.payload)) → IsNormalTo n (slice_index_or (fields (out-Payload v.payload)) k d).value)
     × FieldsInOrder (fields (out-Payload v.payload))
 
+-- at every level the fields of each struct stand in ascending order
 pub record IsNormal (v : Value) : Type 0 where
   pub to : (n : ℕ) → IsNormalTo n v
 
+-- each of these values is in normal form
 abbrev pub AllNormal : List Value → Type 0
 AllNormal vs = (k : ℕ) (d : Value) → k < length vs → IsNormal (slice_index_or vs k d)
 
+-- the value of each of these fields is in normal form
 abbrev pub AllFieldsNormal : List Field → Type 0
 AllFieldsNormal fs = (k : ℕ) (d : Field) → k < length fs → IsNormal (slice_index_or fs k d).value
 

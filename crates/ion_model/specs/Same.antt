@@ -57,6 +57,7 @@ no_scalar k = record {
   text = [];
 }
 
+-- what one level of a payload is beside the values in it
 abbrev pub scalar : Layer → Scalar
 scalar (Payload-F.Null k) = record (no_scalar k) { full = false }
 scalar (Payload-F.Truth b) = record (no_scalar kinds.Bool) { truth = b }

@@ -11,6 +11,7 @@ use lib.Pointwise.{pointwise}
 abbrev pub IsText : Option (List ℕ) → Type 0
 IsText s = IfSome s IsUtf8
 
+-- each of these symbols is of unknown text, or its text is UTF-8
 abbrev pub AreTexts : List (Option (List ℕ)) → Type 0
 AreTexts [] = Unit {0}
 AreTexts (s ∷ ss) = IsText s × AreTexts ss

@@ -10,6 +10,7 @@ use Rattle.std.proofs.Math.Nat.{mod-eq_of_lt, pow-le-pow_right, pow-suc, pow-zer
 use Rattle.std.specs.Int.Digits.{digits_of}
 use Rattle.ion_scalar.specs.binary.Spellings.{sign_bit, signed_digits}
 
+-- a number that few digits hold is held by more
 pub room_for : (base value few many : ℕ) → 0 < base → value < base ^ few → few ≤ many → value < base ^ many
 room_for base value few many b small h =
     let more : base ^ few ≤ base ^ many = pow-le-pow_right b h in
@@ -33,6 +34,7 @@ pub digit_step : (base rest : ℕ) (before text : List ℕ) → 2 ≤ base → 0
     → digits_of base (rest / base) ++ (rest % base) ∷ before ≡ text
 digit_step base rest before text b some e = rw (digits_of_step base rest b some, append_assoc) at e
 
+-- a number below a power of the base takes at most so many places in front of what stands
 pub few_digits : (base value k : ℕ) (before : List ℕ) → 2 ≤ base → value < base ^ k → length (digits_of base value ++ before) ≤ length before + k
 few_digits base value k before b small = omega (arith, length-append (digits_of base value) before, length-digits_of-le base k value b small)
 
@@ -75,11 +77,13 @@ signed_more base bit rest negative b some enough = elim (leb_tells base rest) [
       rw (front, back, one_digit base rest b (omega arith) one.1, le-ltb rest bit enough) refl
 ]
 
+-- a number that doesn't leave the sign bit free puts its last digit in front of what stands
 pub signed_step : (base bit rest : ℕ) (negative : Bool) (before text : List ℕ) → 2 ≤ base → 0 < bit → bit ≤ rest
     → signed_digits bit negative (digits_of base rest) ++ before ≡ text
     → signed_digits bit negative (digits_of base (rest / base)) ++ (rest % base) ∷ before ≡ text
 signed_step base bit rest negative before text b some enough e = rw (signed_more base bit rest negative b some enough, append_assoc) at e
 
+-- a number that leaves the sign bit free goes into one digit, with the sign
 pub signed_last : (base bit rest : ℕ) (negative : Bool) (before text : List ℕ) → 2 ≤ base → bit ≤ base → rest < bit
     → signed_digits bit negative (digits_of base rest) ++ before ≡ text
     → (sign_bit bit negative + rest) ∷ before ≡ text
@@ -90,6 +94,7 @@ length-signed bit negative [] = omega arith
 length-signed bit negative (d ∷ ds) =
     elim (nat_lt d bit) as (λ v. length (with_sign bit negative d ds v) ≤ length (d ∷ ds) + 1) [ true ↦ omega arith | false ↦ omega arith ]
 
+-- with its sign, a number below a power of the base takes at most one place more than so many
 pub few_signed : (base bit value k : ℕ) (negative : Bool) (before : List ℕ) → 2 ≤ base → value < base ^ k
     → length (signed_digits bit negative (digits_of base value) ++ before) ≤ length before + k + 1
 few_signed base bit value k negative before b small =

@@ -16,14 +16,17 @@ HasNoClose [] = Unit {0}
 HasNoClose (o ∷ []) = Unit {0}
 HasNoClose (o ∷ p ∷ os) = (((o == asterisk) && (p == slash)) ≡ false) × HasNoClose (p ∷ os)
 
+-- none of the octets is LF or CR
 abbrev pub HasNoLineEnd : List ℕ → Type 0
 HasNoLineEnd octets = AllByRecursion (λ o. is_line_end o ≡ false) octets
 
+-- a white octet; a line comment up to its one line end; a block comment up to its first `*/`
 abbrev pub IsBlankPiece : BlankPiece → Type 0
 IsBlankPiece (White o) = is_white o ≡ true
 IsBlankPiece (LineComment octets last) = HasNoLineEnd octets × (is_line_end last ≡ true)
 IsBlankPiece (BlockComment octets) = HasNoClose octets
 
+-- the octets of a piece, with the delimiters of a comment
 abbrev pub blank_spelling : BlankPiece → List ℕ
 blank_spelling (White o) = o ∷ []
 blank_spelling (LineComment octets last) = codes "//" ++ octets ++ last ∷ []

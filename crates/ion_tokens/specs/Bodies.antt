@@ -78,6 +78,7 @@ abbrev pub SaysNumber : List ℕ → Content → Type 0
 SaysNumber octets (Number' n) = ReadsNumber octets (Ok n)
 SaysNumber octets _ = ⊥
 
+-- the null of a kind; a name that no kind has is malformed
 abbrev pub null_of : Option Kind → Result Content Reason
 null_of None = Err reasons.Malformed
 null_of (Some k) = Ok (TypedNull k)

@@ -81,9 +81,11 @@ pub record Segment : Type 0 where
   pub octets : List ℕ
   pub white : List ℕ
 
+-- the content means the octets, as that of a long clob, and white space stands behind it
 abbrev pub IsSegment : Segment → Type 0
 IsSegment g = IsQuoted styles.LongClob g.content g.octets × Each is_white g.white
 
+-- the content between three quotes and three, and the white space
 abbrev pub segment_spelling : Segment → List ℕ
 segment_spelling g = codes "'''" ++ g.content ++ codes "'''" ++ g.white
 
@@ -94,6 +96,7 @@ pub data IsClobContent (content octets : List ℕ) : Type 0 where
   LongTexts : (before : List ℕ) (segments : List Segment) → Each is_white before → segments ≢ [] → AllByRecursion IsSegment segments
       → content ≡ before ++ flat_map segment_spelling segments → octets ≡ flat_map (λ (g : Segment). g.octets) segments → IsClobContent content octets
 
+-- the octets of a mark
 abbrev pub mark_spelling : Mark → List ℕ
 mark_spelling marks.FieldsOpen = codes "{"
 mark_spelling marks.FieldsClose = codes "}"

@@ -15,15 +15,19 @@ is_white o = (nat_le tab o && nat_le o carriage_return) || (o == space)
 abbrev pub is_line_end : ℕ → Bool
 is_line_end o = (o == line_feed) || (o == carriage_return)
 
+-- `0` to `9`
 abbrev pub is_digit : ℕ → Bool
 is_digit o = nat_le digit_0 o && nat_le o digit_9
 
+-- `A` to `Z`
 abbrev pub is_upper : ℕ → Bool
 is_upper o = nat_le upper_a o && nat_le o upper_z
 
+-- `a` to `z`
 abbrev pub is_lower : ℕ → Bool
 is_lower o = nat_le lower_a o && nat_le o lower_z
 
+-- a letter of ASCII, in upper or lower case
 abbrev pub is_letter : ℕ → Bool
 is_letter o = is_upper o || is_lower o
 
@@ -31,9 +35,11 @@ is_letter o = is_upper o || is_lower o
 abbrev pub begins_word : ℕ → Bool
 begins_word o = is_letter o || (o == underscore) || (o == dollar)
 
+-- a letter, `_`, `$` or a digit
 abbrev pub is_word_octet : ℕ → Bool
 is_word_octet o = begins_word o || is_digit o
 
+-- a character of operators
 abbrev pub is_operator_octet : ℕ → Bool
 is_operator_octet o = among (codes "!#%&*+-./;<=>?@^`|~") o
 
@@ -45,6 +51,7 @@ is_stop o = among (codes "{}[](),\"'") o || is_white o
 abbrev pub is_base64 : ℕ → Bool
 is_base64 o = is_letter o || is_digit o || among (codes "+/=") o
 
+-- the number that a hexadecimal digit stands for, in upper or lower case
 abbrev pub hexadecimal_digit : ℕ → Option ℕ
 hexadecimal_digit o =
     if is_digit o then Some (o - digit_0)

@@ -41,6 +41,7 @@ pub data Element : Type 0 where
 abbrev pub hex_length : ℕ → Option ℕ
 hex_length letter = if letter == lower_x then Some 2 else (if letter == lower_u then Some 4 else (if letter == upper_u then Some 8 else None))
 
+-- the piece may stand in a text of this style, and its parts belong together
 abbrev pub IsElement : Style → Element → Type 0
 IsElement s (Raw c) = IsRaw s c
 IsElement s (RawLine _) = IsTrue (is_long s)
@@ -50,6 +51,7 @@ IsElement s (Hex letter digits c) = (hex_length letter ≡ Some (length digits))
 IsElement s (Pair first second high low) = (is_clob s ≡ false) × (length first ≡ 4) × (length second ≡ 4) × IsHexAfter 0 first (0xd800 + high) × (high < 1024)
     × IsHexAfter 0 second (0xdc00 + low) × (low < 1024)
 
+-- the octets that a piece is spelled with
 abbrev pub spelling : Element → List ℕ
 spelling (Raw c) = encode_utf8 c
 spelling (RawLine e) = line_end e
@@ -67,11 +69,13 @@ meaning s (Hidden _) = []
 meaning s (Hex _ _ c) = if is_clob s then c ∷ [] else encode_utf8 c
 meaning s (Pair _ _ high low) = encode_utf8 (0x10000 + high * 1024 + low)
 
+-- a line end that is CR alone, raw or behind a backslash
 abbrev pub ends_in_cr : Element → Bool
 ends_in_cr (RawLine Cr) = true
 ends_in_cr (Hidden Cr) = true
 ends_in_cr _ = false
 
+-- an LF that is no part of CR LF and stands behind no backslash
 abbrev pub is_raw_lf : Element → Bool
 is_raw_lf (RawLine Lf) = true
 is_raw_lf _ = false
@@ -82,6 +86,7 @@ CrTakesLf [] = Unit {0}
 CrTakesLf (e ∷ []) = Unit {0}
 CrTakesLf (e ∷ f ∷ es) = (IsTrue (ends_in_cr e) → is_raw_lf f ≡ false) × CrTakesLf (f ∷ es)
 
+-- a `'` that stands for itself
 abbrev pub is_raw_quote : Element → Bool
 is_raw_quote (Raw c) = c == single_quote
 is_raw_quote _ = false

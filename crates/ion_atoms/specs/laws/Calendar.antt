@@ -15,6 +15,7 @@ civil_year_more : (n : ℕ) → civil_years (suc n) ≡ civil_years n + days_in_
 unfolding civil_years
 civil_year_more n = refl
 
+-- the days before a year and those of the year are the days before the next
 pub year_more : (n : ℕ) → days_of_years (suc n) ≡ days_of_years n + year_length n
 unfolding days_of_years
 year_more n = refl
@@ -71,6 +72,7 @@ years-le n (suc k) =
     let next : suc k + n ≡ suc (k + n) = omega arith in
     rw next (omega (arith, years-le n k, year_more (k + n)))
 
+-- there are no days before a year's first month
 pub no_month : (y : ℕ) → days_of_months y 0 ≡ 0
 unfolding days_of_months
 no_month y = refl
@@ -115,6 +117,7 @@ module _ (d : Date) (h : IsDate d) where
       let same : days_of_years (d.year - 1 + 1) ≡ days_of_years d.year = ap days_of_years (omega (arith, h.year)) in
       omega (arith, years-le 1 (d.year - 1), no_month 1)
 
+  -- no day's number is above that of 9999-12-31
   pub le-last : day_number d ≤ last_day
   le-last = omega (
     arith,
@@ -130,9 +133,11 @@ module _ (d : Date) (h : IsDate d) where
       → day_number d ≡ first_day
   is_first c₀ c i e low = omega (arith, signed_arith, first-le, civil_number c₀ i, before_all c low)
 
+  -- jiff has a day before each day of the years 1 to 9999
   pub has_before : (c : CivilDate) → IsYmd (pos d.year) (pos d.month) (pos d.day) c → neg_ℤ (pos 4_371_587) <ℤ epoch_day c
   has_before c i = min-lt-epoch_day c (λ e. absurd (omega (arith, signed_arith, e.0, i.0)))
 
+  -- a day of ours whose number isn't below that of jiff's last day is the last
   pub is_last : (c : CivilDate) → IsYmd (pos d.year) (pos d.month) (pos d.day) c → (epoch_day c <ℤ pos 2_932_896 → ⊥) → day_number d ≡ last_day
   is_last c i n =
       by_lt_z (epoch_day c) (pos 2_932_896) (λ lt. absurd (n lt))
@@ -145,15 +150,18 @@ module _ (d : Date) (h : IsDate d) where
         days_from_civil-day_number (record { year = last_year; month = last_month; day = 31 }) (omega arith),
       ))
 
+  -- the day that follows one of ours isn't before the year 1
   pub stays : (c₀ c : CivilDate) → IsYmd (pos d.year) (pos d.month) (pos d.day) c₀ → epoch_day c ≡ epoch_day c₀ +ℤ pos 1 → c.year <ℤ pos 1 → ⊥
   stays c₀ c i e low = omega (arith, signed_arith, first-le, civil_number c₀ i, before_all c low)
 
 -- and days whose jiff numbers differ by one
 module _ (d e : Date) (h : IsDate d) (k : IsDate e) (c b : CivilDate) (i : IsYmd (pos d.year) (pos d.month) (pos d.day) c)
     (j : IsYmd (pos e.year) (pos e.month) (pos e.day) b) where
+  -- a day whose jiff number is one less has the number before
   pub one_less : epoch_day b ≡ epoch_day c -ℤ pos 1 → day_number e + 1 ≡ day_number d
   one_less n = omega (arith, signed_arith, civil_number d h c i, civil_number e k b j)
 
+  -- a day whose jiff number is one more has the number behind
   pub one_more : epoch_day b ≡ epoch_day c +ℤ pos 1 → day_number e ≡ day_number d + 1
   one_more n = omega (arith, signed_arith, civil_number d h c i, civil_number e k b j)
 

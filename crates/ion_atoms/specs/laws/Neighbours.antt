@@ -24,6 +24,7 @@ either : (b : Bool) (m n : ℕ) → 28 ≤ m → 28 ≤ n → 28 ≤ cond b m n
 either true m n h k = h
 either false m n h k = k
 
+-- each month has at least 28 days
 pub month_least : (y m : ℕ) → 28 ≤ month_length y m
 month_least y m = either _ _ _ (either (is_leap y) 29 28 (omega arith) (omega arith)) (either _ 30 31 (omega arith) (omega arith))
 
@@ -31,6 +32,7 @@ not_above : (b : Bool) (m n : ℕ) → m ≤ 31 → n ≤ 31 → cond b m n ≤ 
 not_above true m n h k = h
 not_above false m n h k = k
 
+-- no month has more than 31 days
 pub month_most : (y m : ℕ) → month_length y m ≤ 31
 month_most y m = not_above _ _ _ (not_above (is_leap y) 29 28 (omega arith) (omega arith)) (not_above _ 30 31 (omega arith) (omega arith))
 
@@ -40,6 +42,7 @@ module _ (d : Date) (h : IsDate d) where
       let same : suc (m - 1) ≡ m = omega arith in
       rw same at (month_more d.year (m - 1))
 
+  -- the day after has the number behind
   pub next_number : day_number (next_day d) ≡ day_number d + 1
   next_number =
       elim (cases_lt d.day (month_length d.year d.month)) [
@@ -58,6 +61,7 @@ module _ (d : Date) (h : IsDate d) where
         ]
       ]
 
+  -- the day after is a day of the years 1 to 9999, if its year isn't past 9999
   pub next_is : (next_day d).year ≤ last_year → IsDate (next_day d)
   next_is bound =
       elim (cases_lt d.day (month_length d.year d.month)) [
@@ -72,6 +76,7 @@ module _ (d : Date) (h : IsDate d) where
         ]
       ]
 
+  -- the day before has the number before
   pub previous_number : 1 ≤ d.year → day_number (previous_day d) + 1 ≡ day_number d
   previous_number some =
       elim (cases_lt 1 d.day) [
@@ -89,6 +94,7 @@ module _ (d : Date) (h : IsDate d) where
         ]
       ]
 
+  -- the day before is a day of the years 1 to 9999, if its year isn't 0
   pub previous_is : 1 ≤ (previous_day d).year → IsDate (previous_day d)
   previous_is bound =
       elim (cases_lt 1 d.day) [
@@ -123,6 +129,7 @@ module _ (d : Date) (h : IsDate d) where
         ]
       ]
 
+  -- only the last day has a day after it past the year 9999
   pub next_last : last_year < (next_day d).year → day_number d ≡ last_day
   next_last past =
       elim (cases_lt d.day (month_length d.year d.month)) [

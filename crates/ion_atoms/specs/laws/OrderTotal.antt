@@ -7,9 +7,11 @@ use Rattle.std.proofs.lemmas.Cmp.{then_total, on_total, nat_cmp_total, int_cmp_t
 use Rattle.ion_atoms.specs.Decimals.{decimal_cmp}
 use Rattle.ion_atoms.specs.Timestamps.{precision_rank, date_cmp, time_cmp, timestamp_cmp}
 
+-- the order of decimals is total
 pub decimal_cmp-total : IsTotalOrder decimal_cmp
 decimal_cmp-total = search (comparing, rules) depth 12
 
+-- the order of timestamps is total
 pub timestamp_cmp-total : IsTotalOrder timestamp_cmp
 timestamp_cmp-total = then_total (then_total (then_total (on_total (λ t. precision_rank t.precision) nat_cmp_total)
     (on_total (λ t. t.offset) (options_total int_cmp_total)))

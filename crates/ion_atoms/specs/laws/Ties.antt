@@ -22,39 +22,48 @@ then_tie Less b p q = cc
 then_tie Equal b p q = q
 then_tie Greater b p q = cc
 
+-- where a chain of two comparisons ties, the first does
 pub then_first : (a b : Ordering) → ordering_then a b ≡ Equal → a ≡ Equal
 then_first Less b p = cc
 then_first Equal b p = refl
 then_first Greater b p = cc
 
+-- where a chain of two comparisons ties, the second does
 pub then_second : (a b : Ordering) → ordering_then a b ≡ Equal → b ≡ Equal
 then_second Less b p = cc
 then_second Equal b p = p
 then_second Greater b p = cc
 
+-- what tests as a tie is a tie
 pub tie_from_is_eq : (o : Ordering) → is_eq o ≡ true → o ≡ Equal
 tie_from_is_eq Less p = absurd (true≢false (sym p))
 tie_from_is_eq Equal p = refl
 tie_from_is_eq Greater p = absurd (true≢false (sym p))
 
+-- numbers that tie in the order test as equal
 pub nat_back : (x y : ℕ) → nat_cmp x y ≡ Equal → nat_eq x y ≡ true
 nat_back x y h = grind (arith, nat_tests)
 
+-- numbers that tie in the order are equal
 pub nat_is : (x y : ℕ) → nat_cmp x y ≡ Equal → x ≡ y
 nat_is x y h = eqb-true x y (nat_back x y h)
 
+-- truth values that tie in the order are equal
 pub bool_is : (a b : Bool) → bool_cmp a b ≡ Equal → a ≡ b
 bool_is true true h = refl
 bool_is true false h = cc
 bool_is false true h = cc
 bool_is false false h = refl
 
+-- truth values that test as equal are equal
 pub bool_from : (a b : Bool) → beq a b ≡ true → a ≡ b
 bool_from a b h = (booleans_Decides a b).0 h
 
+-- ints that test as equal are equal
 pub int_from : (y z : ℤ) → int_eq y z ≡ true → y ≡ z
 int_from y z h = (signed_Decides y z).0 h
 
+-- ints that tie in the order are equal
 pub int_is : (y z : ℤ) → int_cmp y z ≡ Equal → y ≡ z
 int_is y z h = int_from y z (ap is_eq h)
 
@@ -91,6 +100,7 @@ precision_at-rank (precisions.Fraction digits) = let e : 5 + digits ≡ suc (suc
 precision_from : (p q : Precision) → precision_rank p ≡ precision_rank q → p ≡ q
 precision_from p q h = sym (precision_at-rank p) ∙ ap precision_at h ∙ precision_at-rank q
 
+-- decimals that agree in every part are equal
 pub decimal_from : (d e : DecimalParts) → decimal_same d e ≡ true → d ≡ e
 decimal_from d e h =
     let a = beq d.negative e.negative in
@@ -101,6 +111,7 @@ decimal_from d e h =
     let r = int_from d.exponent e.exponent (second (a && b) _ h) in
     λ i. record { negative = p i; magnitude = q i; exponent = r i }
 
+-- decimals that tie in the order are equal
 pub decimal_is : (d e : DecimalParts) → decimal_cmp d e ≡ Equal → d ≡ e
 decimal_is d e h =
     let a = int_cmp d.exponent e.exponent in
@@ -154,6 +165,7 @@ local_is l m s t =
     let fraction = nat_is l.fraction m.fraction (then_second (ordering_then (ordering_then d e) f) _ t) in
     λ i. record { year = year i; month = month i; day = day i; hour = hour i; minute = minute i; second = seconds i; fraction = fraction i }
 
+-- timestamps that agree in precision, offset and local fields are equal
 pub timestamp_from : (s t : TimestampParts) → timestamp_same s t ≡ true → s ≡ t
 timestamp_from s t h =
     let a = nat_eq (precision_rank s.precision) (precision_rank t.precision) in
@@ -164,6 +176,7 @@ timestamp_from s t h =
     let r = local_from s.local t.local (second (a && b) _ h) in
     λ i. record { local = r i; precision = p i; offset = q i }
 
+-- timestamps that tie in the order are equal
 pub timestamp_is : (s t : TimestampParts) → timestamp_cmp s t ≡ Equal → s ≡ t
 timestamp_is s t h =
     let a = nat_cmp (precision_rank s.precision) (precision_rank t.precision) in

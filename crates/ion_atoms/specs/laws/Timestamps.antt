@@ -5,9 +5,11 @@ use Rattle.ion_atoms.specs.Calendar.{IsMinute, minute_number}
 use Rattle.ion_atoms.specs.laws.Calendar.{minute_number-injective}
 use Rattle.ion_atoms.specs.Timestamps.{TimestampParts, IsTimestamp, local_minute, minutes_ahead, utc_minute, instant}
 
+-- a timestamp's local minute is a minute of a day of the years 1 to 9999
 pub local_minute-is : (t : TimestampParts) → IsTimestamp t → IsMinute (local_minute t.local)
 local_minute-is t h = record { date = h.date; hour = h.time.0; minute = h.time.1 }
 
+-- timestamps of the same precision, offset and instant are the same
 pub one_timestamp : (s t : TimestampParts) → IsTimestamp s → IsTimestamp t → s.precision ≡ t.precision → s.offset ≡ t.offset → instant s ≡ instant t → s ≡ t
 one_timestamp s t h k precision offset same =
     let utc : utc_minute s ≡ utc_minute t = ap (λ x. x.minute) same in

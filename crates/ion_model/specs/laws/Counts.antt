@@ -10,10 +10,12 @@ use Rattle.ion_atoms.specs.laws.Tests.{both, first, second, same_bool}
 abbrev pub bit : Bool → ℕ
 bit b = cond b 1 0
 
+-- an item in front counts where it passes, beside those of the rest
 pub count_by-cons : {X : Type 0} (p : X → Bool) (x : X) (xs : List X) → count_by p (x ∷ xs) ≡ cond (p x) 1 0 + count_by p xs
 count_by-cons p x xs = sum_by-cons (λ x. cond (p x) 1 0) x xs
 
 module _ {X : Type 0} (E : X → X → Bool) where
+  -- how many of a list are the same as an item, by E
   abbrev pub count : List X → X → ℕ
   count ys x = count_by (E x) ys
 
@@ -23,6 +25,7 @@ module _ {X : Type 0} (E : X → X → Bool) where
   abbrev pub alike : List X → List X → Bool
   alike xs ys = agree xs ys xs && agree xs ys ys
 
+  -- each item stands as often in the one list as in the other
   pub record Counts (xs ys : List X) : Type 0 where
     pub at : (x : X) → count xs x ≡ count ys x
 
@@ -30,6 +33,7 @@ module _ {X : Type 0} (E : X → X → Bool) where
   agree_all xs ys [] h = refl
   agree_all xs ys (z ∷ zs) h = both _ _ (eq-eqb _ _ (h.at z)) (agree_all xs ys zs h)
 
+  -- lists in which each item stands as often pass the test of that
   pub alike_from : (xs ys : List X) → Counts xs ys → alike xs ys ≡ true
   alike_from xs ys h = both _ _ (agree_all xs ys xs h) (agree_all xs ys ys h)
 
@@ -60,6 +64,7 @@ module _ {X : Type 0} (E : X → X → Bool) where
   find_at x y ys false is rest h = let f = rest (omega arith) in
       record { place = suc f.place; within = (let w = f.within in omega (arith, w)); alike = f.alike }
 
+  -- an item that is counted in a list has a place there
   pub find : (x : X) (ys : List X) → 0 < count ys x → Found x ys
   find x [] h = absurd (omega arith)
   find x (y ∷ ys) h = find_at x y ys (E x y) refl (find x ys) (omega (arith, count_by-cons (E x) y ys))
@@ -84,9 +89,11 @@ module _ {X : Type 0} (E : X → X → Bool) where
     cases xs ys h x zero (suc n) p q = from_member xs ys ys (second (agree xs ys xs) _ h) x (omega (arith, q))
     cases xs ys h x zero zero p q = p ∙ sym q
 
+    -- in lists that pass the test of it, each item stands as often
     pub counts_from : (xs ys : List X) → alike xs ys ≡ true → Counts xs ys
     counts_from xs ys h = record { at = λ x. cases xs ys h x (count xs x) (count ys x) refl refl }
 
+    -- whether each item stands as often in two lists is an equivalence
     pub alike_equiv : IsEquivalence alike
     alike_equiv = record {
       refl = λ xs. alike_from xs xs (record { at = λ x. refl });

@@ -13,9 +13,11 @@ use Rattle.ion_atoms.specs.laws.Equivalence.{decimal_same-equiv, timestamp_same-
 use Rattle.ion_model.specs.Symbols.{symbol_same}
 use Rattle.ion_model.specs.laws.Same.{same-agrees}
 
+-- whether symbols are the same is an equivalence
 pub symbol_same-equiv : IsEquivalence symbol_same
 symbol_same-equiv = search (comparing, rules)
 
+-- whether scalars agree in every part is an equivalence
 pub scalar_same-equiv : IsEquivalence scalar_same
 scalar_same-equiv =
     and_equiv (on_equiv (λ s. s.kind) nat_eq_equiv) (and_equiv (on_equiv (λ s. s.full) bool_eq_equiv) (and_equiv (on_equiv (λ s. s.truth) bool_eq_equiv)
@@ -23,9 +25,11 @@ scalar_same-equiv =
     (and_equiv (on_equiv (λ s. s.timestamp) timestamp_same-equiv)
     (and_equiv (on_equiv (λ s. s.symbol) symbol_same-equiv) (on_equiv (λ s. s.text) nat_list_eq_equiv)))))))
 
+-- whether two fields are the same is an equivalence, where the test of their values is
 pub field_same-equiv : (E : Value → Value → Bool) → IsEquivalence E → IsEquivalence (field_same E)
 field_same-equiv E e = and_equiv (on_equiv (λ f. f.name) symbol_same-equiv) (on_equiv (λ f. f.value) e)
 
+-- whether structs have each field as often is an equivalence, where the test of the values is
 pub fields_same-equiv : (E : Value → Value → Bool) → IsEquivalence E → IsEquivalence (fields_same E)
 fields_same-equiv E e = alike_equiv (field_same E) (field_same-equiv E e)
 
@@ -37,6 +41,7 @@ module _ (E : Value → Value → Bool) (e : IsEquivalence E) where
   value_same-equiv : IsEquivalence (value_same E)
   value_same-equiv = and_equiv (on_equiv (λ v. v.annotations) (lists_equiv symbol_same-equiv)) (on_equiv (λ v. out-Payload v.payload) layer_same-equiv)
 
+-- whether values agree as far as the first n levels show is an equivalence
 pub same_to-equiv : (n : ℕ) → IsEquivalence (same_to n)
 same_to-equiv zero = record { refl = λ v. refl; symm = λ v w. refl; congr = λ u v w h. refl }
 same_to-equiv (suc n) = value_same-equiv (same_to n) (same_to-equiv n)

@@ -16,6 +16,7 @@ use Rattle.ion_model.specs.declared.value.Payload.TheViews as views
 use Rattle.ion_model.specs.declared.value.Payload.TheFolds.{fold_out-Payload, fold_out-Value, fold_out-Field, fold-Payload, fold-Field, map-Payload}
 use Rattle.ion_model.specs.declared.value.Payload.TheOpen.{Payload-F}
 
+-- values that tie in the order feed a hasher alike
 pub values_alike : (v w : Value) → is_eq (order v w) ≡ true → hashed v ≡ hashed w
 values_alike v w h = ap hashed (equal_from_order v w (tie_from_is_eq (order v w) h))
 

@@ -8,10 +8,12 @@ use Rattle.ion_model.specs.declared.value.Payload.TheViews.{out-Payload, roll-Pa
 use Rattle.ion_model.specs.Measures.{Layer, field_of}
 use Rattle.ion_model.specs.Kept.{IsText, AreTexts, IsKept, kept, KeptPayload, kept_null, kept_truth, kept_int, kept_decimal, kept_timestamp, kept_symbol, kept_string, kept_clob, kept_blob, kept_list, kept_sexp, kept_fields, KeptItems, no_items, an_item, KeptFields, no_fields, a_field, AreKept, KeptLayer}
 
+-- symbols that are kept, behind others that are, are kept
 pub texts_both : (ss ts : List (Option (List ℕ))) → AreTexts ss → AreTexts ts → AreTexts (ss ++ ts)
 texts_both [] ts h k = k
 texts_both (s ∷ ss) ts h k = (h.0, texts_both ss ts h.1 k)
 
+-- symbols that are kept stay so with one more that is
 pub texts_last : (ss : List (Option (List ℕ))) (s : Option (List ℕ)) → AreTexts ss → IsText s → AreTexts (ss ++ s ∷ [])
 texts_last ss s h k = texts_both ss (s ∷ []) h (k, tt)
 
@@ -19,6 +21,7 @@ pub items_both : (vs ws : List Value) → KeptItems vs → KeptItems ws → Kept
 items_both _ ws no_items k = k
 items_both _ ws (an_item v vs h hs) k = an_item v (vs ++ ws) h (items_both vs ws hs k)
 
+-- items that are kept stay so with one more that is
 pub items_last : (vs : List Value) (v : Value) → KeptItems vs → IsKept v → KeptItems (vs ++ v ∷ [])
 items_last vs v h k = items_both vs (v ∷ []) h (an_item v [] k no_items)
 
@@ -26,26 +29,32 @@ pub fields_both : (ms ns : List Field) → KeptFields ms → KeptFields ns → K
 fields_both _ ns no_fields k = k
 fields_both _ ns (a_field s v ms t h hs) k = a_field s v (ms ++ ns) t h (fields_both ms ns hs k)
 
+-- fields that are kept stay so with one more, of a name and a value that are
 pub fields_last : (ms : List Field) (s : Option (List ℕ)) (v : Value) → KeptFields ms → IsText s → IsKept v → KeptFields (ms ++ field_of s v ∷ [])
 fields_last ms s v h t k = fields_both ms (field_of s v ∷ []) h (a_field s v [] t k no_fields)
 
+-- values that are kept, behind others that are, are kept
 pub kept_both : (s t : List Value) → AreKept s → AreKept t → AreKept (s ++ t)
 kept_both [] t h k = k
 kept_both (v ∷ s) t h k = (h.0, kept_both s t h.1 k)
 
+-- values that are kept stay so with one more that is
 pub kept_last : (s : List Value) (v : Value) → AreKept s → IsKept v → AreKept (s ++ v ∷ [])
 kept_last s v h k = kept_both s (v ∷ []) h (k, tt)
 
 -- Lists gone over from the front: what is left of a list being kept makes all of it kept.
 
+-- a symbol that is kept is passed: now what is left behind it makes all of them kept
 pub texts_at : (ss : List (Option (List ℕ))) (i : ℕ) (s : Option (List ℕ)) → i < length ss → s ≡ get_or ss i s → IsText s → (AreTexts (drop i ss) → AreTexts ss)
     → AreTexts (drop (i + 1) ss) → AreTexts ss
 texts_at ss i s small is k so_far rest = so_far (subst AreTexts (sym (drop_more ss i s small)) (subst IsText is k, rest))
 
+-- an item that is kept is passed: now what is left behind it makes all of them kept
 pub items_at : (vs : List Value) (i : ℕ) (v : Value) → i < length vs → v ≡ get_or vs i v → IsKept v → (KeptItems (drop i vs) → KeptItems vs)
     → KeptItems (drop (i + 1) vs) → KeptItems vs
 items_at vs i v small is k so_far rest = so_far (subst KeptItems (sym (drop_more vs i v small)) (an_item _ _ (subst IsKept is k) rest))
 
+-- a field whose parts are kept is passed: now what is left behind it makes all of them kept
 pub fields_at : (ms : List Field) (i : ℕ) (m : Field) → i < length ms → m ≡ get_or ms i m → IsText m.name → IsKept m.value
     → (KeptFields (drop i ms) → KeptFields ms) → KeptFields (drop (i + 1) ms) → KeptFields ms
 fields_at ms i m small is t k so_far rest =

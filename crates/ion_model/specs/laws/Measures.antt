@@ -40,24 +40,31 @@ depth-out v =
 pub depth-at : (v : Value) (p : Payload) → v.payload ≡ p → depth v ≡ layer_depth (views.out-Payload p)
 depth-at v p e = depth-out v ∙ ap (λ p. layer_depth (views.out-Payload p)) e
 
+-- a list goes one deeper than its deepest item
 pub depth-at-List : (v : Value) (vs : List Value) → v.payload ≡ payloads.List vs → depth v ≡ suc (greatest (map depth vs))
 depth-at-List v vs e = depth-at v _ e ∙ ap layer_depth (views.outs-List vs)
 
+-- an s-expression goes one deeper than its deepest item
 pub depth-at-Sexp : (v : Value) (vs : List Value) → v.payload ≡ payloads.Sexp vs → depth v ≡ suc (greatest (map depth vs))
 depth-at-Sexp v vs e = depth-at v _ e ∙ ap layer_depth (views.outs-Sexp vs)
 
+-- a struct goes one deeper than the deepest value of its fields
 pub depth-at-Fields : (v : Value) (fs : List Field) → v.payload ≡ payloads.Fields fs → depth v ≡ suc (greatest (map (λ f. depth f.value) fs))
 depth-at-Fields v fs e = depth-at v _ e ∙ ap layer_depth (views.outs-Fields fs)
 
+-- a null without annotations is 0 deep
 pub depth-Null : (k : Kind) → depth (bare (payloads.Null k)) ≡ 0
 depth-Null k = depth-out (bare (payloads.Null k)) ∙ ap layer_depth (views.outs-Null k)
 
+-- a bool without annotations is 0 deep
 pub depth-Truth : (b : Bool) → depth (bare (payloads.Truth b)) ≡ 0
 depth-Truth b = depth-out (bare (payloads.Truth b)) ∙ ap layer_depth (views.outs-Truth b)
 
+-- an int without annotations is 0 deep
 pub depth-Int : (z : ℤ) → depth (bare (payloads.Int z)) ≡ 0
 depth-Int z = depth-out (bare (payloads.Int z)) ∙ ap layer_depth (views.outs-Int z)
 
+-- a list without annotations goes one deeper than its deepest item
 pub depth-List : (vs : List Value) → depth (bare (payloads.List vs)) ≡ suc (greatest (map depth vs))
 depth-List vs = depth-at-List (bare (payloads.List vs)) vs refl
 
@@ -99,12 +106,15 @@ nodes-out v =
 nodes-at : (v : Value) (p : Payload) (d : Layer) → v.payload ≡ p → views.out-Payload p ≡ d → nodes v ≡ length v.annotations + layer_nodes d
 nodes-at v p d e f = nodes-out v ∙ ap (λ p. length v.annotations + layer_nodes (views.out-Payload p)) e ∙ ap (λ d. length v.annotations + layer_nodes d) f
 
+-- the nodes of a list: its annotations, itself, and those of its items
 pub nodes-at-List : (v : Value) (vs : List Value) → v.payload ≡ payloads.List vs → nodes v ≡ length v.annotations + suc (sum (map nodes vs))
 nodes-at-List v vs e = nodes-at v _ _ e (views.outs-List vs)
 
+-- the nodes of an s-expression: its annotations, itself, and those of its items
 pub nodes-at-Sexp : (v : Value) (vs : List Value) → v.payload ≡ payloads.Sexp vs → nodes v ≡ length v.annotations + suc (sum (map nodes vs))
 nodes-at-Sexp v vs e = nodes-at v _ _ e (views.outs-Sexp vs)
 
+-- the nodes of a struct: its annotations, itself, and for each field its name and those of its value
 pub nodes-at-Fields : (v : Value) (fs : List Field) → v.payload ≡ payloads.Fields fs
     → nodes v ≡ length v.annotations + suc (sum (map (λ f. suc (nodes f.value)) fs))
 nodes-at-Fields v fs e = nodes-at v _ _ e (views.outs-Fields fs)
@@ -113,9 +123,11 @@ nodes-at-Fields v fs e = nodes-at v _ _ e (views.outs-Fields fs)
 pub nodes-bare : (p : Payload) (d : Layer) → views.out-Payload p ≡ d → nodes (bare p) ≡ layer_nodes d
 nodes-bare p d e = let n = nodes-out (bare p) in let k : layer_nodes (views.out-Payload p) ≡ layer_nodes d = ap layer_nodes e in omega arith
 
+-- a null without annotations is one node
 pub nodes-Null : (k : Kind) → nodes (bare (payloads.Null k)) ≡ 1
 nodes-Null k = nodes-bare (payloads.Null k) _ (views.outs-Null k)
 
+-- a bool without annotations is one node
 pub nodes-Truth : (b : Bool) → nodes (bare (payloads.Truth b)) ≡ 1
 nodes-Truth b = nodes-bare (payloads.Truth b) _ (views.outs-Truth b)
 

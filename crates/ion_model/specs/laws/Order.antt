@@ -51,6 +51,7 @@ stable (suc m) zero (suc k) p q = absurd (omega arith)
 stable (suc m) (suc n) (suc k) p q =
     record { at = λ v w a b. value-agree k (order_to m) (order_to n) (stable m n k (omega arith) (omega arith)) v w (omega arith) (omega arith) }
 
+-- the order as far as n levels show is the order, of values less than n deep
 pub order-agrees : (n : ℕ) → Agree n (order_to n) order
 unfolding order
 order-agrees n = record {

@@ -116,6 +116,7 @@ is_to (suc n) v w p q h =
     let payloads : v.payload ≡ w.payload = sym (roll-out-Payload v.payload) ∙ ap roll-Payload layers ∙ roll-out-Payload w.payload in
     ap (λ x. valued x v.payload) (symbols_are v.annotations w.annotations (then_second (layer_cmp R a b) _ h)) ∙ ap (λ x. valued w.annotations x) payloads
 
+-- values that tie in the order are equal
 pub equal_from_order : (v w : Value) → order v w ≡ Equal → v ≡ w
 equal_from_order v w h =
     let n = suc (max (depth v) (depth w)) in

@@ -22,9 +22,11 @@ symbol_ties None (Some t) = refl
 symbol_ties (Some s) None = refl
 symbol_ties (Some s) (Some t) = sym (is_eq-slice_cmp s t)
 
+-- the order of symbols is total
 pub symbol_cmp-total : IsTotalOrder symbol_cmp
 symbol_cmp-total = search (comparing, rules)
 
+-- the order of scalars is total
 pub scalar_cmp-total : IsTotalOrder scalar_cmp
 scalar_cmp-total =
     then_total (on_total (λ s. s.kind) nat_cmp_total) (then_total (on_total (λ s. s.full) bool_cmp_total) (then_total (on_total (λ s. s.truth) bool_cmp_total)
@@ -32,9 +34,11 @@ scalar_cmp-total =
     (then_total (on_total (λ s. s.timestamp) timestamp_cmp-total)
     (then_total (on_total (λ s. s.symbol) symbol_cmp-total) (on_total (λ s. s.text) nat_list_cmp_total)))))))
 
+-- the order of fields is total, where that of their values is
 pub field_cmp-total : (R : Value → Value → Ordering) → IsTotalOrder R → IsTotalOrder (field_cmp R)
 field_cmp-total R o = then_total (on_total (λ f. f.name) symbol_cmp-total) (on_total (λ f. f.value) o)
 
+-- the order of payloads is total, where that of the values inside is
 pub layer_cmp-total : (R : Value → Value → Ordering) → IsTotalOrder R → IsTotalOrder (layer_cmp R)
 layer_cmp-total R o = then_total (on_total scalar scalar_cmp-total)
     (then_total (on_total items (lists_total o)) (on_total fields (lists_total (field_cmp-total R o))))
@@ -46,6 +50,7 @@ order_to-total : (n : ℕ) → IsTotalOrder (order_to n)
 order_to-total zero = record { antisymm = λ v w. refl; trans = λ u v w h k. h; congr = λ u v w h. refl }
 order_to-total (suc n) = value_cmp-total (order_to n) (order_to-total n)
 
+-- the order of values is total
 pub order-total : IsTotalOrder order
 order-total = record {
   antisymm = λ v w.

@@ -29,18 +29,21 @@ text_from s t h = (bytes_eq-Decides s t).0 h
 text_is : (s t : List ℕ) → text_cmp s t ≡ Equal → s ≡ t
 text_is s t h = text_from s t (text_back s t h)
 
+-- symbols that are the same are equal
 pub symbol_from : (s t : Option (List ℕ)) → symbol_same s t ≡ true → s ≡ t
 symbol_from None None h = refl
 symbol_from None (Some t) h = cc
 symbol_from (Some s) None h = cc
 symbol_from (Some s) (Some t) h = ap Some (text_from s t h)
 
+-- symbols that tie in the order are equal
 pub symbol_is : (s t : Option (List ℕ)) → symbol_cmp s t ≡ Equal → s ≡ t
 symbol_is None None h = refl
 symbol_is None (Some t) h = cc
 symbol_is (Some s) None h = cc
 symbol_is (Some s) (Some t) h = ap Some (text_is s t h)
 
+-- scalars that agree in every part are equal
 pub scalar_from : (s t : Scalar) → scalar_same s t ≡ true → s ≡ t
 scalar_from s t h =
     let a = second (nat_eq s.kind t.kind) _ h in
@@ -59,6 +62,7 @@ scalar_from s t h =
     let text = text_from s.text t.text (second (symbol_same s.symbol t.symbol) _ f) in
     λ i. record { kind = kind i; full = full i; truth = truth i; int = int i; decimal = decimal i; timestamp = timestamp i; symbol = symbol i; text = text i }
 
+-- scalars that tie in the order are equal
 pub scalar_is : (s t : Scalar) → scalar_cmp s t ≡ Equal → s ≡ t
 scalar_is s t h =
     let a = then_second (nat_cmp s.kind t.kind) _ h in
@@ -77,15 +81,19 @@ scalar_is s t h =
     let text = text_is s.text t.text (then_second (symbol_cmp s.symbol t.symbol) _ f) in
     λ i. record { kind = kind i; full = full i; truth = truth i; int = int i; decimal = decimal i; timestamp = timestamp i; symbol = symbol i; text = text i }
 
+-- symbols that are the same tie in the order
 pub symbol_tie : (s t : Option (List ℕ)) → symbol_same s t ≡ true → symbol_cmp s t ≡ Equal
 symbol_tie s t h = rw (symbol_from s t h) (tied_itself symbol_cmp-total t)
 
+-- symbols that tie in the order are the same
 pub symbol_back : (s t : Option (List ℕ)) → symbol_cmp s t ≡ Equal → symbol_same s t ≡ true
 symbol_back s t h = rw (symbol_is s t h) (symbol_same-equiv.refl t)
 
+-- scalars that agree in every part tie in the order
 pub scalar_tie : (s t : Scalar) → scalar_same s t ≡ true → scalar_cmp s t ≡ Equal
 scalar_tie s t h = subst (λ x. scalar_cmp x t ≡ Equal) (sym (scalar_from s t h)) (tied_itself scalar_cmp-total t)
 
+-- scalars that tie in the order agree in every part
 pub scalar_back : (s t : Scalar) → scalar_cmp s t ≡ Equal → scalar_same s t ≡ true
 scalar_back s t h = subst (λ x. scalar_same x t ≡ true) (sym (scalar_is s t h)) (scalar_same-equiv.refl t)
 
@@ -100,6 +108,7 @@ pointwise_tie E R (x ∷ xs) (y ∷ ys) each h =
     then_tie _ _ (each 0 x (omega arith) (omega arith) (first _ _ h))
     (pointwise_tie E R xs ys (λ k d p q s. each (suc k) d (omega arith) (omega arith) s) (second (E x y) _ h))
 
+-- lists that tie agree place by place, where items that tie are the same
 pub pointwise_back : {X : Type 0} (E : X → X → Bool) (R : X → X → Ordering) → ((x y : X) → R x y ≡ Equal → E x y ≡ true) → (xs ys : List X)
     → slice_cmp R xs ys ≡ Equal → pointwise E xs ys ≡ true
 pointwise_back E R each [] [] h = refl

@@ -14,8 +14,10 @@ items_same-equiv = search (comparing, rules)
 names_same-equiv : IsEquivalence (option_eq symbol_same)
 names_same-equiv = search (comparing, rules)
 
+-- whether two parts of paths are the same is an equivalence
 pub part_same-equiv : IsEquivalence part_same
 part_same-equiv = and_equiv (on_equiv item_of items_same-equiv) (on_equiv name_of names_same-equiv)
 
+-- whether two paths are the same is an equivalence
 pub path_same-equiv : IsEquivalence path_same
 path_same-equiv = lists_equiv part_same-equiv

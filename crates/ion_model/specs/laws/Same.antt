@@ -17,9 +17,11 @@ use Rattle.ion_model.specs.declared.value.Payload.TheOpen.{Payload-F}
 pub record Agree {A : Type 0} (n : ℕ) (E F : Value → Value → A) : Type 0 where
   pub at : (v w : Value) → depth v < n → depth w < n → E v w ≡ F v w
 
+-- one more than the depth of the deepest of these values, 0 where there are none
 abbrev pub items_deep : List Value → ℕ
 items_deep vs = greatest (map (λ v. suc (depth v)) vs)
 
+-- one more than the depth of the deepest of these fields' values, 0 where there are none
 abbrev pub fields_deep : List Field → ℕ
 fields_deep fs = greatest (map (λ f. suc (depth f.value)) fs)
 
@@ -53,11 +55,13 @@ above_all : {A : Type 0} (f : A → ℕ) (xs : List A) → greatest (map (λ x. 
 above_all f [] = omega arith
 above_all f (x ∷ xs) = omega (arith, above_all f xs)
 
+-- the items of a payload are less deep than the payload
 pub items-deep : (a : Layer) → items_deep (items a) ≤ layer_depth a
 items-deep (Payload-F.List vs) = above_all depth vs
 items-deep (Payload-F.Sexp vs) = above_all depth vs
 items-deep _ = omega arith
 
+-- the values of a payload's fields are less deep than the payload
 pub fields-deep : (a : Layer) → fields_deep (fields a) ≤ layer_depth a
 fields-deep (Payload-F.Fields fs) = above_all (λ f. depth f.value) fs
 fields-deep _ = omega arith
@@ -107,6 +111,7 @@ pub counts_agree_fails : (E : Value → Value → Bool) (fs gs hs : List Field) 
 counts_agree_fails E fs gs hs i x h is differ =
     sym (list_all_at (λ h. eqb (field_count E fs h) (field_count E gs h)) hs i x h (rw (← is) (ne_eqb _ _ differ)))
 
+-- where the fields before a place stand as often in two structs, and that at it does, so do those up to it
 pub counts_agree_more : (E : Value → Value → Bool) (fs gs hs : List Field) (i : ℕ) (x : Field) → i < length hs → x ≡ get_or hs i x
     → field_count E fs x ≡ field_count E gs x → counts_agree E fs gs (take i hs) ≡ true → counts_agree E fs gs (take (i + 1) hs) ≡ true
 counts_agree_more E fs gs hs i x h is agree so_far =

@@ -28,9 +28,11 @@ IsDecimalField body d =
 abbrev pub exponent_fits : Signed → Bool
 exponent_fits power = if power.negative then nat_le power.magnitude (2 ^ 31) else nat_lt power.magnitude (2 ^ 31)
 
+-- the decimal of a sign, a magnitude and an exponent
 abbrev pub decimal_with : Bool → ℕ → ℤ → DecimalParts
 decimal_with negative magnitude exponent = record { negative = negative; magnitude = magnitude; exponent = exponent }
 
+-- the rest as a coefficient behind an exponent; too large where either is
 abbrev pub with_coefficient : Signed → List ℕ → Result DecimalParts Reason
 with_coefficient power octets =
     if exponent_fits power then
@@ -38,6 +40,7 @@ with_coefficient power octets =
     Err TooLarge)
     else Err TooLarge
 
+-- what a body is by what its front was read as; an exponent without an end is malformed
 abbrev pub with_exponent : List ℕ → Result (Signed × ℕ) Reason → Result DecimalParts Reason
 with_exponent body (Ok read) = with_coefficient read.0 (drop read.1 body)
 with_exponent body (Err TooLarge) = Err TooLarge

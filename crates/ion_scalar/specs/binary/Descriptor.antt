@@ -9,13 +9,16 @@ use Rattle.ion_scalar.specs.declared.descriptor.Size.TheVariants.{Known, Follows
 use Rattle.ion_scalar.specs.declared.descriptor.Descriptor.{Descriptor}
 use Rattle.ion_scalar.specs.declared.descriptor.Descriptor.TheVariants.{Marker, Null, Truth, Pad, Ordered, Body}
 
+-- the kind of a type code: both those of ints are ints, one past 13 counts as a struct's
 abbrev pub kind : ℕ → Kind
 kind tag = slice_index_or (kinds.Null ∷ kinds.Bool ∷ kinds.Int ∷ kinds.Int ∷ kinds.Float ∷ kinds.Decimal ∷ kinds.Timestamp ∷ kinds.Symbol ∷ kinds.Str
     ∷ kinds.Clob ∷ kinds.Blob ∷ kinds.List ∷ kinds.Sexp ∷ kinds.Fields ∷ []) tag kinds.Fields
 
+-- what a length code says: 14 that the length follows, any other the length itself
 abbrev pub size : ℕ → Size
 size length = if length == 14 then Follows else Known length
 
+-- what a type code and a length code say: a body, a null, a pad, a truth, a marker, or why they are refused
 abbrev pub typed : ℕ → ℕ → Result Descriptor Reason
 typed tag length =
     if tag == 15 then Err Malformed

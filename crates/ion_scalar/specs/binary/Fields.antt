@@ -56,6 +56,7 @@ var_uint octets = var_rest 0 0 octets
 abbrev pub is_negative : ℕ → Bool
 is_negative octet = nat_le 64 (seven_bits octet)
 
+-- the six bits of magnitude of the first octet of a VarInt
 abbrev pub six_bits : ℕ → ℕ
 six_bits octet = if is_negative octet then seven_bits octet - 64 else seven_bits octet
 
@@ -66,9 +67,11 @@ pub data VarInt : List ℕ → Bool → ℕ → Type 0 where
   long : (octet : ℕ) (digits : List ℕ) (last : ℕ) → octet < 128 → Digits128 digits → positional 128 (six_bits octet ∷ digits ++ last ∷ []) < 2 ^ 63
       → VarInt (octet ∷ digits ++ (128 + last) ∷ []) (is_negative octet) (positional 128 (six_bits octet ∷ digits ++ last ∷ []))
 
+-- a sign and a magnitude together
 abbrev pub signed_of : Bool → ℕ → Signed
 signed_of negative magnitude = record { negative = negative; magnitude = magnitude }
 
+-- a number that was read gets its sign, and a refusal stays
 abbrev pub with_sign : Bool → Result (ℕ × ℕ) Reason → Result (Signed × ℕ) Reason
 with_sign negative (Ok read) = Ok (signed_of negative read.0, read.1)
 with_sign negative (Err reason) = Err reason
@@ -85,6 +88,7 @@ abbrev pub int_negative : List ℕ → Bool
 int_negative [] = false
 int_negative (octet ∷ rest) = is_last octet
 
+-- the number that the octets make without the sign bit
 abbrev pub int_magnitude : List ℕ → ℕ
 int_magnitude [] = 0
 int_magnitude (octet ∷ rest) = positional 256 (seven_bits octet ∷ rest)

@@ -26,6 +26,7 @@ pub record BeginsWith (octets : List ℕ) (n used : ℕ) : Type 0 where
   pub within : used ≤ length octets
   pub is : VarUInt (take used octets) n
 
+-- what an answer says of a VarUInt: it begins there, or reaches 2^63, or has no end
 abbrev pub ReadsVarUInt : List ℕ → Result (ℕ × ℕ) Reason → Type 0
 ReadsVarUInt octets (Ok read) = BeginsWith octets read.0 read.1
 ReadsVarUInt octets (Err TooLarge) = Reaches 0 octets
@@ -42,10 +43,12 @@ abbrev pub ReachesInt : List ℕ → Type 0
 ReachesInt [] = ⊥
 ReachesInt (octet ∷ rest) = (octet < 128) × Reaches (six_bits octet) rest
 
+-- nothing, or the beginning of a VarInt that no octet ends and that stays below 2^63
 abbrev pub GoesOnInt : List ℕ → Type 0
 GoesOnInt [] = Unit {0}
 GoesOnInt (octet ∷ rest) = (octet < 128) × GoesOn (six_bits octet) rest
 
+-- what an answer says of a VarInt: it begins there, or reaches 2^63, or has no end
 abbrev pub ReadsVarInt : List ℕ → Result (Signed × ℕ) Reason → Type 0
 ReadsVarInt octets (Ok read) = BeginsWithInt octets read.0 read.1
 ReadsVarInt octets (Err TooLarge) = ReachesInt octets

@@ -8,6 +8,7 @@ use Rattle.ion_atoms.specs.Neighbours.{previous_day, next_day}
 abbrev pub day_at : Date → ℕ → Date
 day_at d count = if nat_lt count 1440 then previous_day d else if nat_lt count 2880 then d else next_day d
 
+-- the minute that stands so many minutes behind the beginning of the day before
 abbrev pub minute_at : Date → ℕ → Minute
 minute_at d count = record { date = day_at d count; hour = count % 1440 / 60; minute = count % 60 }
 

@@ -23,6 +23,7 @@ signed_digits bit negative [] = sign_bit bit negative ∷ []
 signed_digits bit negative (d ∷ ds) =
     if nat_lt d bit then (sign_bit bit negative + d) ∷ ds else sign_bit bit negative ∷ d ∷ ds
 
+-- as a VarUInt, with the sign below the highest bit of the first octet
 abbrev pub var_int_octets : Bool → ℕ → List ℕ
 var_int_octets negative n =
     if nat_lt n 64 then (128 + (sign_bit 64 negative + n)) ∷ []
@@ -39,6 +40,7 @@ int_octets negative n =
 abbrev pub is_zero : Bool → ℕ → ℤ → Bool
 is_zero negative m e = not negative && ((m == 0) && int_eq e (pos 0))
 
+-- 0d0 has no octets, any other decimal its exponent and its coefficient
 abbrev pub decimal_octets : DecimalParts → List ℕ
 decimal_octets d =
     if is_zero d.negative d.magnitude d.exponent then []

@@ -24,6 +24,7 @@ abbrev pub day_known : Precision → Date → Utc
 day_known precision date =
     record { minute = record { date = date; hour = 0; minute = 0 }; second = 0; fraction = 0; precision = precision }
 
+-- a minute, a second and a fraction, known to that precision
 abbrev pub time_known : Precision → Minute → ℕ → ℕ → Utc
 time_known precision minute second fraction =
     record { minute = minute; second = second; fraction = fraction; precision = precision }
@@ -65,22 +66,27 @@ abbrev pub IsBehindSecond : Minute → ℕ → List ℕ → Utc → Type 0
 IsBehindSecond minute second octets utc =
     ((octets ≡ []) × (utc ≡ time_known precisions.Second minute second 0)) ⊎ IsSecondsFraction minute second octets utc
 
+-- behind the minute nothing stands, or a second
 abbrev pub IsBehindMinute : Minute → List ℕ → Utc → Type 0
 IsBehindMinute minute octets utc =
     ((octets ≡ []) × (utc ≡ time_known precisions.Minute minute 0 0)) ⊎ Begins 0 last_second (λ second rest. IsBehindSecond minute second rest utc) octets
 
+-- behind the hour a minute stands
 abbrev pub IsBehindHour : Date → ℕ → List ℕ → Utc → Type 0
 IsBehindHour date hour octets utc = Begins 0 last_minute (λ minute rest. IsBehindMinute (minute_of date hour minute) rest utc) octets
 
+-- behind the day nothing stands, or an hour
 abbrev pub IsBehindDay : Date → List ℕ → Utc → Type 0
 IsBehindDay date octets utc =
     ((octets ≡ []) × (utc ≡ day_known precisions.Day date)) ⊎ Begins 0 last_hour (λ hour rest. IsBehindHour date hour rest utc) octets
 
+-- behind the month nothing stands, or a day that the month has
 abbrev pub IsBehindMonth : ℕ → ℕ → List ℕ → Utc → Type 0
 IsBehindMonth year month octets utc =
     ((octets ≡ []) × (utc ≡ day_known precisions.Month (day_of year month 1)))
     ⊎ Begins 1 (month_length year month) (λ day rest. IsBehindDay (day_of year month day) rest utc) octets
 
+-- behind the year nothing stands, or a month
 abbrev pub IsBehindYear : ℕ → List ℕ → Utc → Type 0
 IsBehindYear year octets utc =
     ((octets ≡ []) × (utc ≡ day_known precisions.Year (day_of year 1 1))) ⊎ Begins 1 last_month (λ month rest. IsBehindMonth year month rest utc) octets
@@ -139,6 +145,7 @@ read_digits digits minute second octets =
     else if nat_lt (int_magnitude octets) (10 ^ digits) then Ok (time_known (precisions.Fraction digits) minute second (int_magnitude octets))
     else Err Malformed
 
+-- behind an exponent that isn't below 0 the coefficient is to be 0, and there is no fraction
 abbrev pub read_no_digits : Minute → ℕ → List ℕ → Result Utc Reason
 read_no_digits minute second octets =
     if nat_lt 0 (int_magnitude octets) then Err Malformed else Ok (time_known precisions.Second minute second 0)
@@ -151,6 +158,7 @@ read_fraction minute second power octets =
     else if power.negative && nat_lt 0 power.magnitude then read_digits power.magnitude minute second octets
     else read_no_digits minute second octets
 
+-- what stands behind the second, by what its exponent was read as
 abbrev pub with_power : Minute → ℕ → List ℕ → Result (Signed × ℕ) Reason → Result Utc Reason
 with_power minute second octets (Ok read) = read_fraction minute second read.0 (drop read.1 octets)
 with_power minute second octets (Err TooLarge) = Err TooLarge
@@ -183,6 +191,7 @@ read_behind_year year (octet ∷ rest) = and_then (octet ∷ rest) (read_behind_
 unfoldable pub read_fields : List ℕ → Result Utc Reason
 read_fields octets = and_then octets read_behind_year (read_field 1 last_year octets)
 
+-- the offset that was read: malformed where it is a day or more, or has no end
 abbrev pub near : Result (Signed × ℕ) Reason → Result (Option ℤ × ℕ) Reason
 near (Ok read) = if nat_le read.0.magnitude farthest_offset then Ok (offset_from read.0.negative read.0.magnitude, read.1) else Err Malformed
 near (Err TooLarge) = Err TooLarge
@@ -196,6 +205,7 @@ abbrev pub local_in : Utc → Minute → Local
 local_in utc m =
     record { year = m.date.year; month = m.date.month; day = m.date.day; hour = m.hour; minute = m.minute; second = utc.second; fraction = utc.fraction }
 
+-- the timestamp that shows a local minute; malformed where its year isn't one of 1 to 9999
 abbrev pub shown_at : Utc → Option ℤ → Minute → Result TimestampParts Reason
 shown_at utc offset m =
     if nat_le 1 m.date.year && nat_le m.date.year last_year then Ok (record { local = local_in utc m; precision = utc.precision; offset = offset })
@@ -206,10 +216,12 @@ unfoldable pub shown : Option ℤ → Utc → Result TimestampParts Reason
 shown offset utc =
     shown_at utc (kept_offset utc.precision offset) (moved utc.minute (minutes_ahead (kept_offset utc.precision offset)))
 
+-- the timestamp that fields in UTC are by the offset, if they were read
 abbrev pub shown_by : Option ℤ → Result Utc Reason → Result TimestampParts Reason
 shown_by offset (Ok utc) = shown offset utc
 shown_by offset (Err reason) = Err reason
 
+-- the timestamp by the offset that was read, of the fields behind it
 abbrev pub with_offset : List ℕ → Result (Option ℤ × ℕ) Reason → Result TimestampParts Reason
 with_offset octets (Ok read) = shown_by read.0 (read_fields (drop read.1 octets))
 with_offset octets (Err reason) = Err reason

@@ -23,24 +23,31 @@ pub record IsLargeFraction (octets : List ℕ) : Type 0 where
   pub is : VarInt exponent below power
   pub large : ((below ≡ true) × (most_digits < power)) ⊎ (2 ^ 127 ≤ int_magnitude coefficient)
 
+-- behind the second stands an exponent that reaches 2^63, or a fraction that is too large
 abbrev pub IsLargeBehindSecond : List ℕ → Type 0
 IsLargeBehindSecond octets = ReachesInt octets ⊎ IsLargeFraction octets
 
+-- behind the minute stands a second that is too large, or one with such a part behind it
 abbrev pub IsLargeBehindMinute : List ℕ → Type 0
 IsLargeBehindMinute octets = IsLargePart 0 last_second (λ second rest. IsLargeBehindSecond rest) octets
 
+-- behind the hour stands a minute that is too large, or one with such a part behind it
 abbrev pub IsLargeBehindHour : List ℕ → Type 0
 IsLargeBehindHour octets = IsLargePart 0 last_minute (λ minute rest. IsLargeBehindMinute rest) octets
 
+-- behind the day stands an hour that is too large, or one with such a part behind it
 abbrev pub IsLargeBehindDay : List ℕ → Type 0
 IsLargeBehindDay octets = IsLargePart 0 last_hour (λ hour rest. IsLargeBehindHour rest) octets
 
+-- behind the month stands a day that is too large, or one with such a part behind it
 abbrev pub IsLargeBehindMonth : ℕ → ℕ → List ℕ → Type 0
 IsLargeBehindMonth year month octets = IsLargePart 1 (month_length year month) (λ day rest. IsLargeBehindDay rest) octets
 
+-- behind the year stands a month that is too large, or one with such a part behind it
 abbrev pub IsLargeBehindYear : ℕ → List ℕ → Type 0
 IsLargeBehindYear year octets = IsLargePart 1 last_month (λ month rest. IsLargeBehindMonth year month rest) octets
 
+-- the year is too large, or a part behind it is
 abbrev pub AreLargeFields : List ℕ → Type 0
 AreLargeFields octets = IsLargePart 1 last_year IsLargeBehindYear octets
 
@@ -55,6 +62,7 @@ pub record HasLargeFields (body : List ℕ) : Type 0 where
   pub range : minutes ≤ farthest_offset
   pub large : AreLargeFields fields
 
+-- the offset reaches 2^63, or one of the fields is too large
 abbrev pub IsLargeBody : List ℕ → Type 0
 IsLargeBody body = ReachesInt body ⊎ HasLargeFields body
 

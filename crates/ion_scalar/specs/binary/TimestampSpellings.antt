@@ -26,6 +26,7 @@ abbrev pub octets_behind_second : Precision → Utc → List ℕ
 octets_behind_second (precisions.Fraction digits) utc = var_int_octets true digits ++ int_octets false utc.fraction
 octets_behind_second _ utc = []
 
+-- the second and what stands behind it, from second precision on
 abbrev pub octets_behind_minute : Precision → Utc → List ℕ
 octets_behind_minute precisions.Year utc = []
 octets_behind_minute precisions.Month utc = []
@@ -33,6 +34,7 @@ octets_behind_minute precisions.Day utc = []
 octets_behind_minute precisions.Minute utc = []
 octets_behind_minute precision utc = var_uint_octets utc.second ++ octets_behind_second precision utc
 
+-- the hour, the minute and what stands behind them, from minute precision on
 abbrev pub octets_behind_day : Precision → Utc → List ℕ
 octets_behind_day precisions.Year utc = []
 octets_behind_day precisions.Month utc = []
@@ -40,15 +42,18 @@ octets_behind_day precisions.Day utc = []
 octets_behind_day precision utc =
     var_uint_octets utc.minute.hour ++ (var_uint_octets utc.minute.minute ++ octets_behind_minute precision utc)
 
+-- the day and what stands behind it, from day precision on
 abbrev pub octets_behind_month : Precision → Utc → List ℕ
 octets_behind_month precisions.Year utc = []
 octets_behind_month precisions.Month utc = []
 octets_behind_month precision utc = var_uint_octets utc.minute.date.day ++ octets_behind_day precision utc
 
+-- the month and what stands behind it, from month precision on
 abbrev pub octets_behind_year : Precision → Utc → List ℕ
 octets_behind_year precisions.Year utc = []
 octets_behind_year precision utc = var_uint_octets utc.minute.date.month ++ octets_behind_month precision utc
 
+-- the year and what stands behind it to the precision
 abbrev pub fields_octets : Utc → List ℕ
 fields_octets utc = var_uint_octets utc.minute.date.year ++ octets_behind_year utc.precision utc
 

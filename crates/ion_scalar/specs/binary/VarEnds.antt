@@ -8,6 +8,7 @@ use Rattle.ion_atoms.specs.declared.refusal.Reason.TheVariants.{TooLarge, Incomp
 use Rattle.ion_scalar.specs.binary.Fields.{positional, seven_bits, groups, is_last, up_to_last, var_rest}
 use Rattle.ion_scalar.specs.Positional.{positional_push, positional_mono}
 
+-- an octet without its highest bit is its remainder by 128
 pub seven_bits_octet : (b : ℕ) → b < 256 → seven_bits b ≡ b % 128
 seven_bits_octet b h =
     elim (cases_lt b 128) [
@@ -15,6 +16,7 @@ seven_bits_octet b h =
       | inr le ↦ rw (le-leb 128 b le) (omega arith)
     ]
 
+-- the next octet moves the number up by seven bits and adds its own
 pub groups_more : (front : ℕ) (os : List ℕ) (i : ℕ) → i < length os → groups front (take (i + 1) os)
     ≡ groups front (take i os) * 128 + seven_bits (get_or os i 0)
 groups_more front os i h = ap (λ (ds : List ℕ). positional 128 (front ∷ ds)) (map_more seven_bits os i 0 h)
@@ -30,6 +32,7 @@ groups_take front os i j h =
     subst (λ (xs : List ℕ). groups front (take i (take j os)) ≤ groups front xs) whole (groups_mono front (take i (take j os)) (drop i (take j os))) in
     rw (take-take i j os h) at more
 
+-- none of the first so many octets ends a number
 abbrev pub GoOn : List ℕ → ℕ → Type 0
 GoOn os i = (k : ℕ) → k < i → get_or os k 0 < 128
 
@@ -44,18 +47,21 @@ not_before os i h before =
     ]
 
 module _ (front used : ℕ) (os : List ℕ) where
+  -- octets that go on and reach 2^63 are refused as too large
   pub too_large_at : (i : ℕ) → i < length os → GoOn os i → 2 ^ 63 ≤ groups front (take (i + 1) os) → var_rest front used os ≡ Err TooLarge
   too_large_at i h on big =
       let p = not_before os i (omega arith) on in
       let g = groups_take front os (i + 1) (position_or_len is_last os + 1) (omega arith) in
       rw (le-leb (2 ^ 63) (groups front (up_to_last os)) (omega arith)) refl
 
+  -- octets that go on, and one that ends them below 2^63, are read as their number
   pub ends_at : (i : ℕ) → i < length os → GoOn os i → 128 ≤ get_or os i 0 → groups front (take (i + 1) os) < 2 ^ 63
       → var_rest front used os ≡ Ok (groups front (take (i + 1) os), used + i + 1)
   ends_at i h on here small =
       let e = end_at os i (omega arith) on (λ _. here) in
       rw (e, lt-leb (2 ^ 63) (groups front (take (i + 1) os)) small, lt-ltb i (length os) h) refl
 
+  -- octets that all go on and stay below 2^63 are incomplete
   pub no_end : GoOn os (length os) → groups front os < 2 ^ 63 → var_rest front used os ≡ Err Incomplete
   no_end on small =
       let e = end_at os (length os) (omega arith) on (λ l. absurd (omega arith)) in

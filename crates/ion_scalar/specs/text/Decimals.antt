@@ -4,6 +4,7 @@ use Rattle.std.specs.Prelude.{ℕ, ℤ, ◌≡◌, ◌^◌, ◌<◌, ◌⊎◌, 
 use Rattle.ion_scalar.specs.text.Ints.{IsDigits, digits_in, number, continued, IsWholePart}
 use Rattle.ion_scalar.specs.declared.decimals.Tail.{Tail}
 
+-- the int of a sign and a magnitude
 abbrev pub signed : Bool → ℕ → ℤ
 signed true n = neg_ℤ (pos n)
 signed false n = pos n
@@ -25,6 +26,7 @@ abbrev pub IsLetter : Bool → ℕ → Type 0
 IsLetter false c = (c ≡ 100) ⊎ (c ≡ 68)
 IsLetter true c = (c ≡ 101) ⊎ (c ≡ 69)
 
+-- the letter of a decimal or of a float, and behind it a sign or none and digits
 abbrev pub IsExponent : List ℕ → Bool → Bool → ℕ → Type 0
 IsExponent [] float below n = ⊥
 IsExponent (c ∷ os) float below n = IsLetter float c × IsSigned os below n

@@ -34,6 +34,7 @@ abbrev pub decimal_read : Bool → ℕ → Bool → ℕ → ℕ → Number
 decimal_read negative magnitude below written count = numbers.Decimal
     (record { negative = negative; magnitude = magnitude; exponent = signed below written -ℤ pos count })
 
+-- what an answer says of the octets behind a sign: a number, one that is too large, a float, or neither
 abbrev pub ReadsBehind : Bool → List ℕ → Result Number Reason → Type 0
 ReadsBehind negative body (Ok x) = IsBehind negative body x × Fits x
 ReadsBehind negative body (Err TooLarge) = (x : Number) × IsBehind negative body x × (Fits x → ⊥)
@@ -55,6 +56,7 @@ pub record IsFloat (token : List ℕ) : Type 0 where
   pub octets : token ≡ minus negative ++ body
   pub is : IsFloatBody body
 
+-- what an answer says of a token as an int or a decimal: one, one too large, a float, or neither
 abbrev pub ReadsNumeral : List ℕ → Result Number Reason → Type 0
 ReadsNumeral token (Ok x) = IsNumeral token x × Fits x
 ReadsNumeral token (Err TooLarge) = (x : Number) × IsNumeral token x × (Fits x → ⊥)

@@ -80,6 +80,7 @@ answer_by token (no n) = other_answer token (λ x i. n (x, i)) (float token)
 unfoldable pub number_read : List ℕ → Result Number Reason
 number_read token = (answer_by token (some_number token)).answer
 
+-- what a token is read as says what the token is
 pub number_reads : (token : List ℕ) → ReadsNumber token (number_read token)
 unfolding number_read
 number_reads token = (answer_by token (some_number token)).is

@@ -6,6 +6,7 @@ pub use Rattle.ion_atoms.specs.Texts.{clock_text, offset_text, cut_text, timesta
 use Rattle.ion_scalar.specs.declared.number.Number.{Number}
 use Rattle.ion_scalar.specs.declared.number.Number.TheVariants as numbers
 
+-- the text of an int, a decimal or a timestamp
 abbrev pub number_text : Number → List ℕ
 number_text (numbers.Int z) = signed_decimal z
 number_text (numbers.Decimal d) = decimal_text d

@@ -14,6 +14,7 @@ use Rattle.ion_scalar.specs.text.Decimals.{IsPlain}
 abbrev pub IsAt : List ℕ → ℕ → ℕ → Type 0
 IsAt os at c = (at < length os) × (slice_index os at ≡ c)
 
+-- at a place stands a digit
 abbrev pub IsDigitAt : List ℕ → ℕ → Type 0
 IsDigitAt os at = (at < length os) × (48 ≤ slice_index os at) × (slice_index os at ≤ 57)
 
@@ -21,6 +22,7 @@ IsDigitAt os at = (at < length os) × (48 ≤ slice_index os at) × (slice_index
 abbrev pub AreTwoAt : List ℕ → ℕ → Type 0
 AreTwoAt os at = IsDigitAt os at × IsDigitAt os (at + 1)
 
+-- the number of two digits from a place on
 abbrev pub two : List ℕ → ℕ → ℕ
 two os at = 10 * (slice_index os at - 48) + (slice_index os (at + 1) - 48)
 
@@ -28,6 +30,7 @@ two os at = 10 * (slice_index os at - 48) + (slice_index os (at + 1) - 48)
 abbrev pub AreFourAt : List ℕ → ℕ → Type 0
 AreFourAt os at = AreTwoAt os at × AreTwoAt os (at + 2)
 
+-- the number of four digits from a place on
 abbrev pub four : List ℕ → ℕ → ℕ
 four os at = 100 * two os at + two os (at + 2)
 
@@ -53,6 +56,7 @@ IsOffsetToken os =
     ((length os ≡ 1) × IsAt os 0 90)
     ⊎ ((length os ≡ 6) × (IsAt os 0 43 ⊎ IsAt os 0 45) × AreTwoAt os 1 × IsAt os 3 58 × AreTwoAt os 4 × (two os 1 ≤ last_hour) × (two os 4 ≤ last_minute))
 
+-- the minutes of an offset's `hh:mm`, without its sign
 abbrev pub offset_minutes : List ℕ → ℕ
 offset_minutes os = two os 1 * 60 + two os 4
 
@@ -114,6 +118,7 @@ read_precision p = p
 abbrev pub read_local : Local → Local
 read_local l = record l { fraction = min l.fraction (2 ^ 127) }
 
+-- the parts of a timestamp as they are read, its fraction and its digits capped
 abbrev pub stamp : TimestampParts → Stamp
 stamp t = record { local = read_local t.local; precision = read_precision t.precision; offset = t.offset }
 

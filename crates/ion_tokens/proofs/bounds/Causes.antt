@@ -57,11 +57,13 @@ follow_fair (Given l s) f h k = tt
 follow_fair (Left l s) f h k = tt
 follow_fair (Refused at e) f h k = h
 
+-- where a run over octets refuses, it is for a reason that an octet alone may give
 pub run_fair : (p : Place) (os : List ℕ) (s : Known) → IsFair (run p os s)
 unfolding IsFair
 run_fair p [] s = tt
 run_fair p (o ∷ os) s = follow_fair (feed p s o) _ (acts_fair p s o (next p s.colon s.mode o) (table_fits p s.colon s.mode o)) (λ t. run_fair p os t)
 
+-- no run over octets refuses for want of memory
 pub refused_fair : (p : Place) (os : List ℕ) (s : Known) (at : ℕ) (e : Reason) → Refused at e ≡ run p os s → e ≢ reasons.Memory
 unfolding IsFair
 refused_fair p os s at e h = not_memory e (subst (λ (x : Outcome). IsFair x) (sym h) (run_fair p os s))

@@ -20,6 +20,7 @@ use Rattle.ion_tokens.specs.machine.Bounds.{is_idle, unkept, debt}
 use Rattle.ion_tokens.specs.machine.Rows.{Taken, digit_rows, infinity_rows}
 use Rattle.ion_tokens.specs.laws.ByRows.{by_mode, by_rows_where}
 
+-- nothing is added to what is kept, and nothing is dropped
 abbrev pub is_nothing : Keep → Bool
 is_nothing keeps.Nothing = true
 is_nothing _ = false
@@ -58,6 +59,7 @@ fits unkept_now debt_now idle_now (actions.Split n) = nat_le n unkept_now && nat
 fits unkept_now debt_now idle_now actions.EndBlob = nat_le 2 unkept_now
 fits unkept_now debt_now idle_now (actions.Refuse e) = is_octet_reason e
 
+-- an action stays within what the mode leaves unkept and in debt, and refuses for an octet alone
 pub record Fits (u d : ℕ) (i : Bool) (a : Action) : Type 0 where
   pub is : fits u d i a ≡ true
 
@@ -98,5 +100,6 @@ table_fit p colon (modes.Text s (within.Hexadecimal d left n)) o =
     by_mode (fits (1 + (4 - left)) 1 false) p colon (modes.Text s (within.Hexadecimal d left n)) o (λ t. digits_fit s d left t (nat_le left 1) refl)
 table_fit p colon m o = rows_fit p colon m o refl
 
+-- each row of the table stays within what its mode leaves unkept and in debt
 pub table_fits : (p : Place) (colon : Bool) (m : Mode) (o : ℕ) → Fits (unkept m) (debt m) (is_idle m) (next p colon m o)
 table_fits p colon m o = record { is = table_fit p colon m o }

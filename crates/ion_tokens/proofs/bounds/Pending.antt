@@ -74,6 +74,7 @@ owes_follow (Given l s) f owed before n b h between more = h
 owes_follow (Left l s) f owed before n b h between more = h
 owes_follow (Refused at r) f owed before n b h between more = tt
 
+-- a run adds no more to what may be taken up again than it used, and less where a token came
 pub run_owes : (p : Place) (os : List ℕ) (s : Known) → Owes (debt s.mode) s.used (run p os s)
 unfolding Owes
 run_owes p [] s = omega arith

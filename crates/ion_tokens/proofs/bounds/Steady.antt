@@ -67,17 +67,21 @@ within_fresh modes.Blank r u f h k = omega arith
 within_fresh modes.Slash r u f h k = omega arith
 within_fresh _ r u f h k = cc f
 
+-- three tests that hold at once: two bounds, and a third of whatever sort
 pub went_well : (a b c d : ℕ) (x : Bool) → (nat_le a b && nat_le c d && x) ≡ true → (a ≤ b) × (c ≤ d) × (x ≡ true)
 went_well a b c d true h = (grind (arith, nat_tests), grind (arith, nat_tests), refl)
 went_well a b c d false h = (grind (arith, nat_tests), grind (arith, nat_tests), grind (arith, nat_tests))
 
+-- three tests that hold at once: a strict bound, another bound, and a third of whatever sort
 pub ended_well : (a b c d : ℕ) (x : Bool) → (nat_lt a b && nat_le c d && x) ≡ true → (a < b) × (c ≤ d) × (x ≡ true)
 ended_well a b c d true h = (grind (arith, nat_tests), grind (arith, nat_tests), refl)
 ended_well a b c d false h = (grind (arith, nat_tests), grind (arith, nat_tests), grind (arith, nat_tests))
 
+-- where the test says at most, it is at most
 pub le_of : (a b : ℕ) → nat_le a b ≡ true → a ≤ b
 le_of a b h = grind (arith, nat_tests)
 
+-- two tests of at most that hold together both say so
 pub les_of : (a b c d : ℕ) → (nat_le a b && nat_le c d) ≡ true → (a ≤ b) × (c ≤ d)
 les_of a b c d h = (grind (arith, nat_tests), grind (arith, nat_tests))
 
@@ -170,6 +174,7 @@ acts_steady p s o (actions.Split letters) n f h u =
 acts_steady p s o actions.EndBlob n f h u = blob_steady s n (blob_of s.kept) refl (le_of 2 (unkept s.mode) f.is) h u
 acts_steady p s o (actions.Refuse e) n f h u = tt
 
+-- one octet more, below 2^63 of them, keeps a scanner steady
 pub feed_steady : (p : Place) (s : Known) (o n : ℕ) → IsSteady s n → s.used < 2 ^ 63 → StaysSteady (feed p s o) (n + 1)
 feed_steady p s o n h u = acts_steady p s o (next p s.colon s.mode o) n (table_fits p s.colon s.mode o) h u
 

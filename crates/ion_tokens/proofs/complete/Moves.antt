@@ -15,6 +15,7 @@ use Rattle.ion_tokens.specs.declared.mode.Keep.TheVariants as keeps
 use Rattle.ion_atoms.specs.declared.refusal.Reason.TheVariants as reasons
 use Rattle.std.specs.Prelude.{Some, Ok, Err}
 
+-- what the scanner knows in this mode, part by part
 abbrev pub at : Mode → List ℕ → Bool → ℕ → ℕ → Known
 at m kept colon start used = record { mode = m; kept = kept; colon = colon; start = start; used = used }
 
@@ -23,6 +24,7 @@ abbrev pub Moves : Place → Mode → List ℕ → List ℕ → Mode → List �
 Moves p m kept os m' kept' = (colon : Bool) (start used : ℕ) (r : List ℕ) → run p (os ++ r) (at m kept colon start used)
     ≡ run p r (at m' kept' colon start (used + length os))
 
+-- over no octets the scanner stays in its mode
 pub moves_none : (p : Place) (m : Mode) (kept : List ℕ) → Moves p m kept [] m kept
 moves_none p m kept colon start used r = let none : used ≡ used + length {A = ℕ} [] = omega arith in ap (λ (n : ℕ). run p r (at m kept colon start n)) none
 
@@ -30,12 +32,14 @@ moves_none p m kept colon start used r = let none : used ≡ used + length {A = 
 abbrev pub Stays : Mode → Type 0
 Stays m = (start used : ℕ) → start_of m start used ≡ start
 
+-- one octet leads from mode to mode as the table says
 pub moves_one : (p : Place) (m : Mode) (o : ℕ) (kept : List ℕ) (m' : Mode) (k : Keep) → Stays m → ((colon : Bool) → next p colon m o ≡ actions.Go m' k)
     → Moves p m kept (o ∷ []) m' (kept_after k kept)
 moves_one p m o kept m' k stays e colon start used r =
     ap (λ a. follow (acts p (at m kept colon start used) o a) (λ t. run p r t)) (e colon)
     ∙ ap (λ (n : ℕ). run p r (at m' (kept_after k kept) colon n (used + 1))) (stays start used)
 
+-- two moves, one behind the other, are one over the octets of both
 pub moves_then : (p : Place) (m n l : Mode) (xs ys kept kept' kept'' : List ℕ) → Moves p m kept xs n kept' → Moves p n kept' ys l kept''
     → Moves p m kept (xs ++ ys) l kept''
 moves_then p m n l xs ys kept kept' kept'' f g colon start used r =
@@ -43,6 +47,7 @@ moves_then p m n l xs ys kept kept' kept'' f g colon start used r =
     ap (λ os. run p os (at m kept colon start used)) (append_assoc xs ys r) ∙ f colon start used (ys ++ r) ∙ g colon start (used + length xs) r
     ∙ ap (λ (i : ℕ). run p r (at l kept'' colon start i)) longer
 
+-- what is kept behind a move may be spelled otherwise
 pub moves_to : (p : Place) (m n : Mode) (os kept kept' kept'' : List ℕ) → kept' ≡ kept'' → Moves p m kept os n kept' → Moves p m kept os n kept''
 moves_to p m n os kept kept' kept'' e f = subst (λ l. Moves p m kept os n l) e f
 
@@ -54,9 +59,11 @@ blank colon start used = at modes.Blank [] colon start used
 abbrev pub Opens : Place → Bool → List ℕ → Mode → List ℕ → Type 0
 Opens p colon os m kept = (start used : ℕ) (r : List ℕ) → run p (os ++ r) (blank colon start used) ≡ run p r (at m kept colon used (used + length os))
 
+-- one octet opens a token where the table goes on from a blank
 pub opens_one : (p : Place) (colon : Bool) (o : ℕ) (m : Mode) (k : Keep) → in_blank p colon o ≡ actions.Go m k → Opens p colon (o ∷ []) m (kept_after k [])
 opens_one p colon o m k e start used r = ap (λ a. follow (acts p (blank colon start used) o a) (λ t. run p r t)) e
 
+-- a token that is open goes on over the octets of a move from there
 pub opens_then : (p : Place) (colon : Bool) (xs ys : List ℕ) (m n : Mode) (kept kept' : List ℕ) → Opens p colon xs m kept → Moves p m kept ys n kept'
     → Opens p colon (xs ++ ys) n kept'
 opens_then p colon xs ys m n kept kept' f g start used r =
@@ -106,6 +113,7 @@ moves_past p m class (o ∷ os) kept stays f h = moves_then p m m m (o ∷ []) o
 abbrev pub Resumes : List ℕ → Mode → List ℕ → Type 0
 Resumes ahead m kept = (p : Place) (colon : Bool) (end : ℕ) → run p ahead (at modes.Blank [] colon end end) ≡ Next (at m kept colon end (end + length ahead))
 
+-- a token with these octets that begins at this offset
 abbrev pub lexeme : List ℕ → TokenKind → List ℕ → ℕ → Lexeme
 lexeme w kind kept used = record { start = used; end = used + length w; kind = kind; octets = kept }
 
@@ -124,6 +132,7 @@ pub data Takes (p : Place) (colon : Bool) (w r : List ℕ) (kind : TokenKind) (k
       → ((start used : ℕ) → (s : Known) × (s.start ≡ used) × (run p (w ++ r) (blank colon start used) ≡ Next s) × (at_end p s ≡ Err reasons.Incomplete))
       → Takes p colon w r kind kept
 
+-- with no octets ahead the scanner is in a blank
 pub resumes_none : Resumes [] modes.Blank []
 resumes_none p colon end = let none : end ≡ end + length {A = ℕ} [] = omega arith in ap (λ (n : ℕ). Next (at modes.Blank [] colon end n)) none
 

@@ -142,6 +142,7 @@ passes_pieces p colon [] h = passes_none p colon
 passes_pieces p colon (b ∷ bs) h = passes_then p colon (blank_spelling b) (flat_map blank_spelling bs) (passes_piece p colon b h.0)
     (passes_pieces p colon bs h.1)
 
+-- over white space and comments a blank goes on
 pub passes_blank : (p : Place) (colon : Bool) (w : List ℕ) → IsBlank w → PassesBlank p colon w
 passes_blank p colon w b = subst (λ l. PassesBlank p colon l) (sym b.spelled) (passes_pieces p colon b.pieces b.each)
 

@@ -153,6 +153,7 @@ clob_moves p content octets (LongTexts before gs b some h e m) =
 lob_cut : (content : List ℕ) → (123 ∷ 123 ∷ (content ++ 125 ∷ [])) ++ 125 ∷ [] ≡ codes "{{" ++ content ++ codes "}}"
 lob_cut content = ap (λ l. 123 ∷ 123 ∷ l) (append_assoc content (125 ∷ []) (125 ∷ []))
 
+-- a clob is read as the octets that its content means
 pub takes_clob : (p : Place) (colon : Bool) (content octets r : List ℕ) → is_name p ≡ false → IsClobContent content octets
     → Takes p colon (codes "{{" ++ content ++ codes "}}") r kinds.Clob octets
 takes_clob p colon content octets r n h =
@@ -236,6 +237,7 @@ pub blob_known : (text octets : List ℕ) → IsBase64 text octets → blob_of t
 unfolding blob_of decoded_of
 blob_known text octets h = ap result_ok (ap (decode_of standard) h.spelled ∙ decode_of-encode_of standard octets refl (octet_at octets h.octets_are))
 
+-- a blob is read as the octets for which its base64 stands
 pub takes_blob : (p : Place) (colon : Bool) (content octets r : List ℕ) → is_name p ≡ false → IsBlobContent content octets
     → Takes p colon (codes "{{" ++ content ++ codes "}}") r kinds.Blob octets
 unfolding solid

@@ -389,5 +389,6 @@ sexp_only places.List h = absurd (false≢true h)
 sexp_only places.Name h = absurd (false≢true h)
 sexp_only places.FieldValue h = absurd (false≢true h)
 
+-- in an s-expression an operator is read as it is spelled, before what ends it
 pub takes_operator : (p : Place) (colon : Bool) (w r : List ℕ) → is_sexp p ≡ true → IsOperator w r → Takes p colon w r kinds.Operator w
 takes_operator p colon w r s o = subst (λ q. Takes q colon w r kinds.Operator w) (sym (sexp_only p s)) (in_sexp colon w r o)

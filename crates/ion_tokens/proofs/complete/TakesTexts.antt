@@ -38,6 +38,7 @@ short_close (within.Hexadecimal _ _ _) h = absurd h
 short_close (within.HighSurrogate _) h = absurd h
 short_close (within.HighSurrogateEscape _) h = absurd h
 
+-- a short string is read as the text that its content means
 pub takes_short : (p : Place) (colon : Bool) (content octets r : List ℕ) → IsQuoted styles.ShortString content octets
     → Takes p colon ((34 ∷ content) ++ 34 ∷ []) r kinds.ShortString octets
 takes_short p colon content octets r q =
@@ -59,6 +60,7 @@ symbol_close (within.Hexadecimal _ _ _) h = absurd h
 symbol_close (within.HighSurrogate _) h = absurd h
 symbol_close (within.HighSurrogateEscape _) h = absurd h
 
+-- a `'` opens a quoted symbol or a long string
 pub opens_quote : (p : Place) (colon : Bool) → Opens p colon (39 ∷ []) modes.Quote []
 opens_quote p colon = opens_one p colon 39 modes.Quote keeps.Nothing refl
 
@@ -105,6 +107,7 @@ same_quote p colon start used o f (actions.Split n) = refl
 same_quote p colon start used o f actions.EndBlob = refl
 same_quote p colon start used o f (actions.Refuse e) = refl
 
+-- behind the first quote, content that begins with no quote is read as that of a quoted symbol
 pub from_quote : (p : Place) (content octets : List ℕ) (v : Within) → content ≢ [] → BeginsOther content
     → GoesInText p styles.QuotedSymbol within.Plain [] content v octets → Moves p modes.Quote [] content (modes.Text styles.QuotedSymbol v) octets
 from_quote p [] octets v some other f = absurd (some refl)
@@ -138,6 +141,7 @@ no_octets octets q = by q.elements q.each q.spelled q.means where
   by [] h s m = m
   by (e ∷ es) h s m = absurd (front e es (element_other e h.0).0 s)
 
+-- a quoted symbol is read as the text that it means, the empty one before no third quote
 pub takes_symbol : (p : Place) (colon : Bool) (content octets r : List ℕ) → IsQuoted styles.QuotedSymbol content octets
     → (content ≡ [] → begins (λ o. o == 39) r ≡ false) → Takes p colon ((39 ∷ content) ++ 39 ∷ []) r kinds.QuotedSymbol octets
 takes_symbol p colon [] octets r q h = subst (λ l. Takes p colon (39 ∷ 39 ∷ []) r kinds.QuotedSymbol l) (sym (no_octets octets q))
@@ -174,6 +178,7 @@ long_content p s content octets kept l q =
     (moves_one p (modes.Text s c.0) 39 (kept ++ octets) (modes.Text s within.OneQuote) (keeps.One 39) (λ a b. refl) (λ b. ended_quote s c.0 l c.1))
     (moves_one p (modes.Text s within.OneQuote) 39 ((kept ++ octets) ++ 39 ∷ []) (modes.Text s within.TwoQuotes) (keeps.One 39) (λ a b. refl) (λ b. refl)))
 
+-- the last two octets that are kept are dropped, as the quotes of a long text's close
 pub drops_two : (k : List ℕ) (a b : ℕ) → kept_after keeps.DropQuotes ((k ++ a ∷ []) ++ b ∷ []) ≡ k
 drops_two k a b =
     let size : length ((k ++ a ∷ []) ++ b ∷ []) - 2 ≡ length k = omega (arith, length-append (k ++ a ∷ []) (b ∷ []), length-append k (a ∷ [])) in
@@ -186,6 +191,7 @@ opens_long p colon = opens_then p colon (39 ∷ 39 ∷ []) (39 ∷ []) modes.Quo
 long_cut : (content : List ℕ) → (39 ∷ 39 ∷ 39 ∷ (content ++ 39 ∷ 39 ∷ [])) ++ 39 ∷ [] ≡ codes "'''" ++ content ++ codes "'''"
 long_cut content = ap (λ l. 39 ∷ 39 ∷ 39 ∷ l) (append_assoc content (39 ∷ 39 ∷ []) (39 ∷ []))
 
+-- a segment of a long string is read as the text that its content means
 pub takes_long : (p : Place) (colon : Bool) (content octets r : List ℕ) → IsQuoted styles.LongString content octets
     → Takes p colon (codes "'''" ++ content ++ codes "'''") r kinds.LongString octets
 takes_long p colon content octets r q =

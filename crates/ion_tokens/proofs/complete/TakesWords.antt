@@ -27,9 +27,11 @@ word_first p colon o h = grind (arith, nat_tests)
 word_more : (o : ℕ) → is_word_octet o ≡ true → in_word o ≡ actions.Go modes.Word (keeps.One o)
 word_more o h = ap (λ b. cond b (add modes.Word o) actions.EndWord) h
 
+-- an octet of no word ends a word
 pub word_ends : (o : ℕ) → is_word_octet o ≡ false → in_word o ≡ actions.EndWord
 word_ends o h = ap (λ b. cond b (add modes.Word o) actions.EndWord) h
 
+-- from a blank the octets of a word open it, and all of them are kept
 pub opens_word : (p : Place) (colon : Bool) (w : List ℕ) → IsWord w → Opens p colon w modes.Word w
 opens_word p colon [] h = absurd (false≢true h.0)
 opens_word p colon (o ∷ os) h = opens_then p colon (o ∷ []) os modes.Word modes.Word (o ∷ []) (o ∷ os)
@@ -44,6 +46,7 @@ no_dot w x h = by (x == 46) (bytes_eq w (codes "null")) refl h where
   by true false e g = refl
   by true true e g = g ((bytes_eq-Decides w (codes "null")).0 e)
 
+-- a word is read as it is spelled, before no octet of a word and, if it is `null`, no dot
 pub takes_word : (p : Place) (colon : Bool) (w r : List ℕ) → IsWord w → begins is_word_octet r ≡ false → (w ≡ codes "null" → begins (λ o. o == 46) r ≡ false)
     → Takes p colon w r kinds.Word w
 takes_word p colon w [] h ends dot = takes_end p colon w kinds.Word modes.Word w w (opens_word p colon w h) (λ start used. refl)
@@ -74,6 +77,7 @@ opens_kind p colon name h = opens_then p colon (codes "null.") name modes.KindNa
     (opens_then p colon (codes "null") (46 ∷ []) modes.Word modes.KindName (codes "null") [] (opens_word p colon (codes "null") null_word) (dot_moves p))
     (moves_each p modes.KindName is_word_octet name [] (λ s u. refl) (λ x g c. kind_more x g) h)
 
+-- `null.` and a name are read as that name, before no octet of a word
 pub takes_kind : (p : Place) (colon : Bool) (name r : List ℕ) → Each is_word_octet name → begins is_word_octet r ≡ false
     → Takes p colon (codes "null." ++ name) r kinds.KindName name
 takes_kind p colon name [] h ends = takes_end p colon (codes "null." ++ name) kinds.KindName modes.KindName name name (opens_kind p colon name h)
@@ -90,6 +94,7 @@ number_more o h = by (is_stop o) (o == 47) h where
   by true c h = absurd (false≢true h)
   by false true h = absurd (false≢true h)
 
+-- a stop character ends a number
 pub number_stops : (o : ℕ) → is_stop o ≡ true → in_number o ≡ actions.Before kinds.Number keeps.Nothing modes.Blank
 number_stops o h = ap (λ b. cond b (before kinds.Number) (cond (o == 47) (go modes.NumberSlash) (add modes.Number o))) h
 
@@ -105,6 +110,7 @@ minus_digit p o h = rw h
 digits_move : (p : Place) (os kept : List ℕ) → Each (λ o. not (is_stop o || (o == 47))) os → Moves p modes.Number kept os modes.Number (kept ++ os)
 digits_move p os kept h = moves_each p modes.Number (λ o. not (is_stop o || (o == 47))) os kept (λ s u. refl) (λ x g c. number_more x g) h
 
+-- octets that begin a number and have no stop character and no `/` open it, and are kept
 pub opens_number : (p : Place) (colon : Bool) (w : List ℕ) → is_name p ≡ false → begins_number w ≡ true → Each (λ o. not (is_stop o || (o == 47))) w
     → Opens p colon w modes.Number w
 opens_number p colon [] n b h = absurd (false≢true b)
@@ -157,6 +163,7 @@ takes_before_slash p colon w x r kind m kept stays f e = Later (47 ∷ []) x r m
     (past p kind modes.Slash [] (((used + length w) + 1) - 1) ((used + length w) + 1))) (stays used ((used + length w) + 1))
     ∙ ap (λ (n : ℕ). Left (record { start = used; end = n; kind = kind; octets = kept }) (past p kind modes.Slash [] n ((used + length w) + 1))) one)
 
+-- where no field's name stands, a number is read as it is spelled, before what ends it
 pub takes_number : (p : Place) (colon : Bool) (w r : List ℕ) → is_name p ≡ false → IsNumeric w r → Takes p colon w r kinds.Number w
 takes_number p colon w [] n h = takes_end p colon w kinds.Number modes.Number w w (opens_number p colon w n h.begun h.each) (λ start used. refl)
 takes_number p colon w (x ∷ r) n h = ⊎_elim (λ e. cc) (λ e. ⊎_elim stop (λ c. comment x r c) e) h.longest where
@@ -199,23 +206,28 @@ value_mark p colon o m r n (inr (inr (inr e))) = subst (λ x. in_blank p colon o
 brace_first : (p : Place) (colon : Bool) → is_name p ≡ false → in_blank p colon 123 ≡ actions.Go modes.Brace keeps.Nothing
 brace_first p colon n = rw n
 
+-- a `{` opens a struct or a lob, where no field's name stands
 pub opens_brace : (p : Place) (colon : Bool) → is_name p ≡ false → Opens p colon (123 ∷ []) modes.Brace []
 opens_brace p colon n = opens_one p colon 123 modes.Brace keeps.Nothing (brace_first p colon n)
 
 colon_first : (p : Place) (colon : Bool) → colon ≡ true → in_blank p colon 58 ≡ actions.Go modes.Colon keeps.Nothing
 colon_first p colon c = rw c
 
+-- a colon opens `:` or `::`, where it may stand
 pub opens_colon : (p : Place) (colon : Bool) → colon ≡ true → Opens p colon (58 ∷ []) modes.Colon []
 opens_colon p colon c = opens_one p colon 58 modes.Colon keeps.Nothing (colon_first p colon c)
 
+-- behind `{`, an octet other than `{` shows that it opens a struct
 pub brace_ends : (x : ℕ) → (x == 123) ≡ false → (c : Bool) (p : Place) → next p c modes.Brace x ≡ actions.Before (kinds.Mark marks.FieldsOpen) keeps.Nothing
     modes.Blank
 brace_ends x h c p = rw h
 
+-- behind one colon, an octet other than a colon shows that it is alone
 pub colon_ends : (x : ℕ) → (x == 58) ≡ false → (c : Bool) (p : Place) → next p c modes.Colon x ≡ actions.Before (kinds.Mark marks.Colon) keeps.Nothing
     modes.Blank
 colon_ends x h c p = rw h
 
+-- a mark is read where it may stand, before what doesn't make it longer
 pub takes_mark : (p : Place) (colon : Bool) (m : Mark) (r : List ℕ) → MarkStands p colon m → MarkEnds m r → Takes p colon (mark_spelling m) r (kinds.Mark m) []
 takes_mark p colon marks.FieldsOpen [] s e = takes_end p colon (123 ∷ []) (kinds.Mark marks.FieldsOpen) modes.Brace [] [] (opens_brace p colon s)
     (λ start used. refl)

@@ -23,6 +23,7 @@ use Rattle.ion_tokens.proofs.complete.Moves.{at, blank, lexeme, Takes, Now, Late
 use Rattle.ion_tokens.proofs.complete.TakesBlanks.{passes_blank}
 use Rattle.ion_tokens.proofs.complete.TakesAll.{takes_lexeme}
 
+-- behind octets that are all used, a run goes on from what the scanner knows there
 pub run_behind : (p : Place) (xs ys : List ℕ) (s t : Known) → run p xs s ≡ Next t → run p (xs ++ ys) s ≡ run p ys t
 run_behind p xs ys s t e = run-append p xs ys s ∙ ap (λ x. follow x (λ t. run p ys t)) e
 
@@ -87,6 +88,7 @@ pieces_first (b ∷ bs) more h e = subst (λ l. begins begins_word l ≡ false) 
 blank_first : (w more : List ℕ) → IsBlank w → begins begins_word more ≡ false → begins begins_word (w ++ more) ≡ false
 blank_first w more b e = subst (λ l. begins begins_word (l ++ more) ≡ false) (sym b.spelled) (pieces_first b.pieces more b.each e)
 
+-- a blank up to the end of the input doesn't begin with a letter, `_` or `$`
 pub no_word : (w : List ℕ) → IsLastBlank w → begins begins_word w ≡ true → ⊥
 no_word w (inl b) h = true≢false (sym h ∙ ap (begins begins_word) (sym (append-nil w)) ∙ blank_first w [] b refl)
 no_word w (inr c) h = true≢false (sym h ∙ ap (begins begins_word) (c.cut ∙ append_assoc c.front (codes "//") c.octets)
@@ -116,6 +118,7 @@ FindsFrom End Rests Bare ts = (colon : Bool) (k : ℕ) (octets ahead rest : List
 
 module _ (End : Bool → ℕ → List ℕ → Type 0) (Rests : Known → List ℕ → Type 0) (Bare : Type 0) (bare : (colon : Bool) (before : ℕ) (octets : List ℕ)
     → End colon before octets → begins begins_word octets ≡ true → Bare) where
+  -- a token in front of tokens that are found is found, too
   pub find_token : (t : Placed) (ts : List Placed) → FindsFrom End Rests Bare ts → FindsFrom End Rests Bare (t ∷ ts)
   find_token t ts more colon k octets ahead rest s (r, b, lexes) e reached =
       by t.lexeme.kind t.lexeme.octets (same_lexeme t.lexeme b.token (k + length b.blank) b.start b.end)

@@ -312,6 +312,7 @@ pub record HoldsBehind (p : Place) (s : Known) (u : List ℕ) (ts : List Placed)
   pub longer : (rest : List ℕ) → LexesTo false 0 (u ++ rest) ts colon end (since ++ rest)
   pub holds : Holds p colon end s since
 
+-- what a scanner knows is what the octets behind the tokens told leave it
 pub begun_holds : (p : Place) (s : Known) (u : List ℕ) (ts : List Placed) → Scanned p s u ts [] → HoldsBehind p s u ts
 begun_holds p s u ts h =
     let since = all_since p s u ts h in

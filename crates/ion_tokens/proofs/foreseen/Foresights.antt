@@ -59,21 +59,25 @@ unfolding Ends
 given_end p s t o l e = feed_ends p s o (Given l t) e
 
 module _ (p : Place) (s : Known) (u : List ℕ) (ts : List Placed) (h : Scanned p s u ts []) (o : ℕ) where
+  -- a run over the one octet comes to what the octet does
   pub ran : (x : Outcome) → feed p s o ≡ x → run p (o ∷ []) s ≡ follow x (λ t. Next t)
   ran x e = ap (λ y. follow y (λ t. Next t)) e
 
+  -- the octets since the last token, and this one, begin with what was left
   pub from : Continues (h.since ++ o ∷ []) h.left
   from = from_left p s u ts [] h (o ∷ []) (o ∷ []) [] (o ∷ [], refl) (sym (append-nil (o ∷ []))) (omega arith)
 
   used : s.used ≡ length u
   used = scanned_used p s u ts [] h
 
+  -- a token that the octet ends as its last is the next one of each document that goes on so
   pub next_given : (t : Known) (l : Lexeme) → feed p s o ≡ Given l t → NextIs p (u ++ o ∷ []) ts l
   next_given t l e = λ rest others looks lexes.
       given_next h.behind t h.front ts h.left (h.since ++ o ∷ []) from.0 p l h.told from.1 (behind_since p s u ts [] h (o ∷ []) (Given l t) (ran (Given l t) e))
       rest others looks
       (subst (λ v. Lexes false 0 v (ts ++ others)) (there p s u ts [] h (o ∷ []) rest) lexes)
 
+  -- a token that ends before the octet is the next one of each document that goes on so
   pub next_left : (t : Known) (l : Lexeme) → feed p s o ≡ Left l t → NextIs p (u ++ o ∷ []) ts l
   next_left t l e = λ rest others looks lexes.
       left_next h.behind t h.front ts h.left (h.since ++ o ∷ []) from.0 p l h.told from.1 (behind_since p s u ts [] h (o ∷ []) (Left l t) (ran (Left l t) e))

@@ -60,6 +60,7 @@ pub record LeavesQuotes (s : Known) (l : Lexeme) : Type 0 where
   pub octets : l.octets ≡ s.kept
   pub end : l.end ≡ s.used
 
+-- a quoted symbol that an octet ends which isn't part of it is `''`
 pub leaves_quotes : (p : Place) (s t : Known) (o : ℕ) (l : Lexeme) → feed p s o ≡ Left l t → l.kind ≡ kinds.QuotedSymbol → LeavesQuotes s l
 leaves_quotes p s t o l e i = by s.mode refl where
   in_quotes_left : s.mode ≡ modes.Quotes → (b : Bool) → acts p s o (cond b (go (modes.Text styles.LongString within.Plain)) (before kinds.QuotedSymbol))

@@ -30,11 +30,13 @@ pub data Escapes (p : Place) (s : Known) (r : List ℕ) : Type 0 where
   Goes : (s' : Known) → run p r s ≡ Next s' → 0 < length r → (at_end p s' ≡ Err reasons.Incomplete → ⊥) → Escapes p s r
   Grows : (l : Lexeme) (s' : Known) → run p r s ≡ Given l s' → s.used < l.end → Escapes p s r
 
+-- octets that show that no token has ended where the scanner stands
 pub record Escape (p : Place) (s : Known) : Type 0 where
   pub octets : List ℕ
   pub are : AreOctets octets
   pub escapes : Escapes p s octets
 
+-- numbers that are each tested to be below 256 are octets
 pub are_octets : (os : List ℕ) → Each (λ o. nat_lt o 256) os → AreOctets os
 are_octets [] h = tt
 are_octets (o ∷ os) h = (below o h.0, are_octets os h.1) where
@@ -157,6 +159,7 @@ module _ (p : Place) (colon : Bool) (k : ℕ) (start used : ℕ) (since : List �
   in_mode modes.Brace kept h = record { octets = 123 ∷ 0 ∷ []; are = two 123 0 refl refl; escapes = Refuses _ _ refl }
   in_mode (modes.Lob l) kept h = in_lob colon start used kept p l
 
+-- wherever the scanner stands behind the last token, some octets show that no other has ended
 pub escape : (p : Place) (colon : Bool) (k : ℕ) (s : Known) (since : List ℕ) → Holds p colon k s since → Escape p s
 escape p colon k s since h = subst (λ c. Escape p (at s.mode s.kept c s.start s.used)) (sym h.flag)
     (in_mode p colon k s.start s.used since s.mode s.kept h.mode)

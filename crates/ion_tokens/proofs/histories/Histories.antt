@@ -32,6 +32,7 @@ begins_completes (t ∷ ts) = find_token (λ colon before octets. Unit {0}) (λ 
 pub given_front : (p : Place) (xs ys : List ℕ) (s s' : Known) (l : Lexeme) → run p xs s ≡ Given l s' → run p (xs ++ ys) s ≡ Given l s'
 given_front p xs ys s s' l e = run-append p xs ys s ∙ ap (λ x. follow x (λ t. run p ys t)) e
 
+-- a token that ends before an octet of a front does so in the whole
 pub left_front : (p : Place) (xs ys : List ℕ) (s s' : Known) (l : Lexeme) → run p xs s ≡ Left l s' → run p (xs ++ ys) s ≡ Left l s'
 left_front p xs ys s s' l e = run-append p xs ys s ∙ ap (λ x. follow x (λ t. run p ys t)) e
 
@@ -45,6 +46,7 @@ state_in (Given l s) t = s
 state_in (Left l s) t = s
 state_in (Refused n r) t = t
 
+-- what stands behind the octets that were used is the rest
 pub behind_front : (octets rest : List ℕ) (used now : ℕ) → now ≡ used + length octets → drop (now - used) (octets ++ rest) ≡ rest
 behind_front octets rest used now e = let n : now - used ≡ length octets = omega arith in ap (λ (i : ℕ). drop i (octets ++ rest)) n
     ∙ drop-append_seam octets rest
@@ -86,6 +88,7 @@ module _ (Rests : Known → List ℕ → Type 0) (Bare : Type 0) where
 -- In octets that begin with those taken up, whose first tokens are those told, the scanner finds the others in what is left.
 module _ (End : Bool → ℕ → List ℕ → Type 0) (Rests : Known → List ℕ → Type 0) (Bare : Type 0)
     (completed : (ts : List Placed) → FindsFrom End Rests Bare ts) where
+  -- in octets that begin with those taken up and the tokens told, the other tokens are found in the rest
   pub stands_found : (s : Known) (u : List ℕ) (ts : List Placed) (ahead rest : List ℕ) (others : List Placed) → Stands s u ts ahead → (more : List ℕ)
       → rest ≡ ahead ++ more → LexesBefore End false 0 (u ++ rest) (ts ++ others) → FindsUpTo Rests Bare s rest others
   stands_found s u ts ahead rest others Begun more cut lexes = completed others false 0 rest [] rest initial lexes refl (λ p. refl)
@@ -164,6 +167,7 @@ given_next s s' u ts ahead piece more p l h cut e r others looks lexes =
     finds_given p s s' (piece ++ r) others l looks (stands_finds s u ts ahead (piece ++ r) others h (more ++ r)
     (ap (λ l. l ++ r) cut ∙ append_assoc ahead more r) lexes) (given_front p piece r s s' l e)
 
+-- a token that was left is the next one in each input with those told before and these octets
 pub left_next : (s s' : Known) (u : List ℕ) (ts : List Placed) (ahead piece more : List ℕ) (p : Place) (l : Lexeme) → Stands s u ts ahead
     → piece ≡ ahead ++ more → run p piece s ≡ Left l s'
     → (r : List ℕ) (others : List Placed) → LooksIn p others → Lexes false 0 (u ++ (piece ++ r)) (ts ++ others) → IsNext l others
@@ -192,6 +196,7 @@ pub end_blank : (s s' : Known) (u : List ℕ) (ts : List Placed) (ahead rest mor
 end_blank s s' u ts ahead rest more p h cut e lexes =
     finds_blank p s s' rest e (stands_finds s u ts ahead rest [] h more cut (subst (λ l. Lexes false 0 (u ++ rest) l) (sym (append-nil ts)) lexes))
 
+-- where the input ends behind one token more, its end shows just that one
 pub end_token : (s s' : Known) (u : List ℕ) (ts : List Placed) (t : Placed) (ahead rest more : List ℕ) (p : Place) → Stands s u ts ahead → rest ≡ ahead ++ more
     → run p rest s ≡ Next s' → t.place ≡ p → Lexes false 0 (u ++ rest) (ts ++ t ∷ []) → at_end p s' ≡ Ok (Some t.lexeme)
 end_token s s' u ts t ahead rest more p h cut e looks lexes = finds_last p s s' rest t looks e (stands_finds s u ts ahead rest (t ∷ []) h more cut lexes)

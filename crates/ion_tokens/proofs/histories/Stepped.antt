@@ -38,6 +38,7 @@ begins_front (y ∷ []) [] rest more h k e = absurd (omega arith)
 begins_front (y ∷ []) (z ∷ zs) rest more h k e = let same : z ≡ y = ap (λ l. Rattle.std.specs.Prelude.slice_index l 0) e in (zs, ap (λ (x : ℕ). x ∷ zs) same)
 begins_front (y ∷ z ∷ ys) octets rest more h k e = absurd (omega arith)
 
+-- where tokens aren't refused when they are judged, nor is one more, none of them all is
 pub pass_more : (ts : List Placed) (t : Placed) → AllPass ts → Passes t.lexeme.kind t.lexeme.octets → AllPass (ts ++ t ∷ [])
 pass_more [] t h k = (k, tt)
 pass_more (x ∷ ts) t h k = (h.0, pass_more ts t h.1 k)
@@ -77,6 +78,7 @@ module _ (p : Place) (s : Known) (u : List ℕ) (ts : List Placed) (ahead : List
     by (inl (none, same)) = (more, ap (λ l. l ++ piece) none ∙ c ∙ ap (λ l. l ++ more) same)
     by (inr (front, since, none)) = (front ++ piece, ap (λ l. l ++ piece) since ∙ append_assoc h.left front piece)
 
+  -- a run from where the scanner stands is one from behind the last token over all octets since
   pub behind_since : (piece : List ℕ) (x : Outcome) → run p piece s ≡ x → run p (h.since ++ piece) h.behind ≡ x
   behind_since piece x e = run_behind p h.since piece h.behind s h.ran ∙ e
 
@@ -84,9 +86,11 @@ module _ (p : Place) (s : Known) (u : List ℕ) (ts : List Placed) (ahead : List
   cut_there piece rest = ap (λ l. l ++ (piece ++ rest)) h.cut ∙ append_assoc h.front h.since (piece ++ rest)
       ∙ ap (λ l. h.front ++ l) (sym (append_assoc h.since piece rest))
 
+  -- octets behind those used, as octets behind those up to the last token
   pub there : (octets rest : List ℕ) → (u ++ octets) ++ rest ≡ h.front ++ ((h.since ++ octets) ++ rest)
   there octets rest = append_assoc u octets rest ∙ cut_there octets rest
 
+  -- behind a piece that is used and ends no token, the same tokens are told
   pub goes_on : (piece : List ℕ) (s' : Known) → Continues piece ahead → run p piece s ≡ Next s' → Scanned p s' (u ++ piece) ts []
   goes_on piece s' c e = record {
     behind = h.behind;
@@ -100,6 +104,7 @@ module _ (p : Place) (s : Known) (u : List ℕ) (ts : List Placed) (ahead : List
     next = let w = whole_piece piece c in inr (w.0, w.1, refl);
   }
 
+  -- so many octets were used: those up to the last token, and those since
   pub since_used : s.used ≡ h.behind.used + length h.since
   since_used = next_used p h.since h.behind s (sym h.ran)
 
@@ -248,6 +253,7 @@ module _ (p : Place) (s : Known) (u : List ℕ) (ts : List Placed) (ahead : List
         (subst (λ o. Lexes false 0 o (ts ++ others)) (at_offset piece octets last.rest rest r.offset whole (omega (arith, at, x.offset, size))) lexes)
 
 module _ (p : Place) (s : Known) (u : List ℕ) (ts : List Placed) (h : Scanned p s u ts []) where
+  -- where no octet must come next, those since the last token begin with the one it left
   pub all_since : Continues h.since h.left
   all_since = by h.next where
     by : IsAhead h.since h.left [] → Continues h.since h.left

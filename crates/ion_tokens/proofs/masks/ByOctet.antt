@@ -12,6 +12,7 @@ abbrev pub holds_below : (ℕ → Bool) → ℕ → Bool
 holds_below p zero = true
 holds_below p (suc n) = p n && holds_below p n
 
+-- what was computed for all numbers below n holds for each of them
 pub holds_at : (p : ℕ → Bool) (n : ℕ) → T (holds_below p n) → (i : ℕ) → i < n → T (p i)
 holds_at p zero h i lt = absurd (omega arith)
 holds_at p (suc n) h i lt = go (holds_at p n (both (p n) (holds_below p n) h).1 i) (cases_order i n)
@@ -21,10 +22,12 @@ holds_at p (suc n) h i lt = go (holds_at p n (both (p n) (holds_below p n) h).1 
     go below (inr (inl l)) = below l
     go below (inr (inr g)) = let no : ⊥ = omega arith in absurd no
 
+-- two truth values agree
 abbrev pub same : Bool → Bool → Bool
 same true c = c
 same false c = cond c false true
 
+-- truth values that agree are the same
 pub same_is : (b c : Bool) → T (same b c) → b ≡ c
 same_is true true h = refl
 same_is false false h = refl

@@ -9,12 +9,15 @@ use Rattle.ion_tokens.proofs.masks.ByOctet.{holds_below, holds_at, same, same_is
 abbrev pub is : ℕ → ℕ → ℕ
 is a b = cond (eqb a b) 255 0
 
+-- in a lane, all bits where the octets differ, none where they are the same
 abbrev pub isnt : ℕ → ℕ → ℕ
 isnt a b = cond (not (eqb a b)) 255 0
 
+-- in a lane, all bits where the first octet is less, else none
 abbrev pub below : ℕ → ℕ → ℕ
 below a b = cond (ltb a b) 255 0
 
+-- in a lane, all bits where the first octet is less or the same, else none
 abbrev pub at_most : ℕ → ℕ → ℕ
 at_most a b = cond (leb a b) 255 0
 
@@ -29,6 +32,7 @@ each_lane t f p all [] fits = refl
 each_lane t f p all (x ∷ xs) fits =
     ap₂ (λ a b. a ∷ b) (same_is _ _ (holds_at (λ y. same (top 7 (f (t x) y)) (p (t x) y)) 256 (all (t x)) x fits.0.fits)) (each_lane t f p all xs fits.1)
 
+-- a mask of lanes is that of a class of octets, if the two agree at each of the 256
 pub masked_by : (t : ℕ → Bool) (f : Bool → ℕ → ℕ) (p : Bool → ℕ → Bool) → ((b : Bool) → T (holds_below (λ x. same (top 7 (f b x)) (p b x)) 256))
     → (v z : List ℕ) → length v ≤ 64 → Each1 (Fits w8) v → z ≡ map (λ x. f (t x) x) v → mask_l (map (top 7) z) % 2 ^ 64 ≡ mask_l (map (λ x. p (t x) x) v)
 masked_by t f p all v z short fits e =

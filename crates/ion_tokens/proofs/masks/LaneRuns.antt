@@ -12,6 +12,7 @@ use lib.Count.{count_trailing_zeros}
 abbrev pub GoesOnTo : (ℕ → Bool) → List ℕ → ℕ → Type 0
 GoesOnTo q d i = (i ≤ length d) × (prefix_len q d ≡ i + prefix_len q (drop i d))
 
+-- a run goes on to the place where it begins
 pub at_start : (q : ℕ → Bool) (d : List ℕ) → GoesOnTo q d 0
 at_start q d = (omega arith, omega arith)
 
@@ -74,6 +75,7 @@ module _ (q : ℕ → Bool) where
     by true ih h = let rest = ih (omega arith) in omega arith
     by false ih h = absurd (omega arith)
 
+  -- a run that goes on to a place goes on to each place before it
   pub from_before : (d : List ℕ) (i j : ℕ) → GoesOnTo q d i → j ≤ i → GoesOnTo q d j
   from_before d i j on le = (omega arith, earlier d j (omega arith))
 

@@ -9,6 +9,7 @@ use Rattle.ion_tokens.specs.Lexemes.{Lexeme}
 use Rattle.ion_tokens.specs.machine.Steps.{answered, Answers, GivesToken, IsWithin}
 use Rattle.ion_tokens.proofs.runs.Runs.{Between}
 
+-- a step that answers `Ok` uses no more octets than its piece has
 pub used_within : (x : Outcome) (r : Result Scan Refusal) (left : Bool) (before n : ℕ) (now : Known) → Between x before n
     → Answers before x (answered r left) now
     → IfOk r (λ scan. scan.used ≤ n)
@@ -23,6 +24,7 @@ gives_some : (l : Lexeme) (t : Option Token) → GivesToken l t → t ≡ None �
 gives_some l None g e = g
 gives_some l (Some t) g e = cc
 
+-- a step that gives no token uses its piece to the end
 pub used_whole : (x : Outcome) (r : Result Scan Refusal) (left : Bool) (before n : ℕ) (now : Known) → Between x before n
     → Answers before x (answered r left) now
     → IfOk r (λ scan. scan.token ≡ None → scan.used ≡ n)

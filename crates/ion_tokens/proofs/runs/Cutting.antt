@@ -29,6 +29,7 @@ follow_same (Given _ _) f g h = refl
 follow_same (Left _ _) f g h = refl
 follow_same (Refused _ _) f g h = refl
 
+-- a run over octets is one over a front of them, and from there one over the rest
 pub run-append : (p : Place) (xs ys : List ℕ) (s : Known) → run p (xs ++ ys) s ≡ follow (run p xs s) (λ t. run p ys t)
 run-append p [] ys s = refl
 run-append p (x ∷ xs) ys s = follow_same (feed p s x) _ _ (λ t. run-append p xs ys t) ∙ sym (follow_follow (feed p s x) _ _)
@@ -67,6 +68,7 @@ one_number octets (Ok c) (Err e) h k = absurd (not_both octets c e h k)
 one_number octets (Err e) (Ok d) h k = absurd (not_both octets d e k h)
 one_number octets (Err e) (Err f) h k = ap Err (one_error octets e f h k)
 
+-- the octets of a token of one kind say one thing alone, or are refused for one reason
 pub one_body : (kind : TokenKind) (octets : List ℕ) (a b : Result Content Reason) → IsBody kind octets a → IsBody kind octets b → a ≡ b
 one_body kinds.Word octets a b h k = one_word octets (id_of octets) a b h k
 one_body kinds.KindName octets a b h k = h ∙ sym k
@@ -83,6 +85,7 @@ ok_of : (r : Result (List ℕ) DecodeError) (b : List ℕ) → result_ok r ≡ S
 ok_of (Ok c) b h = cc
 ok_of (Err e) b h = cc
 
+-- a text decodes to octets just where it is their base64
 pub blob_text : (text octets : List ℕ) → AreOctets text → AreOctets octets → (blob_of text ≡ Some octets) ↔ (text ≡ base64_of octets)
 unfolding blob_of decoded_of
 blob_text text octets h k =

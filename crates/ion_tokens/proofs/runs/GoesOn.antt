@@ -150,12 +150,15 @@ pub record TakesFront (piece : List ℕ) (at k : ℕ) (s t : Known) (n m : ℕ) 
   pub taken : t ≡ gone_on s (take k (take (length piece - at) (drop at piece)))
   pub looked : m ≡ min (n + length (take k (take (length piece - at) (drop at piece)))) (2 ^ 64 - 1)
 
+-- as many octets as are left of a piece are all that are left
 pub rest_is : (piece : List ℕ) (at : ℕ) → take (length piece - at) (drop at piece) ≡ drop at piece
 rest_is piece at = grind (arith, common_steps)
 
+-- so many octets as a class has at the front are that front
 pub front_all : (class : ℕ → Bool) (w : List ℕ) (k : ℕ) → k ≡ length (take_while class w) → take k w ≡ take_while class w
 front_all class w k e = ap (λ i. take i w) e ∙ fronts class w
 
+-- the octets at the front with which the mode goes on are taken up at once
 pub front_on : (p : Place) (w : List ℕ) (k : ℕ) (s : Known) → k ≡ length (take_while (goes_on s.mode) w) → 0 < k
     → run p (take k w) s ≡ Next (gone_on s (take k w))
 front_on p w k s e some =

@@ -6,6 +6,7 @@ use Rattle.ion_tokens.specs.machine.Table.{next}
 use Rattle.ion_tokens.specs.machine.Scanning.{Known, Outcome, Next, Given, Left, Refused, feed, follow, run}
 use Rattle.ion_tokens.proofs.runs.Runs.{Between, acts_between, feed_used}
 
+-- the octet at which a run came to this, those before and behind it, and what was known before it
 pub record LastOctet (p : Place) (piece : List ℕ) (s : Known) (y : Outcome) : Type 0 where
   pub before : List ℕ
   pub octet : ℕ
@@ -21,6 +22,7 @@ abbrev pub IsLast : Outcome → Type 0
 IsLast (Next s) = ⊥
 IsLast y = Unit {0}
 
+-- a run that came to a token or a refusal came to it at one octet
 pub last_octet : (p : Place) (piece : List ℕ) (s : Known) (y : Outcome) → IsLast y → run p piece s ≡ y → LastOctet p piece s y
 last_octet p [] s y l e = absurd (subst IsLast (sym e) l)
 last_octet p (o ∷ os) s y l e = by (feed p s o) refl e (λ t. last_octet p os t y l) where
@@ -54,6 +56,7 @@ pub record RefusedSplit (p : Place) (piece : List ℕ) (s : Known) (n : ℕ) (e 
   pub last : LastOctet p piece s (Refused n e)
   pub offset : n ≡ s.used + (length last.before + 1)
 
+-- a piece that is refused is cut at the octet that decides it
 pub refused_split : (p : Place) (piece : List ℕ) (s : Known) (n : ℕ) (e : Reason) → run p piece s ≡ Refused n e → RefusedSplit p piece s n e
 refused_split p piece s n e ran =
     let x = last_octet p piece s (Refused n e) tt ran in

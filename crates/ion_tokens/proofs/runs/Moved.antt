@@ -11,6 +11,7 @@ use Rattle.ion_tokens.specs.Lexed.{Placed, Passes}
 use Rattle.ion_tokens.proofs.histories.Stepped.{at_most_one, begins_front, goes_on}
 use Rattle.ion_tokens.proofs.runs.Scans.{placed, scanned_given, scanned_left}
 
+-- behind a blank that lies whole in memory, a scanner that rests rests with the same tokens told
 pub blank_moves : (p : Place) (r : Rest) (u octets : List ℕ) (ts : List Placed) (ahead : List ℕ) (n : ℕ) → Scanned p (resting r) u ts ahead
     → Continues (take n octets) ahead → IsPassed octets n
     → Scanned p (resting (past_blank r n)) (u ++ take n octets) ts []
@@ -50,6 +51,7 @@ module _ (p : Place) (r : Rest) (u octets : List ℕ) (ts : List Placed) (kind :
       (scanned_given p known (u ++ take (n - 1) octets) ts ahead h (slice_index octets (n - 1)) c (resting (past_token p r kind n)) (lexeme_at r kind kept n) e
       pass q)
 
+  -- behind a token that lies whole in memory, a scanner that rests rests with that one told as well
   pub token_moves : (ahead : List ℕ) (left : Bool) → Scanned p (resting r) u ts ahead → Continues octets ahead → IsFound p r octets kind kept n left
       → after left
   token_moves ahead left h (more, c) f = by (before_end left n) refl f.ran f.shown where

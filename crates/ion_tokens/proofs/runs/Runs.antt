@@ -56,6 +56,7 @@ unfolding Between
 blob_between s None = (omega arith, omega arith)
 blob_between s (Some b) = refl
 
+-- of one octet, whatever the action: it is used, or left, or it decides a refusal
 pub acts_between : (p : Place) (s : Known) (o : ℕ) (a : Action) → Between (acts p s o a) s.used 1
 unfolding Between
 acts_between p s o (actions.Go m k) = refl
@@ -86,19 +87,23 @@ between_follow (Given l s) f before n h k = (omega arith, omega arith)
 between_follow (Left l s) f before n h k = (omega arith, omega arith)
 between_follow (Refused at r) f before n h k = (omega arith, omega arith)
 
+-- a run uses all its octets, unless a token or a refusal comes of one of them
 pub run_between : (p : Place) (os : List ℕ) (s : Known) → Between (run p os s) s.used (length os)
 unfolding Between
 run_between p [] s = omega arith
 run_between p (o ∷ os) s = between_follow (feed p s o) _ s.used (length os) (acts_between p s o (next p s.colon s.mode o)) (λ t. run_between p os t)
 
+-- where no token came, all octets of the run were used
 pub next_used : (p : Place) (os : List ℕ) (s t : Known) → Next t ≡ run p os s → t.used ≡ s.used + length os
 unfolding Between
 next_used p os s t e = subst (λ x. Between x s.used (length os)) (sym e) (run_between p os s)
 
+-- a token that its last octet gave used one octet at least, and at most all
 pub given_used : (p : Place) (os : List ℕ) (s t : Known) (l : Lexeme) → Given l t ≡ run p os s → (s.used < t.used) × (t.used ≤ s.used + length os)
 unfolding Between
 given_used p os s t l e = subst (λ x. Between x s.used (length os)) (sym e) (run_between p os s)
 
+-- a token before an octet that was left used fewer octets than there were
 pub left_used : (p : Place) (os : List ℕ) (s t : Known) (l : Lexeme) → Left l t ≡ run p os s → (s.used ≤ t.used) × (t.used < s.used + length os)
 unfolding Between
 left_used p os s t l e = subst (λ x. Between x s.used (length os)) (sym e) (run_between p os s)

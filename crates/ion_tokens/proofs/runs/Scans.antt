@@ -11,6 +11,7 @@ use Rattle.ion_tokens.proofs.complete.Wholes.{run_behind}
 use Rattle.ion_tokens.proofs.runs.Splits.{GivenSplit, given_split, LeftSplit, left_split}
 use Rattle.ion_tokens.proofs.histories.Stepped.{goes_on}
 
+-- a token, and the place that it was looked for in
 abbrev pub placed : Place → Lexeme → Placed
 placed p x = record { place = p; lexeme = x }
 
@@ -52,9 +53,11 @@ module _ (p : Place) (s : Known) (u : List ℕ) (ts : List Placed) (ahead : List
           by (y ∷ []) cut n = absurd cc
           by (y ∷ z ∷ os) cut n = absurd cc
 
+  -- behind one octet that ends nothing, the same tokens are told
   pub scanned_next : (s' : Known) → feed p s o ≡ Next s' → Scanned p s' (u ++ o ∷ []) ts []
   scanned_next s' e = goes_on p s u ts ahead h (o ∷ []) s' c (ap (λ y. follow y (λ t. Next t)) e)
 
+  -- behind one octet that gives a token, that one is told as well, and the next stands in any place
   pub scanned_given : (s' : Known) (x : Lexeme) → feed p s o ≡ Given x s' → Passes x.kind x.octets → (q : Place)
       → Scanned q s' (u ++ o ∷ []) (ts ++ placed p x ∷ []) []
   scanned_given s' x e pass q =
@@ -74,6 +77,7 @@ module _ (p : Place) (s : Known) (u : List ℕ) (ts : List Placed) (ahead : List
         next = inl (refl, refl);
       }
 
+  -- before an octet that ended a token, that one is told as well, and the octet must come next
   pub scanned_left : (s' : Known) (x : Lexeme) → feed p s o ≡ Left x s' → Passes x.kind x.octets → (q : Place) → Scanned q s' u (ts ++ placed p x ∷ []) (o ∷ [])
   scanned_left s' x e pass q =
       let from = from_left h.next in

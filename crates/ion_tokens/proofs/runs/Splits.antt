@@ -23,14 +23,17 @@ pub record LeftSplit (p : Place) (piece : List ℕ) (s s' : Known) (l : Lexeme) 
   pub ran : run p (octets ++ octet ∷ []) s ≡ Left l s'
   pub used : s'.used ≡ s.used + length octets
 
+-- an octet with which a token is given is used
 pub given_one : (p : Place) (o : ℕ) (s s' : Known) (l : Lexeme) → feed p s o ≡ Given l s' → s'.used ≡ s.used + 1
 unfolding Between
 given_one p o s s' l e = let h = subst (λ x. Between x s.used 1) e (acts_between p s o (next p s.colon s.mode o)) in omega (arith, h.0, h.1)
 
+-- an octet before which a token ended isn't used
 pub left_one : (p : Place) (o : ℕ) (s s' : Known) (l : Lexeme) → feed p s o ≡ Left l s' → s'.used ≡ s.used
 unfolding Between
 left_one p o s s' l e = let h = subst (λ x. Between x s.used 1) e (acts_between p s o (next p s.colon s.mode o)) in omega (arith, h.0, h.1)
 
+-- a piece that gives a token is cut behind the octet that ended it
 pub given_split : (p : Place) (piece : List ℕ) (s s' : Known) (l : Lexeme) → run p piece s ≡ Given l s' → GivenSplit p piece s s' l
 given_split p [] s s' l e = cc
 given_split p (o ∷ os) s s' l e = by (feed p s o) refl e (λ t. given_split p os t s' l) where
@@ -57,6 +60,7 @@ given_split p (o ∷ os) s s' l e = by (feed p s o) refl e (λ t. given_split p 
   by (Left m t) f g more = cc
   by (Refused n r) f g more = cc
 
+-- a piece in which a token ended before an octet is cut at that octet
 pub left_split : (p : Place) (piece : List ℕ) (s s' : Known) (l : Lexeme) → run p piece s ≡ Left l s' → LeftSplit p piece s s' l
 left_split p [] s s' l e = cc
 left_split p (o ∷ os) s s' l e = by (feed p s o) refl e (λ t. left_split p os t s' l) where

@@ -36,6 +36,7 @@ use Rattle.ion_tokens.proofs.complete.TakesTexts.{BeginsOther, opens_quote, from
 
 -- a blank
 
+-- white space at the front of octets is passed as a blank
 pub blank_passed : (octets : List ℕ) (n : ℕ) → n ≡ length (take_while is_white octets) → IsPassed octets n
 blank_passed octets n e p r = by n e where
   by : (n : ℕ) → n ≡ length (take_while is_white octets) → run p (take n octets) (resting r) ≡ Next (resting (past_blank r n))
@@ -103,9 +104,11 @@ front_some class (o ∷ os) n some h e =
     let one : prefix_len class (o ∷ os) ≡ 1 + prefix_len class os = ap (λ b. cond b (1 + prefix_len class os) 0) h in
     omega arith
 
+-- a class has no more octets at the front than there are
 pub front_within : (class : ℕ → Bool) (octets : List ℕ) (n : ℕ) → n ≡ length (take_while class octets) → n ≤ length octets
 front_within class octets n e = let is = front_length class octets n e in let l = prefix_len-le-length class octets in omega arith
 
+-- each octet that was counted at the front is of the class
 pub front_each : (class : ℕ → Bool) (octets : List ℕ) (n : ℕ) → n ≡ length (take_while class octets) → Each class (take n octets)
 front_each class octets n e = subst (λ l. Each class l) (sym (front_all class octets n e)) (each_front class octets)
 
@@ -128,18 +131,21 @@ front_text class octets n f e = IsUtf8-from_ascii (take n octets) (ascii_each cl
 word_ascii : (o : ℕ) → is_word_octet o ≡ true → o < 128
 word_ascii o h = grind (arith, nat_tests)
 
+-- octets of words are a text
 pub word_text : (octets : List ℕ) (n : ℕ) → n ≡ length (take_while is_word_octet octets) → IsUtf8 (take n octets)
 word_text octets n e = front_text is_word_octet octets n word_ascii e
 
 first_in_word : (o : ℕ) → begins_word o ≡ true → is_word_octet o ≡ true
 first_in_word o h = ap (λ b. b || is_digit o) h
 
+-- numbers that the test finds equal are the same
 pub same_is : (a b : ℕ) → (a == b) ≡ true → a ≡ b
 same_is a b h = grind (arith, nat_tests)
 
 not_same : (a b : ℕ) → a ≢ b → (a == b) ≡ false
 not_same a b n = grind (arith, nat_tests)
 
+-- a word stands whole before an octet of no word that is no dot
 pub word_found : (octets : List ℕ) (n : ℕ) → 0 < length octets → begins_word (slice_index octets 0) ≡ true → n ≡ length (take_while is_word_octet octets)
     → n < length octets → slice_index octets n ≢ 46
     → (p : Place) (r : Rest) → IsFound p r octets kinds.Word (take n octets) n true
@@ -197,6 +203,7 @@ number_begins (o ∷ d ∷ os) n more (inr h) e = by n size where
   by (suc zero) some = absurd (omega arith)
   by (suc (suc k)) some = (omega arith, ap (λ (x : ℕ). begins_number (x ∷ d ∷ take k os)) h.0 ∙ h.1)
 
+-- a number stands whole before a stop character
 pub number_found : (octets : List ℕ) (n : ℕ) → 1 < length octets → StartsNumber octets → n ≡ length (take_while is_numeric octets) → n < length octets
     → slice_index octets n ≢ 47
     → (p : Place) (r : Rest) → is_name p ≡ false → IsFound p r octets kinds.Number (take n octets) n true
@@ -235,6 +242,7 @@ short_stands (o ∷ os) n some first kept more last p r =
 abbrev pub behind_first : List ℕ → List ℕ
 behind_first octets = take (length octets - 1) (drop 1 octets)
 
+-- a short string stands whole where it has characters alone that are kept as they are
 pub short_found : (octets : List ℕ) (n : ℕ) → 0 < length octets → slice_index octets 0 ≡ 34 → AreKept styles.ShortString (take n (behind_first octets))
     → n < length (behind_first octets) → slice_index (behind_first octets) n ≡ 34
     → (p : Place) (r : Rest) → IsFound p r octets kinds.ShortString (take (n + 2 - 2) (drop 1 octets)) (n + 2) false
@@ -243,6 +251,7 @@ short_found octets n some first kept more last =
     short_stands octets n some first (subst (λ w. AreKept styles.ShortString (take n w)) tail kept) (subst (λ (w : List ℕ). n < length w) tail more)
     (subst (λ w. slice_index w n ≡ 34) tail last)
 
+-- characters that are kept as they are, behind the first quote, are a text
 pub quoted_text : (s : Style) (octets : List ℕ) (n : ℕ) → AreKept s (take n (behind_first octets)) → IsUtf8 (take (n + 2 - 2) (drop 1 octets))
 quoted_text s octets n kept =
     let same : n ≡ n + 2 - 2 = omega arith in
@@ -265,6 +274,7 @@ quoted_stands (o ∷ os) n some first kept one more last p r =
     (raw_begins (take n os) kept.0) (text_moves p styles.QuotedSymbol (take n os) [] kept)))
     (λ s u. refl) (omega arith) (ap (λ (x : ℕ). next p r.colon (modes.Text styles.QuotedSymbol within.Plain) x) last)))
 
+-- a quoted symbol that isn't empty stands whole where its characters are kept as they are
 pub quoted_found : (octets : List ℕ) (n : ℕ) → 0 < length octets → slice_index octets 0 ≡ 39 → AreKept styles.QuotedSymbol (take n (behind_first octets))
     → n ≢ 0 → n < length (behind_first octets) → slice_index (behind_first octets) n ≡ 39
     → (p : Place) (r : Rest) → IsFound p r octets kinds.QuotedSymbol (take (n + 2 - 2) (drop 1 octets)) (n + 2) false
@@ -286,26 +296,32 @@ mark_given p r octets m some e = record {
       ap (λ a. acts p (resting r) (slice_index octets 0) a) e;
 }
 
+-- a `,` stands whole
 pub comma_found : (p : Place) (r : Rest) (octets : List ℕ) → 0 < length octets → slice_index octets 0 ≡ 44
     → IsFound p r octets (kinds.Mark marks.Comma) [] 1 false
 comma_found p r octets some e = mark_given p r octets marks.Comma some (ap (λ (x : ℕ). in_blank p r.colon x) e)
 
+-- a `}` stands whole
 pub fields_close_found : (p : Place) (r : Rest) (octets : List ℕ) → 0 < length octets → slice_index octets 0 ≡ 125
     → IsFound p r octets (kinds.Mark marks.FieldsClose) [] 1 false
 fields_close_found p r octets some e = mark_given p r octets marks.FieldsClose some (ap (λ (x : ℕ). in_blank p r.colon x) e)
 
+-- a `[` stands whole, where no field's name stands
 pub list_open_found : (p : Place) (r : Rest) (octets : List ℕ) → is_name p ≡ false → 0 < length octets → slice_index octets 0 ≡ 91
     → IsFound p r octets (kinds.Mark marks.ListOpen) [] 1 false
 list_open_found p r octets name some e = mark_given p r octets marks.ListOpen some (ap (λ (x : ℕ). in_blank p r.colon x) e ∙ rw name refl)
 
+-- a `]` stands whole, where no field's name stands
 pub list_close_found : (p : Place) (r : Rest) (octets : List ℕ) → is_name p ≡ false → 0 < length octets → slice_index octets 0 ≡ 93
     → IsFound p r octets (kinds.Mark marks.ListClose) [] 1 false
 list_close_found p r octets name some e = mark_given p r octets marks.ListClose some (ap (λ (x : ℕ). in_blank p r.colon x) e ∙ rw name refl)
 
+-- a `(` stands whole, where no field's name stands
 pub sexp_open_found : (p : Place) (r : Rest) (octets : List ℕ) → is_name p ≡ false → 0 < length octets → slice_index octets 0 ≡ 40
     → IsFound p r octets (kinds.Mark marks.SexpOpen) [] 1 false
 sexp_open_found p r octets name some e = mark_given p r octets marks.SexpOpen some (ap (λ (x : ℕ). in_blank p r.colon x) e ∙ rw name refl)
 
+-- a `)` stands whole, where no field's name stands
 pub sexp_close_found : (p : Place) (r : Rest) (octets : List ℕ) → is_name p ≡ false → 0 < length octets → slice_index octets 0 ≡ 41
     → IsFound p r octets (kinds.Mark marks.SexpClose) [] 1 false
 sexp_close_found p r octets name some e = mark_given p r octets marks.SexpClose some (ap (λ (x : ℕ). in_blank p r.colon x) e ∙ rw name refl)
@@ -314,6 +330,7 @@ first_of : (octets : List ℕ) (o : ℕ) → 0 < length octets → slice_index o
 first_of [] o some e = absurd (omega arith)
 first_of (x ∷ os) o some e = ap (λ (y : ℕ). y ∷ []) e
 
+-- a `{` stands whole before an octet other than `{`, where no field's name stands
 pub fields_open_found : (p : Place) (r : Rest) (octets : List ℕ) → is_name p ≡ false → 1 < length octets → slice_index octets 0 ≡ 123
     → slice_index octets 1 ≢ 123 → IsFound p r octets (kinds.Mark marks.FieldsOpen) [] 1 true
 fields_open_found p r octets name some e n =
@@ -322,6 +339,7 @@ fields_open_found p r octets name some e n =
     some
     (brace_ends (slice_index octets 1) (not_same (slice_index octets 1) 123 n) r.colon p)
 
+-- a single colon stands whole before an octet other than a colon, where one may stand
 pub colon_found : (p : Place) (r : Rest) (octets : List ℕ) → r.colon ≡ true → 1 < length octets → slice_index octets 0 ≡ 58 → slice_index octets 1 ≢ 58
     → IsFound p r octets (kinds.Mark marks.Colon) [] 1 true
 colon_found p r octets stands some e n =
@@ -330,6 +348,7 @@ colon_found p r octets stands some e n =
     some
     (colon_ends (slice_index octets 1) (not_same (slice_index octets 1) 58 n) r.colon p)
 
+-- two colons stand whole, where one may stand
 pub colons_found : (p : Place) (r : Rest) (octets : List ℕ) → r.colon ≡ true → 1 < length octets → slice_index octets 0 ≡ 58 → slice_index octets 1 ≡ 58
     → IsFound p r octets (kinds.Mark marks.Colons) [] 2 false
 colons_found p r octets stands some e f =

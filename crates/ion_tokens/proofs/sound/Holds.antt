@@ -46,6 +46,7 @@ InMode p colon k modes.BlockComment kept start since = (kept ≡ []) × IsOpenBl
 InMode p colon k modes.BlockCommentStar kept start since = (kept ≡ []) × IsOpenBlock since true
 InMode p colon k m kept start since = IsBegun p colon k m kept start since
 
+-- what the scanner knows is what the octets leave it behind the last token, which ended at k
 pub record Holds (p : Place) (colon : Bool) (k : ℕ) (s : Known) (since : List ℕ) : Type 0 where
   pub flag : s.colon ≡ colon
   pub used : s.used ≡ k + length since
@@ -80,9 +81,11 @@ each_piece : (bs : List BlankPiece) (b : BlankPiece) → AllByRecursion IsBlankP
 each_piece [] b h i = (i, tt)
 each_piece (x ∷ bs) b h i = (h.0, each_piece bs b h.1 i)
 
+-- no octets are a blank
 pub blank_none : IsBlank []
 blank_none = record { pieces = []; each = tt; spelled = refl }
 
+-- a blank and one more piece of a blank are a blank
 pub blank_more : (w : List ℕ) (b : BlankPiece) → IsBlank w → IsBlankPiece b → IsBlank (w ++ blank_spelling b)
 blank_more w b h i = record {
   pieces = h.pieces ++ b ∷ [];
@@ -105,6 +108,7 @@ solid_base (o ∷ os) h = by (is_white o) h.0 (solid_base os h.1) where
   by true g f = f
   by false g f = (g, f)
 
+-- base64 with white space that decodes to octets is the content of a blob that has them
 pub blob_sound : (inside octets : List ℕ) → Each AnyBlob inside → blob_of (solid inside) ≡ Some octets → IsBlobContent inside octets
 unfolding blob_of decoded_of
 blob_sound inside octets h e = (
@@ -148,9 +152,11 @@ in_mode p colon k (modes.Lob l) kept start front token b e h = record { front = 
 pub blank_behind : (q : Place) (colon : Bool) (end : ℕ) → Holds q colon end (at modes.Blank [] colon end end) []
 blank_behind q colon end = record { flag = refl; used = omega arith; mode = (refl, blank_none) }
 
+-- a number from one to three is one of these
 pub one_to_three : (n : ℕ) → 1 ≤ n → n ≤ 3 → (n ≡ 1) ⊎ ((n ≡ 2) ⊎ (n ≡ 3))
 one_to_three n a b = grind (arith, nat_tests)
 
+-- the first one, two or three letters of `inf` are a word
 pub inf_word : (n : ℕ) → 1 ≤ n → n ≤ 3 → IsWord (take n (codes "inf")) × (length (take n (codes "inf")) ≡ n)
 inf_word n a b = ⊎_elim (λ e. subst P (sym e) ((refl, (refl, tt)), refl))
     (λ m. ⊎_elim (λ e. subst P (sym e) ((refl, (refl, (refl, tt))), refl)) (λ e. subst P (sym e) ((refl, (refl, (refl, (refl, tt)))), refl)) m)

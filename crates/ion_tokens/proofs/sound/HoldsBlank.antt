@@ -49,6 +49,7 @@ module _ (p : Place) (colon : Bool) (k : ℕ) (start used : ℕ) (since : List �
   used_more : used + 1 ≡ k + length (since ++ o ∷ [])
   used_more = omega (arith, uses, length-append since (o ∷ []))
 
+  -- what an action makes of an octet behind a blank is so, if the action fits the octet
   pub blank_turned : (a : Action) → IsBlank since → First p colon o a → Sound p colon k since o (acts p (at modes.Blank [] colon start used) o a)
   blank_turned (actions.Go modes.Blank k') b (w, e) = record { flag = refl; used = used_more; mode = (e, blank_more since (White o) b w) }
   blank_turned (actions.Go modes.Slash k') b (i, e) = record { flag = refl; used = used_more; mode = (e, since, b, ap (λ (x : ℕ). since ++ x ∷ []) i) }
@@ -68,6 +69,7 @@ module _ (p : Place) (colon : Bool) (k : ℕ) (start used : ℕ) (since : List �
   blank_turned (actions.Refuse e) b h = tt
   blank_turned a b h = absurd h
 
+  -- what an action makes of an octet behind a blank and a `/` is so, if the action fits both
   pub slash_turned : (a : Action) (front : List ℕ) → IsBlank front → since ≡ front ++ 47 ∷ [] → Second p colon o a
       → Sound p colon k since o (acts p (at modes.Slash [] colon start used) o a)
   slash_turned (actions.Go modes.LineComment k') front b e (i, n) = record {
@@ -129,6 +131,7 @@ module _ (p : Place) (colon : Bool) (k : ℕ) (start used : ℕ) (since : List �
   slash_turned (actions.Refuse r) front b e h = tt
   slash_turned a front b e h = absurd h
 
+  -- what comes of an octet in a line comment is so
   pub line_turned : IsOpenComment since → Sound p colon k since o (feed p (at modes.LineComment [] colon start used) o)
   line_turned c = by (is_line_end o) refl where
     over : (c.front ++ codes "//" ++ c.octets) ++ o ∷ [] ≡ c.front ++ (codes "//" ++ c.octets ++ o ∷ [])
@@ -168,6 +171,7 @@ module _ (p : Place) (colon : Bool) (k : ℕ) (start used : ℕ) (since : List �
     cut = ap (λ l. l ++ o ∷ []) c.cut ∙ append_assoc (c.front ++ codes "/*") c.octets (o ∷ []);
   }
 
+  -- what comes of an octet in a block comment, behind no `*`, is so
   pub block_turned : IsOpenBlock since false → Sound p colon k since o (feed p (at modes.BlockComment [] colon start used) o)
   block_turned c = by (o == 42) refl where
     by : (b : Bool) → (o == 42) ≡ b → Sound p colon k since o
@@ -175,6 +179,7 @@ module _ (p : Place) (colon : Bool) (k : ℕ) (start used : ℕ) (since : List �
     by true e = record { flag = refl; used = used_more; mode = (refl, block_more false true c refl e) }
     by false e = record { flag = refl; used = used_more; mode = (refl, block_more false false c refl e) }
 
+  -- what comes of an octet in a block comment, behind a `*`, is so
   pub star_turned : IsOpenBlock since true → Sound p colon k since o (feed p (at modes.BlockCommentStar [] colon start used) o)
   star_turned c = by (o == 47) refl where
     closed : o ≡ 47 → IsBlank (since ++ o ∷ [])

@@ -163,6 +163,7 @@ module _ (p : Place) (colon : Bool) (k : ℕ) (m : Mode) (kept : List ℕ) (star
     by (Some octets) f = goes (modes.Lob lobs.BlobClose) octets
         (n, inside ++ o ∷ [], ap (λ l. l ++ o ∷ []) e, (inside, blob_sound inside octets h (ap blob_of (sym s) ∙ f), (λ i. inside ++ is i ∷ [])))
 
+  -- what an action makes of an octet behind an open token is so, if the action fits the token
   pub turned : (a : Action) → Turns p colon w kept o a → Sound p colon k (front ++ w) o (acts p (at m kept colon start used) o a)
   turned (actions.Go m' k') h = goes m' (kept_after k' kept) h
   turned (actions.Give kind k') h = gives kind (kept_after k' kept) h

@@ -47,6 +47,7 @@ RunEndsSo p endings.Other w = (is_sexp p ≡ true) × (ends (λ o. o == 45) w �
 abbrev pub solid : List ℕ → List ℕ
 solid os = filter (λ o. not (is_white o)) os
 
+-- white space, or an octet of base64
 abbrev pub AnyBlob : ℕ → Bool
 AnyBlob o = is_white o || is_base64 o
 

@@ -33,6 +33,7 @@ pub record IsLastToken (p : Place) (colon : Bool) (k : ℕ) (since : List ℕ) (
   pub end : l.end ≡ (k + length front) + length token
   pub found : IsUnjudgedToken p colon token [] l.kind l.octets
 
+-- what the end shows of the octets behind the last token is so: a blank, or a blank and this token
 abbrev pub EndSound : Place → Bool → ℕ → List ℕ → Result (Option Lexeme) Reason → Type 0
 EndSound p colon k since (Ok None) = IsLastBlank since
 EndSound p colon k since (Ok (Some l)) = IsLastToken p colon k since l

@@ -160,6 +160,7 @@ module _ (p : Place) (colon : Bool) (o : ℕ) where
     short true e = let is : o ≡ 34 = eq_of o 34 e in ([], reads_none styles.ShortString, ap (λ (y : ℕ). y ∷ []) is)
     short false e = quote (o == 39) refl
 
+  -- what the table does with an octet behind a blank fits the octet
   pub blank_first : First p colon o (in_blank p colon o)
   blank_first = white (is_white o) refl where
     slash : (x : Bool) → (o == 47) ≡ x → First p colon o (cond x (go modes.Slash) behind_slash)
@@ -203,6 +204,7 @@ lone_operator p colon o s a b n r = (
 slashed_open : (o : ℕ) → is_operator_octet o ≡ true → (o == 47) ≡ false → (o == 42) ≡ false → IsOpenRun (47 ∷ o ∷ [])
 slashed_open o h a b = record { some = λ e. cc; each = (refl, (h, tt)); apart = (λ i. (a i || b i) || ((a i && false) || false)); last = a }
 
+-- what the table does with an octet behind a `/` fits the two
 pub slash_second : (p : Place) (colon : Bool) (o : ℕ) → Second p colon o (in_slash p o)
 slash_second p colon o = line (o == 47) refl where
   operator : (x : Bool) → is_operator_octet o ≡ x → is_sexp p ≡ true → (o == 47) ≡ false → (o == 42) ≡ false

@@ -266,6 +266,7 @@ after_quotes_turns p colon inside kept o n (front, h, e) = by (o == 39) refl whe
   )
   by false f = tt
 
+-- what the table does with an octet of an open lob fits the lob
 pub lob_turns : (p : Place) (colon : Bool) (l : Lob) (w kept : List ℕ) (o : ℕ) → IsOpen p colon (modes.Lob l) w kept → Turns p colon w kept o (in_lob l o)
 lob_turns p colon lobs.Start w kept o (n, inside, e, h) = subst (λ x. Turns p colon x kept o (lob_start o)) (sym e) (start_turns p colon inside kept o n h)
 lob_turns p colon lobs.StartQuote w kept o (n, inside, e, h) =

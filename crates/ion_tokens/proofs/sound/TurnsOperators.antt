@@ -45,10 +45,12 @@ ends_last class [] o = refl
 ends_last class (x ∷ []) o = refl
 ends_last class (x ∷ y ∷ xs) o = ends_last class (y ∷ xs) o
 
+-- octets and one more are some
 pub not_empty : (xs : List ℕ) (o : ℕ) → xs ++ o ∷ [] ≢ []
 not_empty [] o e = cc
 not_empty (x ∷ xs) o e = cc
 
+-- where two tests fail, neither holds
 pub both_false : (a b : Bool) → a ≡ false → b ≡ false → (a || b) ≡ false
 both_false false b e f = f
 both_false true b e f = absurd (true≢false e)
@@ -63,6 +65,7 @@ run_more w o h e n = record {
   last = ends_last (λ o. o == 47) w o ∙ n;
 }
 
+-- in an s-expression a run ends as its last octet says
 pub ends_so : (p : Place) (w : List ℕ) (o : ℕ) → is_sexp p ≡ true → RunEndsSo p (run_ending o) (w ++ o ∷ [])
 ends_so p w o s = by (o == 43) (o == 45) refl refl where
   by : (b c : Bool) → (o == 43) ≡ b → (o == 45) ≡ c → RunEndsSo p (cond b endings.Plus (cond c endings.Minus endings.Other)) (w ++ o ∷ [])
@@ -127,6 +130,7 @@ no_sign p endings.LoneMinus w s o = absurd (false≢true o)
 no_sign p endings.Minus w s o = absurd (false≢true o)
 no_sign p endings.Plus w s o = absurd (false≢true o)
 
+-- what the table does with an octet behind an open operator fits the operator
 pub operator_turns : (p : Place) (colon : Bool) (e : Ending) (w kept : List ℕ) (o : ℕ) → IsOpen p colon (modes.Operator e) w kept
     → Turns p colon w kept o (in_operator p e o)
 operator_turns p colon e w kept o (k, n, h, s) = subst (λ l. Turns p colon w l o (in_operator p e o)) (sym k) (digit (is_digit o) refl) where
@@ -166,6 +170,7 @@ operator_turns p colon e w kept o (k, n, h, s) = subst (λ l. Turns p colon w l 
   digit true f = digit_turns p colon e w o n h s f
   digit false f = letter (o == 105) (is_other e) refl refl f
 
+-- in an s-expression no field's name stands
 pub sexp_no_name : (p : Place) → is_sexp p ≡ true → is_name p ≡ false
 sexp_no_name places.Sexp h = refl
 sexp_no_name places.Top h = refl
@@ -191,6 +196,7 @@ slashed_run w o h c e = record {
   last = ends_last (λ o. o == 47) (w ++ 47 ∷ []) o ∙ or_left (o == 47) (o == 42) c;
 }
 
+-- what the table does with an octet behind an operator and a `/` fits them
 pub operator_slash_turns : (p : Place) (colon : Bool) (w kept : List ℕ) (o : ℕ) → IsOpen p colon modes.OperatorSlash w kept
     → Turns p colon w kept o (in_operator_slash o)
 operator_slash_turns p colon w kept o (e, s, h) = by ((o == 47) || (o == 42)) refl where
@@ -249,6 +255,7 @@ infinity_three p colon w kept o (e, h, low, high) = by (is_word_octet o) refl wh
   by true f = split_turns p colon w kept 3 o e h low high (λ r. (refl, refl, ap not f))
   by false f = tt
 
+-- what the table does with an octet behind a sign and letters of `inf` fits them
 pub infinity_turns : (p : Place) (colon : Bool) (n : ℕ) (w kept : List ℕ) (o : ℕ) → IsOpen p colon (modes.Infinity n) w kept
     → Turns p colon w kept o (in_infinity p n o)
 infinity_turns p colon n w kept o h =

@@ -153,6 +153,7 @@ long_clob_turns p colon front kept' part q o (actions.Give kind k) n f h = absur
 long_clob_turns p colon front kept' part q o (actions.Refuse e) n f h = tt
 long_clob_turns p colon front kept' part q o a n f h = absurd h
 
+-- what the table does with an octet of an open quoted text fits the text
 pub text_turns : (p : Place) (colon : Bool) (s : Style) (v : Within) (w kept : List ℕ) (o : ℕ) → InText p s v w kept → Turns p colon w kept o (in_text s v o)
 text_turns p colon styles.ShortString v w kept o (part, h, e) =
     subst (λ l. Turns p colon l kept o (in_text styles.ShortString v o)) (sym e)
@@ -181,6 +182,7 @@ quote_turns p colon w kept o (e, k) = subst (λ l. Turns p colon l kept o (in_qu
       by false f = symbol_turns p colon [] [] o (raw styles.QuotedSymbol o) (ap not f)
           (text_step styles.QuotedSymbol within.Plain o [] [] (reads_none styles.QuotedSymbol))
 
+-- what the table does with an octet behind `''` fits the quotes
 pub quotes_turns : (p : Place) (colon : Bool) (w kept : List ℕ) (o : ℕ) → IsOpen p colon modes.Quotes w kept → Turns p colon w kept o (in_quotes o)
 quotes_turns p colon w kept o (e, k) = subst (λ l. Turns p colon l kept o (in_quotes o)) (sym e)
     (subst (λ l. Turns p colon (39 ∷ 39 ∷ []) l o (in_quotes o)) (sym k) (by (o == 39) refl)) where

@@ -26,6 +26,7 @@ word_turns p colon w kept o (e, h) = by (is_word_octet o) refl where
   by true f = (ap (λ l. l ++ o ∷ []) e, (begins_more begins_word w (o ∷ []) h.0, each_last is_word_octet w o h.1 f))
   by false f = (e, h, f)
 
+-- what the table does with an octet of the name behind `null.` fits the name
 pub kind_turns : (p : Place) (colon : Bool) (w kept : List ℕ) (o : ℕ) → IsOpen p colon modes.KindName w kept → Turns p colon w kept o (in_kind_name o)
 kind_turns p colon w kept o (e, h) = by (is_word_octet o) refl where
   by : (b : Bool) → is_word_octet o ≡ b → Turns p colon w kept o (cond b (add modes.KindName o) (before kinds.KindName))
@@ -53,6 +54,7 @@ or_true : (a b : Bool) → b ≡ true → (a || b) ≡ true
 or_true true b e = refl
 or_true false b e = e
 
+-- what ends in a `/` has one
 pub slash_in : (w : List ℕ) → list_any (λ o. o == 47) (w ++ 47 ∷ []) ≡ true
 slash_in [] = refl
 slash_in (o ∷ w) = or_true (o == 47) (list_any (λ o. o == 47) (w ++ 47 ∷ [])) (slash_in w)
@@ -69,6 +71,7 @@ number_more (o ∷ x ∷ w) more h = h
 open_more : (p : Place) (w : List ℕ) (o : ℕ) → IsOpenNumber p w → is_stop o ≡ false → IsOpenNumber p (w ++ o ∷ [])
 open_more p w o n e = record { place = n.place; begun = number_more w (o ∷ []) n.begun; each = each_last (λ o. not (is_stop o)) w o n.each (ap not e) }
 
+-- what the table does with an octet of an open number fits the number
 pub number_turns : (p : Place) (colon : Bool) (w kept : List ℕ) (o : ℕ) → IsOpen p colon modes.Number w kept → Turns p colon w kept o (in_number o)
 number_turns p colon w kept o (e, n) = by (is_stop o) refl where
   slash : (b : Bool) → (o == 47) ≡ b → is_stop o ≡ false → Turns p colon w kept o (cond b (go modes.NumberSlash) (add modes.Number o))
@@ -79,6 +82,7 @@ number_turns p colon w kept o (e, n) = by (is_stop o) refl where
   by true f = λ r. subst (λ l. IsUnjudgedToken p colon w (o ∷ r) kinds.Number l) (sym e) (number_found p colon w (o ∷ r) n (inr (inl f)))
   by false f = slash (o == 47) refl f
 
+-- what the table does with an octet behind a number and a `/` fits them
 pub number_slash_turns : (p : Place) (colon : Bool) (w kept : List ℕ) (o : ℕ) → IsOpen p colon modes.NumberSlash w kept
     → Turns p colon w kept o (in_number_slash o)
 number_slash_turns p colon w kept o (e, n) = by ((o == 47) || (o == 42)) refl where
@@ -100,6 +104,7 @@ colon_turns p colon w kept o (e, k, c) = by (o == 58) refl where
   by true f = let is : o ≡ 58 = grind (arith, nat_tests) in λ r j. (k, (λ i. e i ++ is i ∷ []), c, tt)
   by false f = λ r j. (k, e, c, f)
 
+-- what the table does with an octet behind one `{` fits the brace
 pub brace_turns : (p : Place) (colon : Bool) (w kept : List ℕ) (o : ℕ) → IsOpen p colon modes.Brace w kept → Turns p colon w kept o (in_brace o)
 brace_turns p colon w kept o (e, k, n) = by (o == 123) refl where
   by : (b : Bool) → (o == 123) ≡ b → Turns p colon w kept o (cond b (go (modes.Lob lobs.Start)) (before (kinds.Mark marks.FieldsOpen)))

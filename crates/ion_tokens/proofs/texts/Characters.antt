@@ -52,6 +52,7 @@ plain_raw : (s : Style) (w : List ℕ) → Each (is_plain s) w → Each (is_raw 
 plain_raw s [] h = tt
 plain_raw s (o ∷ os) h = (between_raw (stands o) (is_long s && (o == 10)) (nat_le 128 o) (not ((o == 92) || (o == quote_of s))) h.0, plain_raw s os h.1)
 
+-- ASCII characters that a text keeps as they are, and no quotes, are octets that it keeps
 pub plain_kept : (s : Style) (w : List ℕ) → Each (is_plain s) w → AreKept s w
 plain_kept s w h = (plain_raw s w h, IsUtf8-from_ascii w (ascii_each (is_plain s) w (plain_ascii s) h), λ clob. h)
 
@@ -93,6 +94,7 @@ text_more false true c true x y z w v h f = cc
 text_more true b c true x y z w v h f = cc
 text_more a b c false x y z w v h f = cc
 
+-- an ASCII character that a text keeps as it is leaves it between two characters
 pub plain_stays : (s : Style) (o : ℕ) → is_plain s o ≡ true → in_text s within.Plain o ≡ actions.Go (modes.Text s within.Plain) (keeps.One o)
 plain_stays s o h = text_more (o == 92) (o == quote_of s) (is_long s && (o == 13)) (stands o || (is_long s && (o == 10))) _ _ _ _ _ h (no_return (is_long s) o)
 
@@ -145,6 +147,7 @@ each_kept p s (o ∷ os) kept h =
     (goes_then p s within.Plain within.Plain within.Plain (o ∷ []) os kept (kept ++ o ∷ []) ((kept ++ o ∷ []) ++ os)
     (goes_one p s within.Plain o kept within.Plain (keeps.One o) (plain_stays s o h.0)) (each_kept p s os (kept ++ o ∷ []) h.1))
 
+-- octets that a text keeps as they are lead from between two characters to between two, and are kept
 pub kept_goes : (p : Place) (s : Style) (w kept : List ℕ) → AreKept s w → GoesInText p s within.Plain kept w within.Plain (kept ++ w)
 kept_goes p s w kept h = by (is_clob s) refl where
   by : (clob : Bool) → is_clob s ≡ clob → GoesInText p s within.Plain kept w within.Plain (kept ++ w)

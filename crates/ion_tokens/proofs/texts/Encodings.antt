@@ -5,21 +5,26 @@ use Rattle.std.proofs.lemmas.Bool.{cases_lt}
 use Rattle.std.proofs.lemmas.Bool.Decides.{nat_tests}
 use lib.Utf8.{encode, next}
 
+-- a number is less than another, or the other is at most it
 pub order : (m n : ℕ) → (m < n) ⊎ (n ≤ m)
 order m n = cases_lt m n
 
+-- a character below 0x80 is one octet
 pub one : (c : ℕ) → c < 128 → encode c ≡ c ∷ []
 unfolding encode
 one c h = grind (arith, nat_tests)
 
+-- a character from 0x80 on, below 0x800, is two octets
 pub two : (c : ℕ) → 128 ≤ c → c < 2048 → encode c ≡ (192 + c / 64) ∷ next c ∷ []
 unfolding encode
 two c l h = grind (arith, nat_tests)
 
+-- a character from 0x800 on, below 0x10000, is three octets
 pub three : (c : ℕ) → 2048 ≤ c → c < 65536 → encode c ≡ (224 + c / 4096) ∷ next (c / 64) ∷ next c ∷ []
 unfolding encode
 three c l h = grind (arith, nat_tests)
 
+-- a character from 0x10000 on is four octets
 pub four : (c : ℕ) → 65536 ≤ c → encode c ≡ (240 + c / 262144) ∷ next (c / 4096) ∷ next (c / 64) ∷ next c ∷ []
 unfolding encode
 four c l = grind (arith, nat_tests)
@@ -39,6 +44,7 @@ pub data Encoding (c : ℕ) : Type 0 where
 later : (n : ℕ) → IsLater (next n)
 later n = (omega arith, omega arith)
 
+-- a character is one octet to four, which give its number
 pub encoding : (c : ℕ) → (c < 55296) ⊎ ((57344 ≤ c) × (c < 1114112)) → Encoding c
 encoding c scalar = by (order c 128) (order c 2048) (order c 65536)
   where

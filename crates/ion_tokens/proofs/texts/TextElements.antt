@@ -31,14 +31,17 @@ abbrev pub GoesInText : Place → Style → Within → List ℕ → List ℕ →
 GoesInText p s w kept os v kept' = (colon : Bool) (start used : ℕ) (r : List ℕ) → run p (os ++ r) (reading s colon start w kept used)
     ≡ run p r (reading s colon start v kept' (used + length os))
 
+-- over no octets a text stays in its state
 pub goes_none : (p : Place) (s : Style) (w : Within) (kept : List ℕ) → GoesInText p s w kept [] w kept
 goes_none p s w kept colon start used r = let none : used ≡ used + length {A = ℕ} [] = omega arith in
     ap (λ (n : ℕ). run p r (reading s colon start w kept n)) none
 
+-- one octet leads from state to state as the table says
 pub goes_one : (p : Place) (s : Style) (w : Within) (o : ℕ) (kept : List ℕ) (v : Within) (k : Keep) → in_text s w o ≡ actions.Go (modes.Text s v) k
     → GoesInText p s w kept (o ∷ []) v (kept_after k kept)
 goes_one p s w o kept v k e colon start used r = ap (λ a. follow (acts p (reading s colon start w kept used) o a) (λ t. run p r t)) e
 
+-- octets that lead to a state, and others on from there, lead to where the others do
 pub goes_then : (p : Place) (s : Style) (w v u : Within) (xs ys kept kept' kept'' : List ℕ) → GoesInText p s w kept xs v kept'
     → GoesInText p s v kept' ys u kept'' → GoesInText p s w kept (xs ++ ys) u kept''
 goes_then p s w v u xs ys kept kept' kept'' f g colon start used r =
@@ -46,6 +49,7 @@ goes_then p s w v u xs ys kept kept' kept'' f g colon start used r =
     ap (λ l. run p l (reading s colon start w kept used)) (append_assoc xs ys r) ∙ f colon start used (ys ++ r) ∙ g colon start (used + length xs) r
     ∙ ap (λ (n : ℕ). run p r (reading s colon start u kept'' n)) longer
 
+-- what is kept behind octets of a text may be spelled otherwise
 pub goes_to : (p : Place) (s : Style) (w v : Within) (os kept kept' kept'' : List ℕ) → kept' ≡ kept'' → GoesInText p s w kept os v kept'
     → GoesInText p s w kept os v kept''
 goes_to p s w v os kept kept' kept'' e f = subst (λ l. GoesInText p s w kept os v l) e f
@@ -146,6 +150,7 @@ read_digits p s (o ∷ o' ∷ os) d left m n c kept v k e some (x, digit, last) 
     (in_digit s d left m o x digit ∙ more_digits s d left m x (omega arith)))
     (read_digits p s (o' ∷ os) d (left - 1) (grow m x) (n * 16 + x) c kept v k (omega arith) (omega arith) last (caps_grow m n x caps) f)
 
+-- a character's number is below 0x110000
 pub below_max : (c : ℕ) → ((c < 55296) ⊎ ((57344 ≤ c) × (c < 1114112))) → c < 0x110000
 below_max c (inl h) = omega arith
 below_max c (inr h) = h.1
@@ -157,6 +162,7 @@ letters letter n e = grind (arith, nat_tests)
 abbrev keep_of : Style → ℕ → Keep
 keep_of s c = cond (is_clob s) (keeps.One (c % 256)) (keeps.Character c)
 
+-- a hexadecimal digit is below sixteen
 pub digit_small : (o d : ℕ) → hexadecimal_digit o ≡ Some d → d < 16
 digit_small o d h = grind (arith, nat_tests)
 
@@ -241,6 +247,7 @@ clob_small s letter os c k h g clob =
     let same : Some (length os) ≡ Some 2 = sym k ∙ ap hex_length (h clob) in
     let two : length os ≡ 2 = cc in two_small os c two g
 
+-- an escape by digits is read as its character, in a clob as its octet
 pub read_hex : (p : Place) (s : Style) (w : Within) (kept : List ℕ) (letter : ℕ) (os : List ℕ) (c : ℕ) → Admits w 92 → IsElement s (Hex letter os c)
     → GoesInText p s w kept (92 ∷ letter ∷ os) within.Plain (kept ++ meaning s (Hex letter os c))
 read_hex p s w kept letter os c a i =
@@ -254,6 +261,7 @@ read_hex p s w kept letter os c a i =
     (read_digits p s os k.kind (length os) 0 0 c kept within.Plain (keep_of s c) refl k.some i.1 (inl refl)
     (λ c' caps. ap (after_digits s k.kind) (exact c' c caps (below_max c cases)) ∙ k.means c i.2 cases))))
 
+-- two escapes of a surrogate pair are read as its character
 pub read_pair : (p : Place) (s : Style) (w : Within) (kept first second : List ℕ) (high low : ℕ) → Admits w 92 → IsElement s (Pair first second high low)
     → GoesInText p s w kept (92 ∷ 117 ∷ first ++ 92 ∷ 117 ∷ second) within.Plain (kept ++ encode (0x10000 + high * 1024 + low))
 read_pair p s w kept first second high low a (text, l, m, h, hs, k, ks) =

@@ -11,6 +11,7 @@ last_is f [] = false
 last_is f (e ∷ []) = f e
 last_is f (e ∷ g ∷ es) = last_is f (g ∷ es)
 
+-- the last element is the one that was added last
 pub last_is_last : (f : Element → Bool) (es : List Element) (e : Element) → last_is f (es ++ e ∷ []) ≡ f e
 last_is_last f [] e = refl
 last_is_last f (x ∷ []) e = refl
@@ -68,9 +69,11 @@ each_more : (s : Style) (es : List Element) (e : Element) → AllByRecursion (Is
 each_more s [] e h i = (i, tt)
 each_more s (x ∷ es) e h i = (h.0, each_more s es e h.1 i)
 
+-- no elements are a text that may go on
 pub base_none : (s : Style) → Base s []
 base_none s = record { each = tt; crs = tt; few = λ l. tt }
 
+-- one more element, which splits no CR LF and is no long text's quote, leaves a text that may go on
 pub base_more : (s : Style) (es : List Element) (e : Element) → Base s es → IsElement s e → (last_is ends_in_cr es ≡ true → is_raw_lf e ≡ false)
     → (is_long s ≡ true → is_raw_quote e ≡ false) → Base s (es ++ e ∷ [])
 base_more s es e b i lf quote = record { each = each_more s es e b.each i; crs = crs_more es e lf b.crs; few = λ l. few_more es e (quote l) (b.few l) }
@@ -85,6 +88,7 @@ base_quote s es b l i h = record {
       λ m. few_append es (Element.Raw 39 ∷ []) h (b.few l) (omega arith, tt);
 }
 
+-- two raw quotes of a long text, behind none
 pub base_quotes : (s : Style) (es : List Element) → Base s es → is_long s ≡ true → IsElement s (Element.Raw 39) → last_is is_raw_quote es ≡ false
     → Base s ((es ++ Element.Raw 39 ∷ []) ++ Element.Raw 39 ∷ [])
 base_quotes s es b l i h = record {
@@ -94,6 +98,7 @@ base_quotes s es b l i h = record {
       (few_append es (Element.Raw 39 ∷ Element.Raw 39 ∷ []) h (b.few l) (omega arith, (omega arith, tt)));
 }
 
+-- what one more element comes to stands behind what the others do
 pub flat_last : {A : Type 0} (f : Element → List A) (es : List Element) (e : Element) → flat_map f (es ++ e ∷ []) ≡ flat_map f es ++ f e
 flat_last f [] e = append-nil (f e)
 flat_last f (x ∷ es) e = ap (λ l. f x ++ l) (flat_last f es e) ∙ sym (append_assoc (f x) (flat_map f es) (f e))

@@ -29,6 +29,7 @@ Ready s within.OneQuote es = (is_long s ≡ true) × (1 + quotes es < 3)
 Ready s within.TwoQuotes es = (is_long s ≡ true) × (2 + quotes es < 3)
 Ready s _ es = ⊥
 
+-- the quote of a long text is `'`
 pub long_quote : (s : Style) → is_long s ≡ true → quote_of s ≡ 39
 long_quote styles.LongString h = refl
 long_quote styles.LongClob h = refl
@@ -36,10 +37,12 @@ long_quote styles.ShortString h = cc
 long_quote styles.ShortClob h = cc
 long_quote styles.QuotedSymbol h = cc
 
+-- a test holds or fails
 pub bool_cases : (b : Bool) → (b ≡ true) ⊎ (b ≡ false)
 bool_cases true = inl refl
 bool_cases false = inr refl
 
+-- two numbers are the same or differ
 pub eq_or : (a b : ℕ) → (a ≡ b) ⊎ (a ≢ b)
 eq_or a b = ⊎_elim (λ l. inr (λ e. omega arith)) (λ l. ⊎_elim (λ m. inr (λ e. omega arith)) (λ m. inl (omega arith)) (order b a)) (order a b)
 

@@ -365,6 +365,7 @@ LeadsText s (actions.Give kind k) w kept = Keeps k kept × GivesText s kind × C
 LeadsText s (actions.Refuse e) w kept = Unit {0}
 LeadsText s _ w kept = ⊥
 
+-- octets kept before a text stay in front of what an action leaves of it
 pub keeps_behind : (front q : List ℕ) (k : _) → Keeps k q → kept_after k (front ++ q) ≡ front ++ kept_after k q
 keeps_behind front q keeps.Nothing h = refl
 keeps_behind front q (keeps.One o) h = append_assoc front q (o ∷ [])
@@ -409,5 +410,6 @@ text_step s v o w kept h = lift s h.elements (in_text s v o) (w ++ o ∷ []) kep
     (ap (λ l. l ++ o ∷ []) h.spelled ∙ append_assoc (flat_map spelling h.elements) h.p (o ∷ [])) h.means
     (step_leads s v h.elements o h.p h.q h.base h.after h.part)
 
+-- no octets are read as a text of which nothing is kept
 pub reads_none : (s : Style) → Reads s within.Plain [] []
 reads_none s = record { elements = []; p = []; q = []; base = base_none s; after = (refl, λ l. refl); part = (refl, refl); spelled = refl; means = refl }

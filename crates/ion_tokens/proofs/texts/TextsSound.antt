@@ -41,18 +41,22 @@ abbrev pub EndsAfter : ℕ → ℕ → ℕ → List ℕ → Type 0
 EndsAfter zero lo hi p = Whole p
 EndsAfter (suc n) lo hi p = (o : ℕ) → lo ≤ o → o ≤ hi → EndsAfter n 128 191 (p ++ o ∷ [])
 
+-- digits so far, with some to come, and their number
 abbrev pub SoFar : ℕ → ℕ → ℕ → List ℕ → Type 0
 SoFar total left m os = (n : ℕ) × (length os + left ≡ total) × (0 < left) × IsHexAfter 0 os n × Caps m n
 
+-- four digits are the number of a high surrogate, which is h
 abbrev pub IsHigh : ℕ → List ℕ → Type 0
 IsHigh h first = (length first ≡ 4) × (high : ℕ) × IsHexAfter 0 first (0xd800 + high) × (h ≡ 0xd800 + high) × (high < 1024)
 
+-- the octets are an escape some digits of which are still to come
 abbrev pub HexPart : Digits → List ℕ → ℕ → ℕ → Type 0
 HexPart digits.Octet p left m = (os : List ℕ) × (p ≡ 92 ∷ 120 ∷ os) × SoFar 2 left m os
 HexPart digits.Unit p left m = (os : List ℕ) × (p ≡ 92 ∷ 117 ∷ os) × SoFar 4 left m os
 HexPart digits.Scalar p left m = (os : List ℕ) × (p ≡ 92 ∷ 85 ∷ os) × SoFar 8 left m os
 HexPart (digits.LowSurrogate h) p left m = (first os : List ℕ) × (p ≡ 92 ∷ 117 ∷ first ++ 92 ∷ 117 ∷ os) × IsHigh h first × SoFar 4 left m os
 
+-- `\x` alone may stand in a clob
 abbrev pub TextOnly : Style → Digits → Type 0
 TextOnly s digits.Octet = Unit {0}
 TextOnly s _ = is_clob s ≡ false
@@ -97,17 +101,20 @@ pub record Closes (s : Style) (w octets : List ℕ) : Type 0 where
   pub is : IsQuoted s content octets
   pub spelled : w ≡ content ++ closing s
 
+-- the token that the close of a text ends
 abbrev pub GivesText : Style → TokenKind → Type 0
 GivesText styles.ShortString kinds.ShortString = Unit {0}
 GivesText styles.QuotedSymbol kinds.QuotedSymbol = Unit {0}
 GivesText styles.LongString kinds.LongString = Unit {0}
 GivesText _ _ = ⊥
 
+-- where a clob stands behind the close of a text or a segment
 abbrev pub EndsText : Style → Lob → Type 0
 EndsText styles.ShortClob lobs.AfterShort = Unit {0}
 EndsText styles.LongClob lobs.AfterLong = Unit {0}
 EndsText _ _ = ⊥
 
+-- the mode stands behind what was read: in the text, or behind the close of one in a clob
 abbrev pub LeadsTo : Style → Mode → List ℕ → List ℕ → Type 0
 LeadsTo s (modes.Text s' v) w k = (s' ≡ s) × Reads s v w k
 LeadsTo s (modes.Lob l) w k = EndsText s l × Closes s w k
@@ -125,9 +132,11 @@ Leads s es (actions.Give kind k) p q = Keeps k q × GivesText s kind × Closes s
 Leads s es (actions.Refuse e) p q = Unit {0}
 Leads s es _ p q = ⊥
 
+-- what holds of an action holds of it by another name
 pub by_action : (s : Style) (es : List Element) {a b : Action} (p q : List ℕ) → a ≡ b → Leads s es b p q → Leads s es a p q
 by_action s es p q e h = subst (λ a. Leads s es a p q) (sym e) h
 
+-- elements and what was read of the next are read in its state
 pub part_only : (s : Style) (es : List Element) (v : Within) (p q : List ℕ) → Base s es → After s v es → Part s v p q → (s ≡ s)
     × Reads s v (flat_map spelling es ++ p) (flat_map (meaning s) es ++ q)
 part_only s es v p q b a h = (refl, record { elements = es; p = p; q = q; base = b; after = a; part = h; spelled = refl; means = refl })
@@ -139,6 +148,7 @@ pub record FitsBehind (s : Style) (es : List Element) (e : Element) : Type 0 whe
   pub cr : ends_in_cr e ≡ false
   pub quote : is_long s ≡ true → is_raw_quote e ≡ false
 
+-- elements and one that fits behind them are read, with nothing of the next
 pub one_element : (s : Style) (es : List Element) (e : Element) (p q : List ℕ) → Base s es → FitsBehind s es e → p ≡ spelling e → q ≡ meaning s e → (s ≡ s)
     × Reads s within.Plain (flat_map spelling es ++ p) (flat_map (meaning s) es ++ q)
 one_element s es e p q b f i m = (
@@ -235,6 +245,7 @@ pub record Behind (s : Style) (es : List Element) (o : ℕ) : Type 0 where
 pub no_quote_raw : (s : Style) (o : ℕ) → o ≢ quote_of s → is_long s ≡ true → (o == 39) ≡ false
 no_quote_raw s o n l = let q : quote_of s ≡ 39 = long_quote s l in let m : o ≢ 39 = (λ e. n (e ∙ sym q)) in grind (arith, nat_tests)
 
+-- a character that may stand for itself, and is no quote of the style, fits behind all elements
 pub fits_raw : (s : Style) (es : List Element) (c : ℕ) → IsRaw s c → c ≢ quote_of s → FitsBehind s es (Raw c)
 fits_raw s es c i n = record { is = i; lf = λ h. refl; cr = refl; quote = λ l. no_quote_raw s c n l }
 
@@ -312,6 +323,7 @@ high_leads s es o b t h =
 backslash : (s : Style) (es : List Element) → Base s es → Leads s es (raw s 92) (92 ∷ []) []
 backslash s es b = (tt, part_only s es within.Escape (92 ∷ []) [] b tt (refl, refl))
 
+-- an octet that may stand behind these elements leads to what was read with it
 pub raw_leads : (s : Style) (es : List Element) (o : ℕ) → Behind s es o → Leads s es (raw s o) (o ∷ []) []
 raw_leads s es o b =
     ⊎_elim (λ (i : o ≡ 92). subst (λ (x : ℕ). Leads s es (raw s x) (x ∷ []) []) (sym i) (backslash s es b.base)) (λ a.
@@ -376,6 +388,7 @@ NoDrop (actions.Go m keeps.DropQuotes) = ⊥
 NoDrop (actions.Give kind keeps.DropQuotes) = ⊥
 NoDrop _ = Unit {0}
 
+-- what an action leads to behind one element more, it does with that one as part of what is read
 pub rebase_kept : (s : Style) (es : List Element) (f : Element) (a : Action) (p q : List ℕ) → NoDrop a → Leads s (es ++ f ∷ []) a p q
     → Leads s es a (spelling f ++ p) (meaning s f ++ q)
 rebase_kept s es f (actions.Go m keeps.Nothing) p q n (t, h) = (tt, shift s es f p q m (meaning s f ++ q) refl h)
@@ -407,6 +420,7 @@ rebase_kept s es f actions.EndWord p q n h = h
 rebase_kept s es f (actions.Split _) p q n h = h
 rebase_kept s es f actions.EndBlob p q n h = h
 
+-- an action behind a part of which nothing is kept drops no quotes
 pub leads_no_drop : (s : Style) (es : List Element) (a : Action) (p : List ℕ) → Leads s es a p [] → NoDrop a
 leads_no_drop s es (actions.Go m keeps.Nothing) p h = tt
 leads_no_drop s es (actions.Go m (keeps.One o)) p h = tt

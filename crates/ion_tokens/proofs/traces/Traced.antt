@@ -61,6 +61,7 @@ acts_owe p s o actions.EndBlob f = by (blob_of s.kept) where
   by (Some octets) = tt
 acts_owe p s o (actions.Refuse e) f = tt
 
+-- no more than two octets may be taken up again before another is used
 pub debt_small : (m : Mode) → debt m < 3
 debt_small modes.Blank = omega arith
 debt_small modes.NumberSlash = omega arith
@@ -68,6 +69,7 @@ debt_small modes.OperatorSlash = omega arith
 debt_small (modes.Infinity _) = omega arith
 debt_small _ = omega arith
 
+-- an octet that is left leaves fewer to be taken up again
 pub left_owes : (p : Place) (s t : Known) (o : ℕ) (l : Lexeme) → feed p s o ≡ Left l t → debt t.mode < debt s.mode
 unfolding OwesLess
 left_owes p s t o l e = subst (λ x. OwesLess (debt s.mode) x) e (acts_owe p s o (next p s.colon s.mode o) (table_fits p s.colon s.mode o))
@@ -351,6 +353,7 @@ abbrev known_on : Trail → Known → Known
 known_on (Leads ts s) t = s
 known_on (Stops ts r) t = t
 
+-- two scanners that used the same octets told the same tokens and know the same
 pub traced_alike : (places : Places) (a b : Known) (u : List ℕ) (ts us : List Told) → IsTraced places a u ts [] → IsTraced places b u us [] → (ts ≡ us)
     × (a ≡ b)
 traced_alike places a b u ts us h k =

@@ -19,11 +19,13 @@ use Rattle.ion_tokens.specs.laws.Each.{each_append}
 
 -- 1. Octets, by their places and in a row.
 
+-- at each place of octets stands a number below 256
 pub octet_at : (octets : List ℕ) → AreOctets octets → (i : ℕ) → slice_index octets i < 256
 octet_at [] h i = omega arith
 octet_at (o ∷ os) h zero = h.0
 octet_at (o ∷ os) h (suc i) = octet_at os h.1 i
 
+-- octets behind octets are octets
 pub octets_append : (xs ys : List ℕ) → AreOctets xs → AreOctets ys → AreOctets (xs ++ ys)
 octets_append [] ys h k = k
 octets_append (x ∷ xs) ys h k = (h.0, octets_append xs ys h.1 k)

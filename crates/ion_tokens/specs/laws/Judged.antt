@@ -20,6 +20,7 @@ number_passes octets (Clob o) h = absurd h
 number_passes octets (Blob o) h = absurd h
 number_passes octets (Mark' m) h = absurd h
 
+-- a token that says something isn't refused when it is judged
 pub body_passes : (k : TokenKind) (octets : List ℕ) (c : Content) → IsBody k octets (Ok c) → Passes k octets
 body_passes kinds.Number octets c h = number_passes octets c h
 body_passes kinds.Word octets c h = tt

@@ -85,6 +85,7 @@ lexeme_kept p colon w r (kinds.Mark m) octets h = tt
 
 -- 2. What a token says.
 
+-- a text is UTF-8, a number is there and in range, and a lob has octets
 abbrev pub IsContentKept : Content → Type 0
 IsContentKept (Word w) = IsUtf8 w
 IsContentKept (Quoted w) = IsUtf8 w
@@ -142,10 +143,12 @@ body_kept (kinds.Mark m) octets c l e = said_by c (Mark' m) (ok_same c (Mark' m)
 abbrev pub AreLobsKept : List Placed → Type 0
 AreLobsKept ts = AllByRecursion (λ (t : Placed). IsLobKept t.lexeme.kind t.lexeme.octets) ts
 
+-- where the lobs among tokens have octets, those among the first of them do
 pub lobs_front : (ts us : List Placed) → AreLobsKept (ts ++ us) → AreLobsKept ts
 lobs_front [] us h = tt
 lobs_front (t ∷ ts) us h = (h.0, lobs_front ts us h.1)
 
+-- where the lobs among tokens have octets, those among the others behind the first do
 pub lobs_rest : (ts us : List Placed) → AreLobsKept (ts ++ us) → AreLobsKept us
 lobs_rest [] us h = h
 lobs_rest (t ∷ ts) us h = lobs_rest ts us h.1

@@ -17,14 +17,17 @@ use Rattle.ion_tokens.specs.machine.Bounds.{is_idle}
 use Rattle.ion_tokens.specs.machine.Views.{form_of}
 use Rattle.ion_tokens.specs.machine.Scanning.{Known, Outcome, Next, Given, Left, Refused, feed}
 
+-- the token is a quoted symbol
 abbrev pub is_quoted : TokenKind → Bool
 is_quoted kinds.QuotedSymbol = true
 is_quoted _ = false
 
+-- the token is a mark
 abbrev pub is_mark : TokenKind → Bool
 is_mark (kinds.Mark m) = true
 is_mark _ = false
 
+-- the token is `::`
 abbrev pub is_colons : TokenKind → Bool
 is_colons (kinds.Mark marks.Colons) = true
 is_colons _ = false
@@ -40,6 +43,7 @@ abbrev pub is_long_form : Form → Bool
 is_long_form forms.Other = false
 is_long_form _ = true
 
+-- a quote is open that may be a segment of a long string, or a segment
 abbrev pub is_quoting : Mode → Bool
 is_quoting m = is_long_form (form_of m)
 

@@ -22,6 +22,7 @@ outcome_in (taken.Given l) m = Given (lexeme_in l m) (known m)
 outcome_in (taken.Left l) m = Left (lexeme_in l m) (known m)
 outcome_in (taken.Refused r) m = Refused r.offset r.reason
 
+-- the token that ended last, if one did
 abbrev pub found_in : Option Found → Machine → Option Lexeme
 found_in None m = None
 found_in (Some l) m = Some (lexeme_in l m)

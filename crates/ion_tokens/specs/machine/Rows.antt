@@ -48,6 +48,7 @@ digit_rows last s d left t =
     ∷ go (modes.Text s (within.HighSurrogate t.octet)) ∷ []
     else go (modes.Text s (within.Hexadecimal d (left - 1) t.octet)) ∷ [])
 
+-- in a quoted text; the Bool says whether an escape's last digit comes
 abbrev pub text_rows : Bool → Style → Within → Taken → List Action
 text_rows last s within.Plain t = at_quote s t ∷ inside s t
 text_rows last s within.AfterReturn t = at_quote s t ∷ go (modes.Text s within.Plain) ∷ inside s t
@@ -63,6 +64,7 @@ text_rows last s (within.Hexadecimal d left n) t = digit_rows last s d left t
 text_rows last s (within.HighSurrogate h) t = actions.Refuse reasons.BadEscape ∷ go (modes.Text s (within.HighSurrogateEscape h)) ∷ []
 text_rows last s (within.HighSurrogateEscape h) t = actions.Refuse reasons.BadEscape ∷ go (modes.Text s (within.Hexadecimal (digits.LowSurrogate h) 4 0)) ∷ []
 
+-- in a blob or a clob
 abbrev pub lob_rows : Lob → Taken → List Action
 lob_rows lobs.Start t =
     actions.EndBlob ∷ add (modes.Lob lobs.Base64) t.octet ∷ actions.Refuse reasons.BadBase64 ∷ go (modes.Lob lobs.Start)
@@ -77,6 +79,7 @@ lob_rows lobs.AfterQuote t = refused ∷ go (modes.Lob lobs.AfterQuotes) ∷ []
 lob_rows lobs.AfterQuotes t = refused ∷ go (modes.Text styles.LongClob within.Plain) ∷ []
 lob_rows lobs.ClobClose t = refused ∷ actions.Give kinds.Clob keeps.Nothing ∷ []
 
+-- in a blank
 abbrev pub blank_rows : Taken → List Action
 blank_rows t =
     go modes.Blank ∷ add modes.Word t.octet ∷ go modes.Slash ∷ go (modes.Text styles.ShortString within.Plain) ∷ go modes.Quote
@@ -88,11 +91,13 @@ blank_rows t =
 abbrev pub in_sexp : Bool → List Action → List Action
 in_sexp sexp rows = if sexp then rows else []
 
+-- behind a run of operator characters
 abbrev pub operator_rows : Taken → List Action
 operator_rows t =
     add modes.Number t.octet ∷ actions.Refuse reasons.Ambiguous ∷ before kinds.Operator ∷ refused ∷ go (modes.Infinity 1) ∷ go modes.OperatorSlash
     ∷ add (modes.Operator (run_ending t.octet)) t.octet ∷ []
 
+-- behind a sign and so many letters of `inf`; the Bool says whether in an s-expression
 abbrev pub infinity_rows : Bool → ℕ → List Action
 infinity_rows sexp letters = go (modes.Infinity (suc letters)) ∷ actions.Refuse reasons.Float ∷ refused ∷ in_sexp sexp (actions.Split letters ∷ [])
 
@@ -136,20 +141,24 @@ pub record Parts : Type 0 where
   pub second : ℕ
   pub third : ℕ
 
+-- the modes outside quoted texts and lobs
 abbrev pub plain_modes : Parts → List Mode
 plain_modes c =
     modes.Blank ∷ modes.Slash ∷ modes.LineComment ∷ modes.BlockComment ∷ modes.BlockCommentStar ∷ modes.Colon ∷ modes.Word ∷ modes.KindName
     ∷ modes.Number ∷ modes.NumberSlash ∷ modes.Operator c.ending ∷ modes.OperatorSlash ∷ modes.Infinity c.first ∷ modes.Quote ∷ modes.Quotes
     ∷ modes.Brace ∷ []
 
+-- the states of a quoted text
 abbrev pub withins : Parts → List Within
 withins c =
     within.Plain ∷ within.AfterReturn ∷ within.OneQuote ∷ within.TwoQuotes ∷ within.Utf8 c.first c.second c.third ∷ within.Escape
     ∷ within.Hexadecimal c.digits c.first c.second ∷ within.HighSurrogate c.first ∷ within.HighSurrogateEscape c.first ∷ []
 
+-- the sorts of quoted texts
 abbrev pub all_styles : List Style
 all_styles = styles.ShortString ∷ styles.QuotedSymbol ∷ styles.LongString ∷ styles.ShortClob ∷ styles.LongClob ∷ []
 
+-- the states of a blob or a clob
 abbrev pub all_lobs : List Lob
 all_lobs =
     lobs.Start ∷ lobs.StartQuote ∷ lobs.StartQuotes ∷ lobs.Base64 ∷ lobs.BlobClose ∷ lobs.AfterShort ∷ lobs.AfterLong ∷ lobs.AfterQuote
@@ -164,6 +173,7 @@ all_modes f c =
 abbrev pub place_rows : (Bool → Mode → Action → Bool) → Taken → Mode → Bool → Bool
 place_rows test t m sexp = list_all (λ last. list_all (test sexp m) (rows sexp last m t)) (true ∷ false ∷ [])
 
+-- each row of a mode passes, both in an s-expression and elsewhere
 abbrev pub mode_rows : (Bool → Mode → Action → Bool) → Taken → Mode → Bool
 mode_rows test t m = list_all (place_rows test t m) (true ∷ false ∷ [])
 

@@ -20,6 +20,7 @@ abbrev pub word_said : List ℕ → Option ℕ → Result Content Reason
 word_said octets None = spelled (Word octets) octets
 word_said octets (Some id) = Ok (Id id)
 
+-- what a token says whose octets are read as this number, or as none
 abbrev pub number_said : Result Number Reason → Result Content Reason
 number_said (Ok n) = Ok (Number' n)
 number_said (Err e) = Err e

@@ -89,9 +89,11 @@ NoEnd p u ts = (others : List Placed) → length others ≤ 1 → LooksIn p othe
 abbrev pub EndsWith : Place → Known → Option Token → Type 0
 EndsWith p s token = (u : List ℕ) (ts : List Placed) → Scanned p s u ts [] → EndsSo p u ts token
 
+-- whatever led to this, the octets are neither the tokens told nor those and one more
 abbrev pub NeverEnds : Place → Known → Type 0
 NeverEnds p s = (u : List ℕ) (ts : List Placed) → Scanned p s u ts [] → NoEnd p u ts
 
+-- whatever led to this, the reason is one for which an end refuses
 abbrev pub EndsFor : Place → Known → Reason → Type 0
 EndsFor p s reason = (u : List ℕ) (ts : List Placed) → Scanned p s u ts [] → is_end_reason reason ≡ true
 

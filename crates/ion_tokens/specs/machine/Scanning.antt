@@ -45,6 +45,7 @@ pub data Outcome : Type 0 where
   -- so many octets of the document decide that none begins with them
   Refused : ℕ → Reason → Outcome
 
+-- the octets that are kept behind one of which this is kept
 abbrev pub kept_after : Keep → List ℕ → List ℕ
 kept_after keeps.Nothing k = k
 kept_after (keeps.One o) k = k ++ o ∷ []
@@ -84,6 +85,7 @@ blob_ends s (Some octets) = Next (go_to s (modes.Lob lobs.BlobClose) octets)
 abbrev pub split_at : Place → Known → ℕ → Outcome
 split_at p s n = Left (cut s kinds.Operator s.kept (s.used - n)) (past p kinds.Operator modes.Word (take n (codes "inf")) (s.used - n) s.used)
 
+-- what comes of an action at an octet
 abbrev pub acts : Place → Known → ℕ → Action → Outcome
 acts p s o (actions.Go m k) = Next (go_to s m (kept_after k s.kept))
 acts p s o (actions.Give kind k) = Given (cut s kind (kept_after k s.kept) (s.used + 1)) (past p kind modes.Blank [] (s.used + 1) (s.used + 1))
@@ -115,5 +117,6 @@ ends_at s ends.Blank = Ok None
 ends_at s (ends.Token kind k) = Ok (Some (cut s kind (kept_after k s.kept) s.used))
 ends_at s (ends.Refuse reason) = Err reason
 
+-- what the end of the input shows in the scanner's mode
 abbrev pub at_end : Place → Known → Result (Option Lexeme) Reason
 at_end p s = ends_at s (end_of p s.mode)

@@ -21,6 +21,7 @@ pub record Stepped : Type 0 where
 abbrev pub stepped : Scan → Bool → Stepped
 stepped scan left = record { used = scan.used; token = scan.token; left = left }
 
+-- what a step answered, or why it refused, with what the scanner says of it then
 abbrev pub answered : Result Scan Refusal → Bool → Result Stepped Refusal
 answered (Ok scan) left = Ok (stepped scan left)
 answered (Err r) left = Err r
@@ -32,6 +33,7 @@ pub record IsToken (l : Lexeme) (t : Token) : Type 0 where
   pub says : IsBody l.kind l.octets (Ok (content t.body))
   pub passes : Passes l.kind l.octets
 
+-- there is a token in memory, and it is this one, judged
 abbrev pub GivesToken : Lexeme → Option Token → Type 0
 GivesToken l None = ⊥
 GivesToken l (Some t) = IsToken l t

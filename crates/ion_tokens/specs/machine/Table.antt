@@ -39,6 +39,7 @@ go m = actions.Go m keeps.Nothing
 abbrev pub add : Mode → ℕ → Action
 add m o = actions.Go m (keeps.One o)
 
+-- no document has the octet there
 abbrev pub refused : Action
 refused = actions.Refuse reasons.Unexpected
 
@@ -46,6 +47,7 @@ refused = actions.Refuse reasons.Unexpected
 abbrev pub before : TokenKind → Action
 before k = actions.Before k keeps.Nothing modes.Blank
 
+-- the octet is a mark, or the last of one
 abbrev pub give : Mark → Action
 give m = actions.Give (kinds.Mark m) keeps.Nothing
 
@@ -97,12 +99,15 @@ in_block_star o =
     else (if o == asterisk then go modes.BlockCommentStar
     else go modes.BlockComment)
 
+-- behind one colon
 abbrev pub in_colon : ℕ → Action
 in_colon o = if o == ascii.colon then give marks.Colons else before (kinds.Mark marks.Colon)
 
+-- in a word
 abbrev pub in_word : ℕ → Action
 in_word o = if is_word_octet o then add modes.Word o else actions.EndWord
 
+-- in the name behind `null.`
 abbrev pub in_kind_name : ℕ → Action
 in_kind_name o = if is_word_octet o then add modes.KindName o else before kinds.KindName
 
@@ -113,6 +118,7 @@ digit_behind p endings.Minus o = actions.Refuse reasons.Ambiguous
 digit_behind p endings.Plus o = if is_sexp p then before kinds.Operator else refused
 digit_behind p endings.Other o = before kinds.Operator
 
+-- a run that ends in no sign
 abbrev pub is_other : Ending → Bool
 is_other endings.Other = true
 is_other _ = false
@@ -143,6 +149,7 @@ in_infinity p letters o =
     else (if is_sexp p then actions.Split letters
     else refused)))
 
+-- in a number
 abbrev pub in_number : ℕ → Action
 in_number o =
     if is_stop o then before kinds.Number
@@ -215,9 +222,11 @@ in_escape s o =
 abbrev pub grow : ℕ → ℕ → ℕ
 grow n d = if nat_lt n 0x110000 then n * 16 + d else n
 
+-- a high surrogate
 abbrev pub is_high : ℕ → Bool
 is_high n = nat_le 0xd800 n && nat_le n 0xdbff
 
+-- a low surrogate
 abbrev pub is_low : ℕ → Bool
 is_low n = nat_le 0xdc00 n && nat_le n 0xdfff
 
@@ -234,6 +243,7 @@ after_digits s (digits.LowSurrogate high) n =
     if is_high high && is_low n then character s (0x10000 + (high - 0xd800) * 1024 + (n - 0xdc00))
     else actions.Refuse reasons.BadEscape
 
+-- one of the digits of an escape, where it is a digit; the last one ends the escape
 abbrev pub with_digit : Style → Digits → ℕ → ℕ → Option ℕ → Action
 with_digit s d left n None = actions.Refuse reasons.BadEscape
 with_digit s d left n (Some digit) =
@@ -244,6 +254,7 @@ with_digit s d left n (Some digit) =
 abbrev pub in_hexadecimal : Style → Digits → ℕ → ℕ → ℕ → Action
 in_hexadecimal s d left n o = with_digit s d left n (hexadecimal_digit o)
 
+-- in a quoted text
 abbrev pub in_text : Style → Within → ℕ → Action
 in_text s within.Plain o = raw s o
 in_text s within.AfterReturn o = if o == line_feed then go (modes.Text s within.Plain) else raw s o
@@ -276,18 +287,21 @@ lob_start o =
     else (if o == single_quote then go (modes.Lob lobs.StartQuote)
     else in_blob o))
 
+-- behind the text of a short clob
 abbrev pub after_short : ℕ → Action
 after_short o =
     if is_white o then go (modes.Lob lobs.AfterShort)
     else (if o == close_brace then go (modes.Lob lobs.ClobClose)
     else refused)
 
+-- behind a segment of a long clob
 abbrev pub after_long : ℕ → Action
 after_long o =
     if is_white o then go (modes.Lob lobs.AfterLong)
     else (if o == close_brace then go (modes.Lob lobs.ClobClose)
     else third_quote o (modes.Lob lobs.AfterQuote))
 
+-- in a blob or a clob
 abbrev pub in_lob : Lob → ℕ → Action
 in_lob lobs.Start o = lob_start o
 in_lob lobs.StartQuote o = third_quote o (modes.Lob lobs.StartQuotes)
@@ -300,6 +314,7 @@ in_lob lobs.AfterQuote o = third_quote o (modes.Lob lobs.AfterQuotes)
 in_lob lobs.AfterQuotes o = third_quote o (modes.Text styles.LongClob within.Plain)
 in_lob lobs.ClobClose o = second_brace o kinds.Clob
 
+-- behind one `'`
 abbrev pub in_quote : ℕ → Action
 in_quote o = if o == single_quote then go modes.Quotes else raw styles.QuotedSymbol o
 
@@ -307,6 +322,7 @@ in_quote o = if o == single_quote then go modes.Quotes else raw styles.QuotedSym
 abbrev pub in_quotes : ℕ → Action
 in_quotes o = if o == single_quote then go (modes.Text styles.LongString within.Plain) else before kinds.QuotedSymbol
 
+-- behind one `{`
 abbrev pub in_brace : ℕ → Action
 in_brace o = if o == open_brace then go (modes.Lob lobs.Start) else before (kinds.Mark marks.FieldsOpen)
 

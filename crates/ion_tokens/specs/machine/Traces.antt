@@ -74,15 +74,18 @@ abbrev pub last_judged : Lexeme → ℕ → Result Content Reason → Result (Op
 last_judged l used (Ok c) = Ok (Some (record { start = l.start; end = l.end; says = c; total = used }))
 last_judged l used (Err e) = Err (record { offset = used; reason = e })
 
+-- what the end of the octets shows, judged: no token, the last one, or a refusal
 abbrev pub end_judged : ℕ → Result (Option Lexeme) Reason → Result (Option Told) Refusal
 end_judged used (Ok None) = Ok None
 end_judged used (Ok (Some l)) = last_judged l used (said l.kind l.octets)
 end_judged used (Err e) = Err (record { offset = used; reason = e })
 
+-- what a scanner says of octets that lead so far
 abbrev pub traced : Places → Trail → Trace
 traced places (Leads ts s) = record { told = ts; refused = None; ends = end_judged s.used (at_end (places ts) s) }
 traced places (Stops ts r) = record { told = ts; refused = Some r; ends = Err r }
 
+-- what a scanner says of octets from the first one on
 abbrev pub trace : Places → List ℕ → Trace
 trace places octets = traced places (over places octets [] initial)
 
@@ -97,6 +100,7 @@ pub record IsTraced (places : Places) (s : Known) (u : List ℕ) (ts : List Told
 abbrev pub told_as : Token → ℕ → Told
 told_as t total = record { start = t.start; end = t.end; says = content t.body; total = total }
 
+-- the token that a step gave, if it gave one
 abbrev pub told_by : Option Token → ℕ → List Told
 told_by None total = []
 told_by (Some t) total = told_as t total ∷ []
@@ -120,6 +124,7 @@ abbrev pub last_of : Option Token → ℕ → Option Told
 last_of None total = None
 last_of (Some t) total = Some (told_as t total)
 
+-- the end answered what the trace says of all octets; memory may run out
 abbrev pub EndsTrace : Place → Known → Result (Option Token) Refusal → Type 0
 EndsTrace p s (Ok token) =
     (places : Places) (u : List ℕ) (ts : List Told) → IsTraced places s u ts [] → places ts ≡ p

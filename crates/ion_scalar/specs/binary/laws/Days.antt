@@ -58,14 +58,17 @@ module _ (last : ℕ) (few : last ≤ 31) (octets : List ℕ) where
   refused (Err Incomplete) reason a e = e
   refused (Err _) reason a e = absurd a
 
+  -- a day up to 31 that the month has is read as one of the month
   pub day_read : (x : ℕ × ℕ) → read_field 1 31 octets ≡ Ok x → x.0 ≤ last → read_field 1 last octets ≡ Ok x
   unfolding read_field
   day_read x e most = within (var_uint octets) x (var_uint_answers octets) e most
 
+  -- a day up to 31 that the month doesn't have is malformed
   pub day_beyond : (x : ℕ × ℕ) → read_field 1 31 octets ≡ Ok x → last < x.0 → read_field 1 last octets ≡ Err Malformed
   unfolding read_field
   day_beyond x e more = beyond (var_uint octets) x (var_uint_answers octets) e more
 
+  -- what is refused as a day up to 31 is refused for the same reason as one of the month
   pub day_refused : (reason : Reason) → read_field 1 31 octets ≡ Err reason → read_field 1 last octets ≡ Err reason
   unfolding read_field
   day_refused reason e = refused (var_uint octets) reason (var_uint_answers octets) e

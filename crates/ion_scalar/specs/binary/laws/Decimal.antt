@@ -135,6 +135,7 @@ endless : (body : List ℕ) → ReachesInt body → decimal_of_body body ≡ Err
 endless [] r = absurd r
 endless (octet ∷ rest) r = begins_so (octet ∷ rest) (λ e. absurd cc) ∙ ap (with_exponent (octet ∷ rest)) (var_int_reaches (octet ∷ rest) r)
 
+-- an answer that says what the body is is the one that reading gives
 pub decimal_only : (body : List ℕ) (answer : Result DecimalParts Reason) → ReadsDecimalBody body answer → decimal_of_body body ≡ answer
 decimal_only body (Ok d) (is, kept) = decimal_body_read body d is kept
 decimal_only body (Err TooLarge) (inl (d, is, unkept)) = decimal_large body d is unkept
@@ -183,6 +184,7 @@ chosen : (b : Bool) (negative : Bool) (m : ℕ) (e : ℤ) → (b ≡ true → (n
 chosen true negative m e zero_is h = let z = zero_is refl in inl (refl, z.0, z.1, z.2)
 chosen false negative m e zero_is h = spelled negative m e h
 
+-- the octets that are written are the body of that decimal
 pub decimal_spelled : (d : DecimalParts) → InRange d.exponent → IsDecimalField (decimal_octets d) d
 decimal_spelled d h = chosen (is_zero d.negative d.magnitude d.exponent) d.negative d.magnitude d.exponent (zero_is d.negative d.magnitude d.exponent) h
 

@@ -18,6 +18,7 @@ has_body tag e = record {
   follows = row tag 14 (omega arith) ∙ e 14;
 }
 
+-- each row of the table holds of the descriptors
 pub table : IsTable
 unfolding descriptor_of
 table = record {

@@ -17,6 +17,7 @@ pub record HasBody (tag : ℕ) : Type 0 where
   pub known : (length : ℕ) → length < 14 → says tag length ≡ Ok (Body tag (Known length))
   pub follows : says tag 14 ≡ Ok (Body tag Follows)
 
+-- what each type code and length code say
 pub record IsTable : Type 0 where
   pub pad : (length : ℕ) → length < 14 → says 0 length ≡ Ok (Pad (Known length))
   pub long_pad : says 0 14 ≡ Ok (Pad Follows)

@@ -14,6 +14,7 @@ use Rattle.ion_scalar.specs.binary.laws.Spellings.{positional_digits_of}
 one_more : (d p : ℕ) → suc d * p ≡ d * p + p
 one_more d p = suc-mul d p
 
+-- a number of so many digits is below that power of the base
 pub positional_below : (base : ℕ) (ds : List ℕ) → AreBelow base ds → positional base ds < base ^ length ds
 positional_below base [] all = rw (pow-zero base) (omega arith)
 positional_below base (d ∷ ds) all =
@@ -63,6 +64,7 @@ last_below front last octets =
 front_of : (front : List ℕ) (last n : ℕ) → last < 128 → n ≡ positional 128 (front ++ last ∷ []) → n / 128 ≡ positional 128 front
 front_of front last n small value = omega (arith, value, positional_push 128 front last)
 
+-- no spelling of a VarUInt is shorter than the one that is written
 pub var_uint_fewest : (w : List ℕ) (n : ℕ) → AreBelow 256 w → VarUInt w n → length (var_uint_octets n) ≤ length w
 var_uint_fewest w n octets v =
     let small = last_below v.digits v.last (subst (AreBelow 256) v.octets octets) in
@@ -88,6 +90,7 @@ var_int_size negative n k one h =
       | inr large ↦ rw (le-ltb n 64 large) h
     ]
 
+-- no spelling of a VarInt is shorter than the one that is written
 pub var_int_fewest : (w : List ℕ) (negative : Bool) (n : ℕ) → AreBelow 256 w → VarInt w negative n → length (var_int_octets negative n) ≤ length w
 var_int_fewest _ _ _ octets (short octet high) =
     let below : octet < 256 = octets 0 (omega arith) in
@@ -105,6 +108,7 @@ var_int_fewest _ _ _ octets (long octet digits last low s bound) =
     var_int_size negative n (suc (length (digits ++ (128 + last) ∷ []))) (omega arith)
     (omega (arith, ap (λ m. length (signed_digits 64 negative (digits_of 128 m))) front))
 
+-- no spelling of a UInt is shorter than the one that is written
 pub uint_fewest : (w : List ℕ) → AreBelow 256 w → length (uint_octets (positional 256 w)) ≤ length w
 uint_fewest w octets = fewest_digits 256 w (omega arith) octets
 
@@ -116,6 +120,7 @@ int_size false n k h =
       | inr empty ↦ rw (le-ltb 0 n empty) (omega arith)
     ]
 
+-- no spelling of an Int is shorter than the one that is written
 pub int_fewest : (w : List ℕ) → AreBelow 256 w → length (int_octets (int_negative w) (int_magnitude w)) ≤ length w
 int_fewest [] octets = omega arith
 int_fewest (octet ∷ rest) octets =

@@ -54,6 +54,7 @@ nothing_if : (b : Bool) (xs : List ℕ) (n : ℕ) → length xs ≤ n → length
 nothing_if true xs n h = omega arith
 nothing_if false xs n h = h
 
+-- no body of a decimal is shorter than the one that is written
 pub decimal_fewest : (w : List ℕ) (d : DecimalParts) → AreBelow 256 w → IsDecimalField w d → length (decimal_octets d) ≤ length w
 decimal_fewest w d octets (inl (none, positive, zero_magnitude, zero_exponent)) = rw (positive, zero_magnitude, zero_exponent) (omega arith)
 decimal_fewest w d octets (inr p) =
@@ -253,6 +254,7 @@ utc_is body t b =
     let precision = b.precision in
     λ i. record { minute = sym minute i; second = (at i).second; fraction = (at i).fraction; precision = precision i }
 
+-- no body of a timestamp is shorter than the one that is written
 pub timestamp_fewest : (w : List ℕ) (t : TimestampParts) → AreBelow 256 w → IsTimestampBody w t → length (timestamp_octets t) ≤ length w
 unfolding timestamp_octets
 timestamp_fewest w t octets b =

@@ -13,6 +13,7 @@ use Rattle.ion_scalar.specs.binary.Reads.{Reaches, GoesOn}
 use Rattle.ion_scalar.specs.Positional.{positional_one}
 use Rattle.ion_scalar.specs.binary.VarEnds.{GoOn, ends_at, too_large_at}
 
+-- of digits of base 128 none ends a number
 pub digits_below : (ds : List ℕ) → Digits128 ds → GoOn ds (length ds)
 digits_below _ none k h = absurd (omega arith)
 digits_below _ (more ds d s small) k h =
@@ -28,6 +29,7 @@ digits_seven _ none = refl
 digits_seven _ (more ds d s small) =
     rw (map-append seven_bits ds (d ∷ []), digits_seven ds s, lt-leb 128 d small) refl
 
+-- the first octets are digits of base 128, where none of them ends a number
 pub digits_take : (os : List ℕ) (i : ℕ) → i ≤ length os → GoOn os i → Digits128 (take i os)
 digits_take os zero h on = none
 digits_take os (suc i) h on =
@@ -148,12 +150,14 @@ module _ (front : ℕ) (os : List ℕ) where
               absurd (omega (arith, positional_one 128 front))
         ]
 
+-- what an answer says of the rest of a number: it ends, or reaches 2^63, or has no end
 abbrev pub ReadsRest : ℕ → ℕ → List ℕ → Result (ℕ × ℕ) Reason → Type 0
 ReadsRest front used os (Ok read) = (count : ℕ) × (read.1 ≡ used + count) × Ended front os read.0 count
 ReadsRest front used os (Err TooLarge) = Reaches front os
 ReadsRest front used os (Err Incomplete) = GoesOn front os
 ReadsRest front used os (Err _) = ⊥
 
+-- each answer of reading the rest of a number says what the octets are
 pub rest_answers : (front used : ℕ) (os : List ℕ) → front < 2 ^ 63 → ReadsRest front used os (var_rest front used os)
 rest_answers front used os bound =
     let p = position_or_len is_last os in

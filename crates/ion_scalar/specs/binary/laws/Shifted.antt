@@ -51,6 +51,7 @@ module _ (d : Date) (low : 2 ≤ d.year) (high : d.year < last_year) where
     high_of _ (previous_day d) _ previous_stays.1 (high_of _ d (next_day d) most next_stays.1),
   )
 
+-- a minute of the years 2 to 9998 stays in the years 1 to 9999 when moved
 pub moved_stays : (m : Minute) (by : ℤ) → 2 ≤ m.date.year → m.date.year < last_year → (1 ≤ (moved m by).date.year) × ((moved m by).date.year ≤ last_year)
 unfolding moved
 moved_stays m by low high = day_stays m.date low high (unsigned_abs (pos (m.hour * 60 + m.minute + 1440) +ℤ by))
@@ -131,9 +132,11 @@ module _ (m : Minute) (by : ℤ) (h : IsMinute m) (o : IsOffset by) where
   unfolding moved count
   moved_at = refl
 
+  -- the minute that lies so many minutes later has the number that lies so many later
   pub moved_number : pos (minute_number (moved m by)) ≡ pos (minute_number m) +ℤ by
   moved_number = rw moved_at (omega (arith, ints, at_number m.date h.date count bound, count_is))
 
+  -- a moved minute is one of a day, if its year is one of 1 to 9999
   pub moved_minute : 1 ≤ (moved m by).date.year → (moved m by).date.year ≤ last_year → IsMinute (moved m by)
   moved_minute low high =
       let date = at_date m.date h.date count bound (rw moved_at at low) (rw moved_at at high) in
@@ -145,18 +148,21 @@ module _ (m : Minute) (by : ℤ) (h : IsMinute m) (o : IsOffset by) where
       let high = at_high m.date h.date count bound (omega (arith, ints, count_is, within.1)) in
       rw moved_at (low, high)
 
+-- moved to a number in the years 1 to 9999, a minute is one of a day, and has that number
 pub moved_is : (m : Minute) (by : ℤ) → IsMinute m → IsOffset by → InYears (pos (minute_number m) +ℤ by) → IsMinute (moved m by)
     × (pos (minute_number (moved m by)) ≡ pos (minute_number m) +ℤ by)
 moved_is m by h o within =
     let years = in_years m by h o within in
     (moved_minute m by h o years.0 years.1, moved_number m by h o)
 
+-- where the moved minute's year is one of 1 to 9999, its number is one of those years
 pub moved_out : (m : Minute) (by : ℤ) → IsMinute m → IsOffset by → 1 ≤ (moved m by).date.year → (moved m by).date.year ≤ last_year
     → InYears (pos (minute_number m) +ℤ by)
 moved_out m by h o low high =
     let is = moved_minute m by h o low high in
     rw (moved_number m by h o) at (minute-in_years (moved m by) is)
 
+-- moved to a number in the years 1 to 9999, a minute has such a year
 pub moved_years : (m : Minute) (by : ℤ) → IsMinute m → IsOffset by → InYears (pos (minute_number m) +ℤ by) → (1 ≤ (moved m by).date.year)
     × ((moved m by).date.year ≤ last_year)
 moved_years m by h o within = in_years m by h o within

@@ -35,6 +35,7 @@ abs_small : (z : ℤ) → IsOffset z → unsigned_abs z < 2 ^ 15
 abs_small (pos k) h = omega (arith, ints, h.1)
 abs_small (negsuc k) h = omega (arith, ints, h.0)
 
+-- an offset of less than a day is a signed number of 16 bits
 pub near_fits : (z : ℤ) → IsOffset z → FitsSigned w16 z
 near_fits z h = fits_signed_from_abs w16 z (abs_small z h)
 
@@ -103,6 +104,7 @@ module _ (utc : Utc) (h : IsUtc utc) (offset : Option ℤ) (o : IfSome offset Is
   near_by : IsOffset by
   near_by = near_kept utc.precision offset o
 
+  -- fields whose local minute isn't in the years 1 to 9999 are malformed
   pub shown_none : (InYears (pos (minute_number utc.minute) +ℤ minutes_ahead (kept_offset utc.precision offset)) → ⊥) → shown offset utc ≡ Err Malformed
   shown_none out =
       elim shown_cases [
@@ -113,6 +115,7 @@ module _ (utc : Utc) (h : IsUtc utc) (offset : Option ℤ) (o : IfSome offset Is
   abbrev Lies : Minute → Type 0
   Lies m = pos (minute_number m) ≡ pos (minute_number utc.minute) +ℤ minutes_ahead (kept_offset utc.precision offset)
 
+  -- fields are shown in the local minute that the offset leads to
   pub shown_some : (m : Minute) → IsMinute m → Lies m → shown offset utc ≡ Ok (parts m)
   shown_some m is number =
       let within = rw number at (minute-in_years m is) in
@@ -195,6 +198,7 @@ module _ (body : List ℕ) (t : TimestampParts) where
   offset_on (Err Incomplete) a e = absurd cc
   offset_on (Err _) a e = absurd a
 
+  -- a body that is read as a timestamp is its body
   pub timestamp_told : timestamp_of_body body ≡ Ok t → IsTimestampBody body t
   unfolding timestamp_of_body read_offset
   timestamp_told e = offset_on (var_int body) (var_int_answers body) e
@@ -226,6 +230,7 @@ shown_so t utc offset u o is precision same at =
     } in
     shown_some utc u offset o m (local_minute-is t is) number ∙ ap Ok whole
 
+-- a body of a timestamp is read as it
 pub timestamp_read : (body : List ℕ) (t : TimestampParts) → IsTimestampBody body t → timestamp_of_body body ≡ Ok t
 unfolding timestamp_of_body read_offset
 timestamp_read body t b =

@@ -22,6 +22,7 @@ number_is base front (d ∷ ds) =
     ∙ (ap (λ p. p * base ^ length ds + positional base ds) (sym (positional_two base front d))
     ∙ sym (positional-append base (front ∷ d ∷ []) ds))
 
+-- the digits of a number make that number
 pub positional_digits_of : (base n : ℕ) → 2 ≤ base → positional base (digits_of base n) ≡ n
 positional_digits_of base n b =
     let e = number_is base 0 (digits_of base n) in
@@ -42,6 +43,7 @@ last_digit : (n : ℕ) → positional 128 (digits_of 128 (n / 128) ++ n % 128 �
 last_digit n =
     positional_push 128 (digits_of 128 (n / 128)) (n % 128) ∙ rw (positional_digits_of 128 (n / 128) (omega arith)) (omega arith)
 
+-- the octets that are written are a VarUInt of that number
 pub var_uint_spelled : (n : ℕ) → n < 2 ^ 63 → VarUInt (var_uint_octets n) n
 var_uint_spelled n bound = record {
   digits = digits_of 128 (n / 128);
@@ -87,6 +89,7 @@ int_signed negative (d ∷ ds) =
 int_reads : (os : List ℕ) (negative : Bool) (n : ℕ) → n < 2 ^ 127 → (int_negative os ≡ negative) × (int_magnitude os ≡ n) → int_field os ≡ Ok (negative, n)
 int_reads os negative n bound e = rw (e.0, e.1, lt-ltb n (2 ^ 127) bound) refl
 
+-- the octets that are written as an Int have that sign and magnitude
 pub int_parts : (negative : Bool) (n : ℕ) → (int_negative (int_octets negative n) ≡ negative) × (int_magnitude (int_octets negative n) ≡ n)
 int_parts true n =
     let s = int_signed true (digits_of 256 n) in
@@ -162,6 +165,7 @@ only negative d f low =
     six_of : ℕ → ℕ
     six_of x = cond (nat_le 64 x) (x - 64) x
 
+-- the octets that are written are a VarInt of that sign and magnitude
 pub var_int_spelled : (negative : Bool) (n : ℕ) → n < 2 ^ 63 → VarInt (var_int_octets negative n) negative n
 var_int_spelled negative n bound =
     elim (cases_lt n 64) [

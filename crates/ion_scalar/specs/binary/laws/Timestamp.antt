@@ -51,6 +51,7 @@ in_range_told least most octets (Err TooLarge) x a e = absurd cc
 in_range_told least most octets (Err Incomplete) x a e = absurd cc
 in_range_told least most octets (Err _) x a e = absurd a
 
+-- what is read as a part is a VarUInt at the front, and lies in its range
 pub field_told : (least most : ℕ) (octets : List ℕ) (x : ℕ × ℕ) → read_field least most octets ≡ Ok x → Told least most octets x
 unfolding read_field
 field_told least most octets x e = in_range_told least most octets (var_uint octets) x (var_uint_answers octets) e
@@ -81,6 +82,7 @@ unfolding read_field
 field_read least most w rest n is low high = rw (var_uint_read w rest n is, le-leb least n low, le-leb n most high) refl
 
 module _ (least most : ℕ) (judge : ℕ → List ℕ → Result Utc Reason) (Behind : ℕ → List ℕ → Type 0) (answer : Result Utc Reason) where
+  -- octets that begin with a part in its range are judged by its number and what stands behind
   pub part_read : (octets : List ℕ) → ((n : ℕ) (rest : List ℕ) → least ≤ n → n ≤ most → Behind n rest → judge n rest ≡ answer) → Begins least most Behind octets
       → and_then octets judge (read_field least most octets) ≡ answer
   part_read octets behind b =
@@ -164,6 +166,7 @@ module _ (minute : Minute) (second : ℕ) (octets : List ℕ) (utc : Utc) where
             ]
           ]
 
+  -- a coefficient that is a fraction by its exponent is read as it
   pub fraction_read : (below : Bool) (power : ℕ) → IsFractionOf below power octets minute second utc
       → read_fraction minute second (signed_of below power) octets ≡ Ok utc
   unfolding read_fraction
@@ -241,6 +244,7 @@ unfolding read_behind_year
 year_told year utc [] e = inl (refl, cc)
 year_told year utc (o ∷ os) e = inr (part_told 1 last_month (o ∷ os) (read_behind_month year) _ utc (λ n rest low high. month_told year n utc rest) e)
 
+-- octets that are read as fields in UTC are those fields
 pub fields_told : (utc : Utc) (octets : List ℕ) → read_fields octets ≡ Ok utc → AreFields octets utc
 unfolding read_fields
 fields_told utc octets e = part_told 1 last_year octets read_behind_year _ utc (λ n rest low high. year_told n utc rest) e
@@ -297,6 +301,7 @@ year_read year utc octets (inl none) = rw (none.0, none.1) refl
 year_read year utc [] (inr b) = absurd (begins_some 1 last_month _ b)
 year_read year utc (o ∷ os) (inr b) = part_read 1 last_month (read_behind_month year) _ (Ok utc) (o ∷ os) (λ n rest low high. month_read year n utc rest) b
 
+-- octets that are fields in UTC are read as them
 pub fields_read : (utc : Utc) (octets : List ℕ) → AreFields octets utc → read_fields octets ≡ Ok utc
 unfolding read_fields
 fields_read utc octets b = part_read 1 last_year read_behind_year _ (Ok utc) octets (λ n rest low high. year_read n utc rest) b
@@ -351,5 +356,6 @@ year_is year octets utc y (inl none) =
     })
 year_is year octets utc y (inr b) = month_is year b.number b.rest utc y b.range b.behind
 
+-- fields in a body are those of a day and a time of day, and the ones not known are the least
 pub fields_are : (octets : List ℕ) (utc : Utc) → AreFields octets utc → IsUtc utc
 fields_are octets utc b = year_is b.number b.rest utc b.range b.behind

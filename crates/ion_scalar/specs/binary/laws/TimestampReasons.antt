@@ -327,6 +327,7 @@ answer_is body (Err _) e = elim (body_err body _ e) [
   | inr q ↦ absurd cc
 ]
 
+-- each answer of reading a timestamp's body says what the body is
 pub timestamp_answers : (body : List ℕ) → ReadsTimestampBody body (timestamp_of_body body)
 timestamp_answers body = answer_is body (timestamp_of_body body) refl
 
@@ -338,6 +339,7 @@ neither body (Err TooLarge) large none = absurd (none.1 large)
 neither body (Err Malformed) a none = refl
 neither body (Err _) a none = absurd a
 
+-- an answer that says what the body is is the one that reading gives
 pub timestamp_only : (body : List ℕ) (answer : Result TimestampParts Reason) → ReadsTimestampBody body answer → timestamp_of_body body ≡ answer
 timestamp_only body (Ok t) is = timestamp_read body t is
 timestamp_only body (Err TooLarge) large = body_large body large

@@ -164,6 +164,7 @@ module _ (t : TimestampParts) (h : IsTimestamp t) where
   abbrev local : Minute
   local = local_minute t.local
 
+  -- a timestamp's offset, counted back to UTC, is less than a day
   pub near_utc : IsOffset (neg_ℤ (minutes_ahead t.offset))
   near_utc = near_back t.offset (near_offset t.precision t.offset h.offset)
 
@@ -209,6 +210,7 @@ module _ (t : TimestampParts) (h : IsTimestamp t) where
         is = h;
       }
 
+  -- a timestamp that is written is read back
   pub timestamp_again : timestamp_of_body (timestamp_octets t) ≡ Ok t
   timestamp_again = timestamp_read (timestamp_octets t) t timestamp_spelled
 
@@ -223,6 +225,7 @@ cut_small (precisions.Fraction digits) l cut =
     let most : 10 ^ digits ≤ 10 ^ most_digits = pow-le-pow_right (omega arith) cut.1 in
     omega (arith, most, cut.2)
 
+-- a timestamp's fraction is below 2^127
 pub fraction_small : (t : TimestampParts) → IsTimestamp t → t.local.fraction < 2 ^ 127
 fraction_small t h = cut_small t.precision t.local h.cut
 

@@ -27,6 +27,7 @@ small octets all few =
     let most : 256 ^ length octets ≤ 256 ^ 15 = pow-le-pow_right (omega arith) short in
     omega (arith, below, most)
 
+-- a UInt of fewer than 16 octets is read
 pub usual_uint : (octets : List ℕ) → AreBelow 256 octets → length octets < 16 → is_ok (uint_field octets) ≡ true
 usual_uint octets all few = rw (lt-ltb (positional 256 octets) (2 ^ 127) (small octets all few)) refl
 
@@ -72,6 +73,7 @@ far_shown offset (Ok utc) far =
     rw (le-leb 1 (moved utc.minute by).date.year years.0, le-leb (moved utc.minute by).date.year last_year years.1) refl
 far_shown offset (Err reason) far = absurd far
 
+-- a body is read where its offset is and its fields are, of a year from 2 to 9998
 pub usual_timestamp : (body : List ℕ) (offset : Option ℤ) (used : ℕ) → Ok (offset, used) ≡ read_offset body → IsOkAnd (read_fields (drop used body)) FarFromEnds
     → is_ok (timestamp_of_body body) ≡ true
 unfolding timestamp_of_body

@@ -62,10 +62,12 @@ var_int_answers (octet ∷ rest) =
       | inr high ↦ subst (ReadsVarInt (octet ∷ rest)) (sym (ends_here octet rest high)) (record { within = omega arith; is = short octet high })
     ]
 
+-- what reaches 2^63 as a VarInt is refused as too large
 pub var_int_reaches : (os : List ℕ) → ReachesInt os → var_int os ≡ Err TooLarge
 var_int_reaches [] r = absurd r
 var_int_reaches (octet ∷ rest) (low, r) = goes_on octet rest low ∙ ap (with_sign (is_negative octet)) (rest_reaches (six_bits octet) 1 rest r)
 
+-- the beginning of a VarInt that no octet ends is incomplete
 pub var_int_goes_on : (os : List ℕ) → GoesOnInt os → var_int os ≡ Err Incomplete
 var_int_goes_on [] g = refl
 var_int_goes_on (octet ∷ rest) (low, g) = goes_on octet rest low ∙ ap (with_sign (is_negative octet)) (rest_goes_on (six_bits octet) 1 rest g)

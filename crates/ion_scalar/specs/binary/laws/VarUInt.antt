@@ -30,6 +30,7 @@ module _ (os : List ℕ) where
 pub var_uint_answers : (os : List ℕ) → ReadsVarUInt os (var_uint os)
 var_uint_answers os = answers os (var_uint os) (rest_answers 0 0 os (omega arith))
 
+-- what reaches 2^63 as a VarUInt is refused as too large
 pub var_uint_reaches : (os : List ℕ) → Reaches 0 os → var_uint os ≡ Err TooLarge
 var_uint_reaches os r = rest_reaches 0 0 os r
 

@@ -46,6 +46,7 @@ magnitude os =
 
 -- 2. What stands behind the whole part of a decimal or a float.
 
+-- whether octets are digits without `_` is decided
 pub plain : (os : List ℕ) → Dec (IsPlain os)
 plain os = both (digits 10 os) (ℕ_discrete (length (digits_in os)) (length os))
 
@@ -173,6 +174,7 @@ number_behind negative body (inr d) = (numbers.Decimal (record { negative = nega
 behind : (negative : Bool) (body : List ℕ) → Dec (SomeBehind negative body)
 behind negative body = map_dec (number_behind negative body) (λ h. behind_parts negative body h.0 h.1) (either (magnitude body) (decimal false body))
 
+-- the token spells some int or decimal
 abbrev pub SomeNumeral : List ℕ → Type 0
 SomeNumeral token = (x : Number) × IsNumeral token x
 
@@ -184,6 +186,7 @@ numeral token =
     (λ h. let i = h.1 in record { negative = i.negative; body = i.body; octets = i.octets; is = (h.0, i.is) })
     (some_behind SomeBehind behind token)
 
+-- whether a token is a float with an exponent is decided
 pub float : (token : List ℕ) → Dec (IsFloat token)
 float token =
     map_dec

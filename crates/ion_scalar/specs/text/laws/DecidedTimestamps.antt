@@ -78,6 +78,7 @@ Form os = IsYear os ⊎ (IsMonth os ⊎ (IsDay os ⊎ ((BeginsWithMinute os × I
 form : (os : List ℕ) → Dec (Form os)
 form os = either (is_year os) (either (is_month os) (either (is_day os) (either (is_minute os) (either (is_second os) (is_fraction os)))))
 
+-- the token spells the parts of some timestamp
 abbrev pub SomeTimestamp : List ℕ → Type 0
 SomeTimestamp os = (t : TimestampParts) × IsTimestampToken os t
 
@@ -102,6 +103,7 @@ timestamp_form os _ (second h o) = inr (inr (inr (inr (inl (h, o)))))
 timestamp_form os _ (fraction h p digits rest e) = inr (inr
     (inr (inr (inr (h, p, record { front = digits; rest = rest; octets = e.cut; is = (e.plain, e.offset) })))))
 
+-- whether octets are the token of a timestamp is decided
 pub timestamp : (os : List ℕ) → Dec (SomeTimestamp os)
 timestamp os = map_dec (form_timestamp os) (λ h. timestamp_form os h.0 h.1) (form os)
 
@@ -154,11 +156,13 @@ offset_there (precisions.Fraction digits) (Some z) = near z
 in_years : (z : ℤ) → Dec (InYears z)
 in_years z = both (at_most (pos (first_day * 1440)) z) (below z (pos ((last_day + 1) * 1440)))
 
+-- whether there is a day and time with such parts is decided
 pub there : (t : TimestampParts) → Dec (IsTimestamp t)
 there t =
     map_dec (λ p. record { date = p.0; time = p.1; cut = p.2; offset = p.3; years = p.4 }) (λ h. (h.date, h.time, h.cut, h.offset, h.years))
     (five (date (local_date t.local)) (time t.local) (cut_there t.precision t.local) (offset_there t.precision t.offset) (in_years (utc_minute t)))
 
+-- whether a precision has at most 38 fraction digits is decided
 pub short : (p : Precision) → Dec (IsShort p)
 short precisions.Year = yes tt
 short precisions.Month = yes tt

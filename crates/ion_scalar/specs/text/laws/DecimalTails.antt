@@ -31,11 +31,13 @@ front base zero os h n = h
 front base (suc k) [] h n = h
 front base (suc k) (c ∷ os) h n = absurd (omega (arith, first_digit base c (take k os) h))
 
+-- what doesn't go on with digits begins with none
 pub none_first : (base : ℕ) (os : List ℕ) → GoesNotOn base os → BeginsWithNone base os
 none_first base [] h = tt
 none_first base (c ∷ []) h = h
 none_first base (c ∷ d ∷ os) h = h.0
 
+-- what begins with no digit doesn't begin with a run of digits
 pub begins_front : (base : ℕ) (f rest : List ℕ) → IsDigits base f → BeginsWithNone base (f ++ rest) → ⊥
 begins_front base [] rest h n = h
 begins_front base (c ∷ f) rest h n = absurd (omega (arith, first_digit base c f h))
@@ -55,15 +57,18 @@ one_cut (suc k) os f rest float s n h b g (inr digits) e cut =
     one_run 10 f (take (suc k) os) rest (drop (suc k) os) (omega arith) digits (h (omega arith)) (end_stops rest float s n e) (g (omega arith))
     (sym cut ∙ sym (take-append-drop (suc k) os))
 
+-- where the fronts of two cuts are the same, so are the rests
 pub one_rest : (used : ℕ) (os f rest : List ℕ) → f ≡ take used os → os ≡ f ++ rest → rest ≡ drop used os
 one_rest used os f rest e cut = append_cancel_left (take used os) rest (drop used os)
     (sym (ap (λ (x : List ℕ). x ++ rest) e) ∙ (sym cut ∙ sym (take-append-drop used os)))
 
+-- behind a point the digits at the front, or none, and an end are a fraction
 pub fraction_is : (os : List ℕ) (used : ℕ) (float s : Bool) (n : ℕ) → (0 < used → IsDigits 10 (take used os)) → IsEnd (drop used os) float s n
     → IsFraction os (take used os) float s n
 fraction_is os zero float s n h e = record { rest = os; cut = refl; digits = inl refl; exponent = e }
 fraction_is os (suc k) float s n h e = record { rest = drop (suc k) os; cut = sym (take-append-drop (suc k) os); digits = inr (h (omega arith)); exponent = e }
 
+-- behind a point octets with no end behind the run of digits at the front are no fraction
 pub no_fraction : (os : List ℕ) (used : ℕ) (f : List ℕ) (float s : Bool) (n : ℕ) → (0 < used → IsDigits 10 (take used os)) → BeginsWithNone 10 (drop used os)
     → (0 < used → GoesNotOn 10 (drop used os))
     → ((float s : Bool) (n : ℕ) → IsEnd (drop used os) float s n → ⊥) → IsFraction os f float s n → ⊥
@@ -71,12 +76,14 @@ no_fraction os used f float s n h b g ends p =
     let same = one_rest used os f p.rest (one_cut used os f p.rest float s n h b g p.digits p.exponent p.cut) p.cut in
     ends float s n (let P : List ℕ → Type 0 = λ x. IsEnd x float s n in subst P same p.exponent)
 
+-- a point with no fraction behind it begins no tail
 pub no_tail_pointed : (tail f : List ℕ) (float s : Bool) (n : ℕ) → get_or tail 0 0 ≡ 46
     → ((f : List ℕ) (float s : Bool) (n : ℕ) → IsFraction (drop 1 tail) f float s n → ⊥) → IsTail tail f float s n → ⊥
 no_tail_pointed [] f float s n dot none h = h
 no_tail_pointed (c ∷ os) f float s n dot none (inl p) = none f float s n p.1
 no_tail_pointed (c ∷ os) f float s n dot none (inr p) = absurd ((letter float c (p.1.0)).2 dot)
 
+-- octets that begin neither with a point nor as an exponent are no tail
 pub no_tail : (tail f : List ℕ) (float s : Bool) (n : ℕ) → get_or tail 0 0 ≢ 46 → ((float s : Bool) (n : ℕ) → IsExponent tail float s n → ⊥)
     → IsTail tail f float s n → ⊥
 no_tail [] f float s n dot none h = h

@@ -10,6 +10,7 @@ use Rattle.ion_scalar.specs.binary.Fields.{positional}
 use Rattle.ion_scalar.specs.Positional.{positional_push}
 use Rattle.ion_scalar.specs.text.Ints.{IsDigits, GoesNotOn, BeginsWithNone, digits_in, continued}
 
+-- a run of digits with a digit more is a run of digits
 pub digits_push : (base : ℕ) (os : List ℕ) (c : ℕ) → IsDigits base os → digit_value c < base → IsDigits base (os ++ c ∷ [])
 digits_push base [] c h d = d
 digits_push base (a ∷ []) c h d = (h, inl d)
@@ -43,9 +44,11 @@ digits_in-append xs ys = ap (map digit_value) (filter-append (λ c. not (c == 95
 pub not_mark : (base c : ℕ) → base ≤ 16 → digit_value c < base → c ≢ 95
 not_mark base c h d e = let P : ℕ → Type 0 = λ x. digit_value x < base in absurd (omega (arith, subst P e d))
 
+-- one digit alone has its value as the only one
 pub digits_in_one : (base c : ℕ) → base ≤ 16 → digit_value c < base → digits_in (c ∷ []) ≡ digit_value c ∷ []
 digits_in_one base c h d = rw (ne_eqb c 95 (not_mark base c h d)) refl
 
+-- a digit behind has its value behind those of the others
 pub digits_in_push : (base c : ℕ) (os : List ℕ) → base ≤ 16 → digit_value c < base → digits_in (os ++ c ∷ []) ≡ digits_in os ++ digit_value c ∷ []
 digits_in_push base c os h d = digits_in-append os (c ∷ []) ∙ ap (λ (x : List ℕ). digits_in os ++ x) (digits_in_one base c h d)
 
@@ -74,6 +77,7 @@ pub record Run (base before : ℕ) (os : List ℕ) (value count : ℕ) : Type 0 
   pub counts : value ≡ min (continued base before os) (2 ^ 127)
   pub many : count ≡ length (digits_in os)
 
+-- a digit more goes on with the run: its number, capped at 2^127, and the count of its digits
 pub Run_more : (base before d value count : ℕ) (os longer : List ℕ) → 0 < base → digits_in longer ≡ digits_in os ++ d ∷ [] → Run base before os value count
     → Run base before longer (min (value * base + d) (2 ^ 127)) (count + 1)
 Run_more base before d value count os longer h e r =
@@ -125,6 +129,7 @@ begins base at os h =
       | inr le ↦ rw (drop_all at os le) tt
     ]
 
+-- where the next place has no digit, the octets behind the run don't go on with one
 pub run_end : (base used at : ℕ) (os : List ℕ) → base ≤ 16 → Place os used at → (at < length os → base ≤ digit_value (get_or os at 0))
     → BeginsWithNone base (drop used os) × (0 < used → GoesNotOn base (drop used os))
 run_end base used at os b (inl here) h =

@@ -277,6 +277,7 @@ no_there token none h (numbers.Timestamp t) is = h t is
 no_there token none h (numbers.Int z) is = absurd (none (numbers.Int z) is)
 no_there token none h (numbers.Decimal d) is = absurd (none (numbers.Decimal d) is)
 
+-- of a token that is no int, decimal or float, the forms of a timestamp alone decide
 pub stamp_answer : (token : List ℕ) (r : Result Number Reason) → ReadsNumeral token (Err Malformed) → ReadsTimestamp token r → ReadsNumber token r
 stamp_answer token (Ok (numbers.Timestamp t)) n h = (h.0, there_short t (h.1), h.1)
 stamp_answer token (Ok (numbers.Int z)) n h = absurd h

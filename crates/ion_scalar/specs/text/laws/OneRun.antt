@@ -5,10 +5,12 @@ use Rattle.std.proofs.lemmas.List.{take-append-drop, append-nil, length-take-le}
 use Rattle.ion_scalar.specs.text.laws.DigitRuns.{not_mark}
 use Rattle.ion_scalar.specs.text.Ints.{IsDigits, GoesNotOn, BeginsWithNone}
 
+-- the first octet of a run of digits is a digit
 pub first_digit : (base c : ℕ) (os : List ℕ) → IsDigits base (c ∷ os) → digit_value c < base
 first_digit base c [] h = h
 first_digit base c (d ∷ os) h = h.0
 
+-- a run of digits doesn't begin with an octet that is none
 pub none_begins : (base : ℕ) (os : List ℕ) → IsDigits base os → BeginsWithNone base os → ⊥
 none_begins base [] h n = h
 none_begins base (c ∷ os) h n = absurd (omega (arith, first_digit base c os h))
@@ -26,6 +28,7 @@ longer base c d (e ∷ os) rest b h n =
       | inr mark ↦ absurd (omega (arith, first_digit base e os mark.1, n.1 mark.0))
     ]
 
+-- two runs of digits at the front of octets, neither of which goes on, are the same
 pub one_run : (base : ℕ) (xs ys x y : List ℕ) → base ≤ 16 → IsDigits base xs → IsDigits base ys → GoesNotOn base x → GoesNotOn base y → xs ++ x ≡ ys ++ y
     → xs ≡ ys
 one_run base [] ys x y b hx hy nx ny e = absurd hx
@@ -55,6 +58,7 @@ one_run base (c ∷ d ∷ xs) (c' ∷ d' ∷ ys) x y b hx hy nx ny e =
 pub whole_run : (base used : ℕ) (os : List ℕ) → base ≤ 16 → IsDigits base (take used os) → GoesNotOn base (drop used os) → IsDigits base os → take used os ≡ os
 whole_run base used os b h n all = one_run base (take used os) os (drop used os) [] b h all n tt (take-append-drop used os ∙ sym (append-nil os))
 
+-- a run that doesn't go on is all the octets, where these are digits as a whole
 pub all_used : (base used : ℕ) (os : List ℕ) → base ≤ 16 → used ≤ length os → IsDigits base (take used os) → GoesNotOn base (drop used os) → IsDigits base os
     → used ≡ length os
 all_used base used os b within h n all =

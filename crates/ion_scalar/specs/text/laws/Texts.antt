@@ -25,6 +25,7 @@ pub record Spells (n : ℕ) (ds : List ℕ) : Type 0 where
   pub some : 0 < length ds
   pub first : 0 < n → get_or ds 0 0 ≢ 48
 
+-- a digit that is written has its value
 pub digit_of : (d : ℕ) → d < 10 → digit_value (48 + d) ≡ d
 digit_of d h = omega (arith, digit_value_digit (48 + d) (omega arith, omega arith))
 
@@ -128,5 +129,6 @@ power_is : (e : ℤ) → IsPower e → IsWhole e
 power_is (pos n) h = omega (arith, ints, h.1)
 power_is (negsuc n) h = omega (arith, ints, h.0)
 
+-- the text of a decimal that is kept is read as it
 pub decimal_reads : (d : DecimalParts) → IsDecimal d → ReadsNumber (number_text (numbers.Decimal d)) (Ok (numbers.Decimal d))
 decimal_reads d h = (decimal_is d h.0 (power_is d.exponent (h.1, h.2)), h, tt)

@@ -46,6 +46,7 @@ no_minute os b colon offset _ (minute h o) = offset o
 no_minute os b colon offset _ (second h o) = colon h.1
 no_minute os b colon offset _ (fraction h p digits rest e) = colon h.1
 
+-- a minute, a colon and no two digits behind it are no timestamp
 pub no_second_digits : (os : List ℕ) → BeginsWithMinute os → IsAt os 16 58 → (AreTwoAt os 17 → ⊥) → (t : TimestampParts) → IsTimestampToken os t → ⊥
 no_second_digits os b colon none _ (year h) = omega (arith, long os b, h.0)
 no_second_digits os b colon none _ (month h) = omega (arith, long os b, h.0)
@@ -54,6 +55,7 @@ no_second_digits os b colon none _ (minute h o) = no_offset_colon os 16 colon o
 no_second_digits os b colon none _ (second h o) = none h.2
 no_second_digits os b colon none _ (fraction h p digits rest e) = none h.2
 
+-- a minute, a colon, and at the place behind a second neither a point nor an offset are no timestamp
 pub no_second : (os : List ℕ) → BeginsWithMinute os → IsAt os 16 58 → (IsAt os 19 46 → ⊥) → (IsOffsetToken (drop 19 os) → ⊥) → (t : TimestampParts)
     → IsTimestampToken os t → ⊥
 no_second os b colon point offset _ (year h) = omega (arith, long os b, h.0)
@@ -63,6 +65,7 @@ no_second os b colon point offset _ (minute h o) = no_offset_colon os 16 colon o
 no_second os b colon point offset _ (second h o) = offset o
 no_second os b colon point offset _ (fraction h p digits rest e) = point p
 
+-- behind the point of a second, what isn't digits and an offset makes no timestamp
 pub no_fraction_end : (os : List ℕ) → BeginsWithMinute os → IsAt os 16 58 → IsAt os 19 46
     → ((digits rest : List ℕ) → IsFractionEnd (drop 20 os) digits rest → ⊥) → (t : TimestampParts) → IsTimestampToken os t → ⊥
 no_fraction_end os b colon point none _ (year h) = omega (arith, long os b, h.0)
@@ -76,6 +79,7 @@ no_fraction_end os b colon point none _ (fraction h p digits rest e) = none digi
 abbrev pub Shown : List ℕ → Stamp → Type 0
 Shown os s = (t : TimestampParts) × IsTimestampToken os t × (s ≡ stamp t)
 
+-- what is read of a minute where an offset stands behind it is what the token spells
 pub minute_some : (os : List ℕ) (l : Local) (r : Option Stamp) → BeginsWithMinute os → l ≡ minute_read os
     → SomeIff r (IsOffsetToken (drop 16 os)) (record { local = l; precision = precisions.Minute; offset = offset_read (drop 16 os) }) → IfSome r (Shown os)
 minute_some os l None b e h = tt
@@ -86,6 +90,7 @@ minute_some os l (Some s) b e h = (
       ∙ (λ i. record { local = e i; precision = precisions.Minute; offset = offset_read (drop 16 os) }),
 )
 
+-- what is read of a second where an offset stands behind it is what the token spells
 pub second_some : (os : List ℕ) (l : Local) (r : Option Stamp) → BeginsWithMinute os → IsAt os 16 58 → AreTwoAt os 17
     → l ≡ record (minute_read os) { second = two os 17 }
     → SomeIff r (IsOffsetToken (drop 19 os)) (record { local = l; precision = precisions.Second; offset = offset_read (drop 19 os) }) → IfSome r (Shown os)
@@ -106,6 +111,7 @@ ShownEnd l os s = (digits rest : List ℕ) × IsFractionEnd os digits rest
       offset = offset_read rest;
     })
 
+-- what is read of a second with a fraction and an offset is what the token spells
 pub fraction_some : (os : List ℕ) (l : Local) (r : Option Stamp) → BeginsWithMinute os → IsAt os 16 58 → AreTwoAt os 17 → IsAt os 19 46
     → l ≡ record (minute_read os) { second = two os 17 }
     → IfSome r (ShownEnd l (drop 20 os)) → IfSome r (Shown os)
@@ -123,10 +129,12 @@ fraction_some os l (Some s) b colon two_there point e h =
       }),
     )
 
+-- where no answer is given its condition fails, and what follows from that holds
 pub none_some : (r : Option Stamp) (P : Type 0) (v : Stamp) (Q : Type 0) → SomeIff r P v → ((P → ⊥) → Q) → IfNone r Q
 none_some None P v Q h q = q h
 none_some (Some s) P v Q h q = tt
 
+-- where a clause claims something of no answer, what follows from that holds there, too
 pub none_map : (r : Option Stamp) (P Q : Type 0) → IfNone r P → (P → Q) → IfNone r Q
 none_map None P Q h q = q h
 none_map (Some s) P Q h q = tt
@@ -152,6 +160,7 @@ fraction_cut os digits rest (suc k) d b g e =
     (g (omega arith)) (sym e.cut ∙ sym (take-append-drop (suc k) os)) in
     (omega arith, same, one_rest (suc k) os digits rest same e.cut)
 
+-- behind a point, no digits, digits with `_`, or no offset behind them are no end of a timestamp
 pub no_end : (os digits rest : List ℕ) (used count : ℕ) → (0 < used → IsDigits 10 (take used os)) → BeginsWithNone 10 (drop used os)
     → (0 < used → GoesNotOn 10 (drop used os)) → used ≤ length os → count ≡ length (digits_in (take used os))
     → (used ≡ 0) ⊎ ((count ≡ used → ⊥) ⊎ (IsOffsetToken (drop used os) → ⊥)) → IsFractionEnd os digits rest → ⊥
@@ -163,6 +172,7 @@ no_end os digits rest used count d b g within many (inr (inr offset)) e =
     let c = fraction_cut os digits rest used d b g e in
     offset (subst IsOffsetToken (c.2) e.offset)
 
+-- plain digits and the offset behind them are read as a fraction's end, both numbers capped
 pub end_some : (os : List ℕ) (l : Local) (used count value shown : ℕ) (r : Option Stamp) → IsDigits 10 (take used os) → used ≤ length os
     → count ≡ length (digits_in (take used os)) → count ≡ used → value ≡ min (continued 10 0 (take used os)) (2 ^ 127)
     → shown ≡ min count (most_digits + 1) → SomeIff r (IsOffsetToken (drop used os))
@@ -179,6 +189,7 @@ end_some os l used count value shown (Some s) d within many all v c h =
       h.1 ∙ (λ i. record { local = record l { fraction = number_of i }; precision = precisions.Fraction (capped i); offset = offset_read (drop used os) }),
     )
 
+-- an answer that is given where a token has a form is what the token spells
 pub shown_where : (os : List ℕ) (t : TimestampParts) (r : Option Stamp) (P : Type 0) → SomeIff r P (stamp t) → (P → IsTimestampToken os t) → IfSome r (Shown os)
 shown_where os t None P h is = tt
 shown_where os t (Some s) P h is = (t, is (h.0), h.1)
@@ -337,6 +348,7 @@ none_there os t s is e short none x other =
     let P : TimestampParts → Type 0 = λ y. IsShort y.precision × (IsTimestamp y → ⊥) in
     subst P one (k.0, λ i. none (subst IsTimestamp k.1 i))
 
+-- parts that equal those of a token, and that are a timestamp, are what the token spells
 pub made : (os : List ℕ) (t x y : TimestampParts) → IsTimestampToken os t → t ≡ y → IsTimestamp y × (x ≡ y) → IsTimestampToken os x × IsTimestamp x
 made os t x y is e h = (subst (IsTimestampToken os) (e ∙ sym (h.1)) is, subst IsTimestamp (sym (h.1)) (h.0))
 
@@ -348,6 +360,7 @@ cut_short precisions.Minute l h = tt
 cut_short precisions.Second l h = tt
 cut_short (precisions.Fraction digits) l h = h.1
 
+-- a timestamp has at most 38 fraction digits
 pub there_short : (t : TimestampParts) → IsTimestamp t → IsShort t.precision
 there_short t h = cut_short t.precision t.local h.cut
 

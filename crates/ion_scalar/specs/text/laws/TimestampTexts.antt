@@ -22,6 +22,7 @@ use Rattle.ion_scalar.specs.text.laws.TimestampForms.{there_short}
 use Rattle.ion_scalar.specs.text.laws.DigitRuns.{digits_push, digits_in_push, digits_in_one}
 use Rattle.ion_scalar.specs.text.laws.Texts.{digit_of}
 
+-- the last digit of a number of so many digits goes in front of what stands
 pub padded_step : (w n : ℕ) (tail more text : List ℕ) → padded (suc w) n ++ tail ≡ text → more ≡ (48 + n % 10) ∷ tail → padded w (n / 10) ++ more ≡ text
 padded_step w n tail more text e m = ap (λ (x : List ℕ). padded w (n / 10) ++ x) m ∙ (sym (append_assoc (padded w (n / 10)) ((48 + n % 10) ∷ []) tail) ∙ e)
 

@@ -57,6 +57,7 @@ based_tail float base (c ∷ x ∷ ds) (a ∷ w) tail f s n h cut (inl one) t =
     let P : List ℕ → Type 0 = λ y. IsTail y f float s n in
     no_letter float x (tail_first x ds f float s n (subst P e t)) base h.1
 
+-- `0` and the letter of a base begin no decimal and no float
 pub based_decimal : (float : Bool) (base : ℕ) (body : List ℕ) (m : ℕ) (e : ℤ) → HasBase base body → IsDecimalBody float body m e → ⊥
 based_decimal float base body m e h d = based_tail float base body d.whole d.tail d.fraction d.below d.written h d.octets d.is_whole d.is_tail
 
@@ -193,6 +194,7 @@ pub no_plain_tail : (negative : Bool) (body : List ℕ) (used : ℕ) → ((base 
 no_plain_tail negative body used no_base more only none =
     (no_tail_number negative body used no_base more only none, λ f. no_body true body used f.magnitude f.exponent only none f.is)
 
+-- a whole part and a tail with the letter of a float are a float
 pub float_body : (body : List ℕ) (used v : ℕ) (t : Tail) → IsWholePart (take used body) → Shows (IsTail (drop used body)) v t → t.float ≡ true
     → IsFloatBody body
 float_body body used v t w s float =
@@ -209,6 +211,7 @@ whole_magnitude body used v all w value =
     let k = subst P e (w, value) in
     (inl (k.0, refl), k.1)
 
+-- digits of the base that is announced are an int of their number
 pub base_magnitude : (base : ℕ) (body : List ℕ) → HasBase base body → IsDigits base (drop 2 body) → IsMagnitude body (number base (drop 2 body))
 base_magnitude base body h d = inr (base_radix base body h d)
 
@@ -216,6 +219,7 @@ none_whole : IsWholePart [] → ⊥
 none_whole (inl one) = cc
 none_whole (inr some) = some.0
 
+-- behind 0 digits make their own number
 pub continued_none : (base : ℕ) (os : List ℕ) → continued base 0 os ≡ number base os
 continued_none base os = omega arith
 
@@ -240,11 +244,13 @@ one_sign true false token body (c ∷ other) b e f first = absurd (first c other
 one_sign false true [] body other b e f first = cc
 one_sign false true (c ∷ token) body other b e f first = absurd (false≢true (b.1 cc))
 
+-- what stands behind a sign doesn't begin with `-`
 pub behind_first : (negative : Bool) (c : ℕ) (os : List ℕ) (x : Number) → IsBehind negative (c ∷ os) x → c ≢ 45
 behind_first negative c os (numbers.Int z) is = no_sign c os is.0 is.1
 behind_first negative c os (numbers.Timestamp t) is = absurd is
 behind_first negative c os (numbers.Decimal d) is = decimal_first false c os d.magnitude d.exponent is.1
 
+-- what a token spells as an int or a decimal, its octets behind the sign are with that sign
 pub number_behind : (negative : Bool) (token body : List ℕ) (x : Number) → BeginsWithMinus negative token → token ≡ minus negative ++ body → IsNumeral token x
     → IsBehind negative body x
 number_behind negative token body x b e i =
@@ -255,6 +261,7 @@ number_behind negative token body x b e i =
     let Q : List ℕ → Type 0 = λ y. IsBehind negative y x in
     subst Q one.1 (subst P (sym one.0) i.is)
 
+-- a float's octets behind the sign are those of a float
 pub float_behind : (negative : Bool) (token body : List ℕ) → BeginsWithMinus negative token → token ≡ minus negative ++ body → IsFloat token → IsFloatBody body
 float_behind negative token body b e i =
     let first : (c : ℕ) (os : List ℕ) → i.body ≡ c ∷ os → c ≢ 45 = λ c os same. let f = i.is in let P : List ℕ → Type 0 =
