@@ -2,7 +2,8 @@
 use Rattle.std.proofs.Common.{◌≡◌, ℕ, ◌+◌, ◌*◌, ◌<◌, zero, suc, Bool, true, false, List, [], ◌∷◌, ◌++◌, length, take, ap, ◌∙◌, sym, refl, subst, arith, eq-eqb, ne_eqb, Result, Ok, Err, Option, Some, None, option_map, IfOk, IfErr, IsSome, slice_get}
 use Rattle.ion_model.specs.declared.value.Value.{Value}
 use Rattle.ion_atoms.specs.declared.refusal.Refusal.{Refusal}
-use Rattle.ion_symtab.specs.Trace.{Trace, Answers, Finishes, UsesAll, given_at}
+use Rattle.ion_symtab.specs.Trace.{Trace, Answers, Finishes, given_at}
+use Rattle.ion_symtab.specs.Steps.{StepsOver}
 use Rattle.ion_symtab.specs.declared.items.Step.{Step}
 use Rattle.ion_symtab.specs.declared.items.Passed.{Passed}
 use Rattle.ion_model.specs.Outlines.{outline_of}
@@ -157,9 +158,9 @@ some_used b [] used value begins all progress = absurd begins
 some_used b (first ∷ rest) used None begins all progress = let e = all refl in omega (arith, e)
 some_used b (first ∷ rest) used (Some v) begins all progress = let e = progress refl in omega (arith, e)
 
-pub first_used : (b : Bool) (piece : List ℕ) (result : Result Step Refusal) (pending : ℕ) → pending ≡ 0 → Begins b piece → IfOk result (UsesAll piece)
-    → (new : ℕ) → IfOk result (λ step. IsSome step.value → new < pending + 2 * step.used) →
-    IfOk result (λ step. 0 < step.used)
-first_used b piece (Ok step) pending none begins all new progress =
-    some_used b piece step.used step.value begins all (λ some. let h = progress some in omega (arith, h, none))
-first_used b piece (Err refusal) pending none begins all new progress = tt
+module _ {X : Type 0} {taken pending : X → ℕ} {awaits : X → Option ℕ} {failed : X → Option Refusal} where
+  pub first_used : (b : Bool) (old new : X) (piece : List ℕ) (result : Result Step Refusal) → pending old ≡ 0 → Begins b piece →
+      IfOk result (λ step. StepsOver taken pending awaits failed old new piece step.used step.value) → IfOk result (λ step. 0 < step.used)
+  first_used b old new piece (Ok step) none begins leaves =
+      some_used b piece step.used step.value begins leaves.uses_all (λ some. let h = leaves.progress some in omega (arith, h, none))
+  first_used b old new piece (Err refusal) none begins leaves = tt

@@ -1,8 +1,10 @@
 //! The reader that the first octet chooses.
-ghost use Rattle.std.specs.Prelude.{◌≡◌, ◌≢◌, ℕ, ◌+◌, ◌*◌, ◌^◌, ◌<◌, ◌≤◌, List, [], ◌∷◌, ◌++◌, length, take, drop, IfOk, IfErr, IfSome, IsNone, IsSome, None, Some};
-ghost use Rattle.ion_symtab.specs.Trace.{Answers, UsesAll, given_at};
+ghost use Rattle.std.specs.Prelude.{◌≡◌, ℕ, ◌+◌, ◌^◌, ◌<◌, List, ◌++◌, length, take, IfOk, IfErr, IfSome, IsNone};
+ghost use Rattle.ion_symtab.specs.Trace.{Answers, given_at};
+ghost use Rattle.ion_symtab.specs.Steps.{StepsOver, RefusesBy};
+ghost use Rattle.ion_symtab.specs.IsNew.{IsNew};
 ghost use Rattle.ion_docs.specs.reading.Chosen.{chosen};
-ghost use Rattle.ion_docs.specs.reading.DocStands.{DocStands, taken_of, failed_of, awaits_of, pending_of};
+ghost use Rattle.ion_docs.specs.reading.DocStands.{DocStands, taken_of};
 ghost use Rattle.ion_atoms.specs.declared.refusal.Reason.TheVariants.{Memory};
 ghost use Rattle.ion_model.specs.declared.value.Value.{Value as AnyValue};
 ghost use Rattle.ion_model.specs.Kept.{IsKept};
@@ -51,13 +53,7 @@ impl Debug for DocReader<'_> {
 impl<'a> DocReader<'a> {
     /// A reader of no octets yet; `Memory` where memory was refused.
     pub fn new(alloc: Global, catalog: &'a Catalog, limits: Limits) -> Result<DocReader<'a>, Reason>
-        ensures stands { IfOk result (λ r. ⟦<DocReader<'a> as Items>⟧.stands r [] []) }
-        ensures catalog { IfOk result (λ r. ⟦<DocReader<'a> as Items>⟧.catalog r ≡ catalog.now) }
-        ensures limits { IfOk result (λ r. ⟦<DocReader<'a> as Items>⟧.limits r ≡ limits) }
-        ensures taken { IfOk result (λ r. ⟦<DocReader<'a> as Items>⟧.taken r ≡ 0) }
-        ensures failed { IfOk result (λ r. ⟦<DocReader<'a> as Items>⟧.failed r ≡ None) }
-        ensures awaits { IfOk result (λ r. ⟦<DocReader<'a> as Items>⟧.awaits r ≡ None) }
-        ensures pending { IfOk result (λ r. ⟦<DocReader<'a> as Items>⟧.pending r ≡ 0) }
+        ensures is_new { IfOk result (IsNew ⟦<DocReader<'a> as Items>⟧ catalog.now limits) }
         ensures memory { IfErr result (λ reason. reason ≡ Memory) }
     {
         Ok(DocReader {
@@ -92,27 +88,19 @@ impl<'a> DocReader<'a> {
     fn begin(&mut self, piece: &[u8]) -> Result<Step, Refusal>
         requires unbegun { self.old.format ≡ Format.Unbegun }
         requires room { length piece.now < 2 ^ 63 }
-        ensures catalog { self.new.catalog.now ≡ self.old.catalog.now }
-        ensures limits { self.new.limits ≡ self.old.limits }
-        ensures used { IfOk result (λ step. step.used ≤ length piece.now) }
-        ensures uses_all { IfOk result (UsesAll piece.now) }
-        ensures counts { IfOk result (λ step. taken_of self.new.format ≡ step.used) }
-        ensures progress { IfOk result (λ step. IsSome step.value →
-            pending_of self.new.format < 2 * step.used) }
-        ensures few_pending { IfOk result (λ step. pending_of self.new.format ≤ 2 * step.used) }
+        ensures setting { (self.new.catalog.now ≡ self.old.catalog.now)
+            × (self.new.limits ≡ self.old.limits) }
+        ensures leaves { let D = ⟦<DocReader<'a> as Items>⟧ in
+            IfOk result (λ step. StepsOver D.taken D.pending D.awaits D.failed
+            self.old self.new piece.now step.used step.value) }
         ensures stands { IfOk result (λ step. (u : List ℕ) (s : List (AnyValue × ℕ)) →
             DocStands self.old u s → DocStands self.new (u ++ take step.used piece.now)
             (s ++ given_at step.value (length u + step.used))) }
         ensures answers { (u : List ℕ) (s : List (AnyValue × ℕ)) → DocStands self.old u s →
             Answers (chosen self.old.catalog.now self.old.limits) u s piece.now result }
-        ensures not_failed { IfOk result (λ step. failed_of self.new.format ≡ None) }
-        ensures awaited { IfOk result (λ step. IfSome (awaits_of self.new.format) (λ octet.
-            (rest : List ℕ) × (drop step.used piece.now ≡ octet ∷ rest))) }
-        ensures within { IfErr result (λ refusal. refusal.reason ≢ Memory →
-            (0 < refusal.offset) × (refusal.offset ≤ length piece.now)) }
-        ensures memory { IfErr result (λ refusal. refusal.reason ≡ Memory → refusal.offset ≡ 0) }
-        ensures fails { IfErr result (λ refusal. failed_of self.new.format ≡ Some refusal) }
-        ensures unawaited { IfErr result (λ _. IsNone (awaits_of self.new.format)) }
+        ensures refuses { let D = ⟦<DocReader<'a> as Items>⟧ in
+            IfErr result (RefusesBy D.taken D.pending D.awaits D.failed
+            self.old self.new piece.now) }
     {
         match piece.first() {
             None => Ok(Step {

@@ -1,9 +1,9 @@
 //! What is asked of the values of a document: each itself, or its outline.
-ghost use Rattle.std.specs.Prelude.{◌≡◌, ◌≢◌, ℕ, ◌+◌, ◌*◌, ◌<◌, ◌≤◌, ◌^◌, List, ◌∷◌, ◌++◌, length, take, drop, Option, Result, IfOk, IfErr, IfSome, IsNone, IsSome, option_map};
+ghost use Rattle.std.specs.Prelude.{◌≡◌, ℕ, ◌+◌, ◌<◌, ◌^◌, List, ◌∷◌, ◌++◌, length, take, Option, Result, IfOk, IfErr, IfSome, IsNone, option_map};
 ghost use Rattle.ion_model.specs.Outlines.{outline_of};
 ghost use Rattle.ion_model.specs.declared.value.Value.{Value};
-ghost use Rattle.ion_atoms.specs.declared.refusal.Reason.TheVariants.{Memory};
 ghost use Rattle.ion_symtab.specs.Trace.{Answers, given_at};
+ghost use Rattle.ion_symtab.specs.Steps.{StepsOver, RefusesBy};
 
 use ion_model::{Outline, Refusal, Value};
 use ion_symtab::{Items, Passed, Step};
@@ -20,28 +20,19 @@ pub trait Asked: Sized {
             I.taken items.old + length piece.now < 2 ^ 63 }
         requires begins { IfSome (I.awaits items.old) (λ octet.
             (rest : List ℕ) × (piece.now ≡ octet ∷ rest)) }
-        ensures catalog { I.catalog items.new ≡ I.catalog items.old }
-        ensures limits { I.limits items.new ≡ I.limits items.old }
-        ensures used { IfOk result (λ next. next.0 ≤ length piece.now) }
-        ensures uses_all { IfOk result (λ next.
-            next.1 ≡ Option.None → next.0 ≡ length piece.now) }
-        ensures counts { IfOk result (λ next. I.taken items.new ≡ I.taken items.old + next.0) }
-        ensures progress { IfOk result (λ next. IsSome next.1 →
-            I.pending items.new < I.pending items.old + 2 * next.0) }
-        ensures few_pending { IfOk result (λ next.
-            I.pending items.new ≤ I.pending items.old + 2 * next.0) }
+        ensures setting { (I.catalog items.new ≡ I.catalog items.old)
+            × (I.limits items.new ≡ I.limits items.old) }
+        ensures leaves { IfOk result (λ next. StepsOver I.taken I.pending I.awaits I.failed
+            items.old items.new piece.now next.0 next.1) }
         ensures stands { IfOk result (λ next. (u : List ℕ) (s : List (Value × ℕ)) →
             I.stands items.old u s → (value : Option Value) × (option_map of value ≡ next.1)
             × I.stands items.new (u ++ take next.0 piece.now)
             (s ++ given_at value (length u + next.0))) }
-        ensures refuses { IfErr result (λ refusal. (u : List ℕ) (s : List (Value × ℕ)) →
+        ensures answers { IfErr result (λ refusal. (u : List ℕ) (s : List (Value × ℕ)) →
             I.stands items.old u s → Answers (I.trace (I.catalog items.old) (I.limits items.old))
             u s piece.now (Result.Err refusal)) }
-        ensures awaited { IfOk result (λ next. IfSome (I.awaits items.new) (λ octet.
-            (rest : List ℕ) × (drop next.0 piece.now ≡ octet ∷ rest))) }
-        ensures within { IfErr result (λ refusal. refusal.reason ≢ Memory →
-            IsNone (I.failed items.old) → (I.taken items.old < refusal.offset)
-            × (refusal.offset ≤ I.taken items.old + length piece.now)) };
+        ensures refuses { IfErr result (RefusesBy I.taken I.pending I.awaits I.failed
+            items.old items.new piece.now) };
 
     /// What is told of a value that the end of the document gave.
     fn tell(value: Value) -> Self

@@ -3,6 +3,7 @@ pub mod Told
 pub mod Heard
 pub mod Took
 pub mod TookUp
+pub mod IsNew
 pub mod Cause
 pub mod Outcome
 pub mod Slots
@@ -12,6 +13,7 @@ pub mod Next
 pub mod LocalTables
 pub mod Shared
 pub mod Trace
+pub mod Steps
 pub mod Promises
 pub mod Reasons
 pub mod Decided

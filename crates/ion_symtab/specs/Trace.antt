@@ -42,10 +42,6 @@ abbrev pub Finishes : (List ℕ → Trace) → List ℕ → Result (Option Value
 Finishes trace u (Ok value) = (trace u).ends ≡ Ok value
 Finishes trace u (Err refusal) = refusal.reason ≢ Memory → (trace u).ends ≡ Err refusal
 
--- a step without a value used the whole piece
-abbrev pub UsesAll : List ℕ → Step → Type 0
-UsesAll piece step = step.value ≡ None → step.used ≡ length piece
-
 -- more octets give more values behind those given, and change no refusal
 pub record Grows (before after : Trace) : Type 0 where
   pub given : IsFront before.given after.given

@@ -1,10 +1,11 @@
 //! What every reader of documents promises.
-ghost use Rattle.std.specs.Prelude.{◌≡◌, ◌≢◌, ℕ, ◌+◌, ◌*◌, ◌≤◌, ◌<◌, ◌^◌, List, [], ◌∷◌, ◌++◌, length, take, drop, Option, Result, IfOk, IfErr, IfSome, IsNone, IsSome, option_map, true, false, ◌↔◌};
+ghost use Rattle.std.specs.Prelude.{◌≡◌, ℕ, ◌+◌, ◌≤◌, ◌<◌, ◌^◌, List, [], ◌∷◌, ◌++◌, length, take, Option, Result, IfOk, IfErr, IfSome, IsNone, option_map, ◌↔◌};
 ghost use Rattle.ion_model.specs.declared.value.Value.{Value};
 ghost use Rattle.ion_model.specs.Measures.{nodes};
 ghost use Rattle.ion_model.specs.Outlines.{outline_of};
 ghost use Rattle.ion_atoms.specs.declared.refusal.Reason.TheVariants.{Memory};
-ghost use Rattle.ion_symtab.specs.Trace.{Trace, Answers, Finishes, UsesAll, Grows, Streams, IsFront, plain, given_at};
+ghost use Rattle.ion_symtab.specs.Trace.{Trace, Answers, Finishes, Grows, Streams, IsFront, plain, given_at};
+ghost use Rattle.ion_symtab.specs.Steps.{StepsOver, RefusesBy};
 ghost use Rattle.ion_symtab.specs.Promises.{Refuses, IsFirst, HasPieces, Shown, Shows, IsSmall, HasReasons, GivesNoTable, EndsValues};
 
 use ion_model::{Outline, Refusal, Value};
@@ -128,31 +129,17 @@ pub trait Items: Sized {
         requires room { IsNone (failed self.old) → taken self.old + length piece.now < 2 ^ 63 }
         requires begins { IfSome (awaits self.old) (λ octet.
             (rest : List ℕ) × (piece.now ≡ octet ∷ rest)) }
-        ensures catalog { catalog self.new ≡ catalog self.old }
-        ensures limits { limits self.new ≡ limits self.old }
-        ensures used { IfOk result (λ step. step.used ≤ length piece.now) }
-        ensures uses_all { IfOk result (UsesAll piece.now) }
-        ensures counts { IfOk result (λ step. taken self.new ≡ taken self.old + step.used) }
-        ensures progress { IfOk result (λ step. IsSome step.value →
-            pending self.new < pending self.old + 2 * step.used) }
-        ensures few_pending { IfOk result (λ step.
-            pending self.new ≤ pending self.old + 2 * step.used) }
-        ensures onward { IfOk result (λ step. IsSome (awaits self.old) → 0 < step.used) }
+        ensures setting { (catalog self.new ≡ catalog self.old)
+            × (limits self.new ≡ limits self.old) }
+        ensures leaves { IfOk result (λ step. StepsOver taken pending awaits failed
+            self.old self.new piece.now step.used step.value) }
         ensures stands { IfOk result (λ step. (u : List ℕ) (s : List (Value × ℕ)) →
             stands self.old u s → stands self.new (u ++ take step.used piece.now)
             (s ++ given_at step.value (length u + step.used))) }
         ensures answers { (u : List ℕ) (s : List (Value × ℕ)) → stands self.old u s →
             Answers (trace (catalog self.old) (limits self.old)) u s piece.now result }
-        ensures not_failed { IfOk result (λ step. failed self.new ≡ Option.None) }
-        ensures awaited { IfOk result (λ step. IfSome (awaits self.new) (λ octet.
-            (rest : List ℕ) × (drop step.used piece.now ≡ octet ∷ rest))) }
-        ensures within { IfErr result (λ refusal. refusal.reason ≢ Memory →
-            IsNone (failed self.old) → (taken self.old < refusal.offset)
-            × (refusal.offset ≤ taken self.old + length piece.now)) }
-        ensures memory { IfErr result (λ refusal. refusal.reason ≡ Memory →
-            IsNone (failed self.old) → refusal.offset ≡ taken self.old) }
-        ensures fails { IfErr result (λ refusal. failed self.new ≡ Option.Some refusal) }
-        ensures unawaited { IfErr result (λ _. IsNone (awaits self.new)) }
+        ensures refuses { IfErr result (RefusesBy taken pending awaits failed
+            self.old self.new piece.now) }
         ensures again { IfSome (failed self.old) (λ refusal. result ≡ Result.Err refusal) };
 
     /// Takes up octets as `step` does, but doesn't hand out the value: only its outline.
@@ -160,35 +147,20 @@ pub trait Items: Sized {
         requires room { IsNone (failed self.old) → taken self.old + length piece.now < 2 ^ 63 }
         requires begins { IfSome (awaits self.old) (λ octet.
             (rest : List ℕ) × (piece.now ≡ octet ∷ rest)) }
-        ensures catalog { catalog self.new ≡ catalog self.old }
-        ensures limits { limits self.new ≡ limits self.old }
-        ensures used { IfOk result (λ passed. passed.used ≤ length piece.now) }
-        ensures uses_all { IfOk result (λ passed.
-            passed.outline ≡ Option.None → passed.used ≡ length piece.now) }
-        ensures counts { IfOk result (λ passed. taken self.new ≡ taken self.old + passed.used) }
-        ensures progress { IfOk result (λ passed. IsSome passed.outline →
-            pending self.new < pending self.old + 2 * passed.used) }
-        ensures few_pending { IfOk result (λ passed.
-            pending self.new ≤ pending self.old + 2 * passed.used) }
-        ensures onward { IfOk result (λ passed. IsSome (awaits self.old) → 0 < passed.used) }
+        ensures setting { (catalog self.new ≡ catalog self.old)
+            × (limits self.new ≡ limits self.old) }
+        ensures leaves { IfOk result (λ passed. StepsOver taken pending awaits failed
+            self.old self.new piece.now passed.used passed.outline) }
         ensures stands { IfOk result (λ passed. (u : List ℕ) (s : List (Value × ℕ)) →
             stands self.old u s → (value : Option Value)
             × (option_map outline_of value ≡ passed.outline)
             × stands self.new (u ++ take passed.used piece.now)
             (s ++ given_at value (length u + passed.used))) }
-        ensures refuses { IfErr result (λ refusal. (u : List ℕ) (s : List (Value × ℕ)) →
-            stands self.old u s →
-            Answers (trace (catalog self.old) (limits self.old)) u s piece.now (Result.Err refusal)) }
-        ensures not_failed { IfOk result (λ passed. failed self.new ≡ Option.None) }
-        ensures awaited { IfOk result (λ passed. IfSome (awaits self.new) (λ octet.
-            (rest : List ℕ) × (drop passed.used piece.now ≡ octet ∷ rest))) }
-        ensures within { IfErr result (λ refusal. refusal.reason ≢ Memory →
-            IsNone (failed self.old) → (taken self.old < refusal.offset)
-            × (refusal.offset ≤ taken self.old + length piece.now)) }
-        ensures memory { IfErr result (λ refusal. refusal.reason ≡ Memory →
-            IsNone (failed self.old) → refusal.offset ≡ taken self.old) }
-        ensures fails { IfErr result (λ refusal. failed self.new ≡ Option.Some refusal) }
-        ensures unawaited { IfErr result (λ _. IsNone (awaits self.new)) }
+        ensures answers { IfErr result (λ refusal. (u : List ℕ) (s : List (Value × ℕ)) →
+            stands self.old u s → Answers (trace (catalog self.old) (limits self.old))
+            u s piece.now (Result.Err refusal)) }
+        ensures refuses { IfErr result (RefusesBy taken pending awaits failed
+            self.old self.new piece.now) }
         ensures again { IfSome (failed self.old) (λ refusal. result ≡ Result.Err refusal) }
     {
         match self.step(piece) {

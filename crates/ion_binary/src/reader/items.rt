@@ -1,6 +1,7 @@
 //! The reader as `Items`: steps over pieces, and the end.
-ghost use Rattle.std.specs.Prelude.{◌≡◌, ◌+◌, ◌<◌, ◌^◌, [], length, IfOk, IfErr, None};
+ghost use Rattle.std.specs.Prelude.{◌≡◌, ◌+◌, ◌<◌, ◌^◌, length, IfOk, IfErr};
 ghost use Rattle.ion_atoms.specs.declared.refusal.Reason.TheVariants.{Memory};
+ghost use Rattle.ion_symtab.specs.IsNew.{IsNew};
 ghost use Rattle.ion_binary.specs.machine.Run.{whole, Advances};
 ghost use Rattle.ion_binary.specs.machine.Views.{run_of, machine_of, open_frames, SameSetting};
 
@@ -18,13 +19,7 @@ impl<'a> BinaryReader<'a> {
         catalog: &'a Catalog,
         limits: Limits,
     ) -> Result<BinaryReader<'a>, Reason>
-        ensures stands { IfOk result (λ r. ⟦<BinaryReader<'a> as Items>⟧.stands r [] []) }
-        ensures catalog { IfOk result (λ r. ⟦<BinaryReader<'a> as Items>⟧.catalog r ≡ catalog.now) }
-        ensures limits { IfOk result (λ r. ⟦<BinaryReader<'a> as Items>⟧.limits r ≡ limits) }
-        ensures taken { IfOk result (λ r. ⟦<BinaryReader<'a> as Items>⟧.taken r ≡ 0) }
-        ensures failed { IfOk result (λ r. ⟦<BinaryReader<'a> as Items>⟧.failed r ≡ None) }
-        ensures awaits { IfOk result (λ r. ⟦<BinaryReader<'a> as Items>⟧.awaits r ≡ None) }
-        ensures pending { IfOk result (λ r. ⟦<BinaryReader<'a> as Items>⟧.pending r ≡ 0) }
+        ensures is_new { IfOk result (IsNew ⟦<BinaryReader<'a> as Items>⟧ catalog.now limits) }
         ensures memory { IfErr result (λ reason. reason ≡ Memory) }
     {
         let context = Context::system(alloc)?;

@@ -1,8 +1,9 @@
 //! The reader as `Items`: steps over pieces, and the end.
-ghost use Rattle.std.specs.Prelude.{◌≡◌, ℕ, List, [], Err, IfOk, IfErr, IfSome, IsNone, None};
+ghost use Rattle.std.specs.Prelude.{◌≡◌, ℕ, List, Err, IfOk, IfErr, IfSome, IsNone};
 ghost use Rattle.ion_model.specs.declared.value.Value.{Value as AnyValue};
 ghost use Rattle.ion_atoms.specs.declared.refusal.Reason.TheVariants.{Memory};
 ghost use Rattle.ion_symtab.specs.Trace.{Finishes};
+ghost use Rattle.ion_symtab.specs.IsNew.{IsNew};
 ghost use Rattle.ion_text.specs.machine.Run.{trace};
 ghost use Rattle.ion_text.specs.machine.Progress.{Stands, failed, octets_used};
 
@@ -21,13 +22,7 @@ impl<'a> TextReader<'a> {
         catalog: &'a Catalog,
         limits: Limits,
     ) -> Result<TextReader<'a>, Reason>
-        ensures stands { IfOk result (λ r. ⟦<TextReader<'a> as Items>⟧.stands r [] []) }
-        ensures catalog { IfOk result (λ r. ⟦<TextReader<'a> as Items>⟧.catalog r ≡ catalog.now) }
-        ensures limits { IfOk result (λ r. ⟦<TextReader<'a> as Items>⟧.limits r ≡ limits) }
-        ensures taken { IfOk result (λ r. ⟦<TextReader<'a> as Items>⟧.taken r ≡ 0) }
-        ensures failed { IfOk result (λ r. ⟦<TextReader<'a> as Items>⟧.failed r ≡ None) }
-        ensures awaits { IfOk result (λ r. ⟦<TextReader<'a> as Items>⟧.awaits r ≡ None) }
-        ensures pending { IfOk result (λ r. ⟦<TextReader<'a> as Items>⟧.pending r ≡ 0) }
+        ensures is_new { IfOk result (IsNew ⟦<TextReader<'a> as Items>⟧ catalog.now limits) }
         ensures memory { IfErr result (λ reason. reason ≡ Memory) }
     {
         let context = Context::system(alloc)?;

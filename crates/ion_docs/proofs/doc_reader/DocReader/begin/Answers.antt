@@ -1,4 +1,4 @@
-use Rattle.std.proofs.Common.{◌∙◌, true, false, refl}
+use Rattle.std.proofs.Common.{◌∙◌, true, false}
 use Rattle.ion_binary.specs.machine.Views as binary
 use Rattle.ion_text.specs.machine.Progress as text
 use Rattle.ion_docs.specs.declared.doc_reader.Format.TheVariants.{Binary, Text}
@@ -11,17 +11,18 @@ returns-in-Ok-clause-stands c =
     let result = c.step-result.result in
     let begins = binary_at_first c.args.piece.now c.in-Some-eq224.field-0.now c.in-Some-eq224.ensures.value c.in-Some-eq224.field-0-test in
     first_kept c.args.self.now c.go_on.new.self (Binary new) c.args.piece.now result c.go_on.ensures
-    (first_stands c.args.self.now true (binary.Stands c.in-Ok.reader) c.args.piece.now result c.requires.unbegun begins c.in-Ok.ensures.stands
-    new.limits new.catalog.now (binary.Stands new) (first_used true c.args.piece.now result 0 refl begins c.step-result.ensures.uses_all 0
-    c.step-result.ensures.progress) c.step-result.ensures.stands
-    (c.step-result.ensures.limits ∙ c.in-Ok.ensures.limits) (c.step-result.ensures.catalog ∙ c.in-Ok.ensures.catalog))
+    (first_stands c.args.self.now true (binary.Stands c.in-Ok.reader) c.args.piece.now result c.requires.unbegun begins c.in-Ok.ensures.is_new.stands
+    new.limits new.catalog.now (binary.Stands new)
+    (first_used true c.in-Ok.reader new c.args.piece.now result c.in-Ok.ensures.is_new.pending begins c.step-result.ensures.leaves)
+    c.step-result.ensures.stands (c.step-result.ensures.setting.1 ∙ c.in-Ok.ensures.is_new.limits)
+    (c.step-result.ensures.setting.0 ∙ c.in-Ok.ensures.is_new.catalog))
 
 pub returns-in-Ok-clause-answers : goal.returns-in-Ok-clause-answers
 returns-in-Ok-clause-answers c =
     let old = c.in-Ok.reader in
     let begins = binary_at_first c.args.piece.now c.in-Some-eq224.field-0.now c.in-Some-eq224.ensures.value c.in-Some-eq224.field-0-test in
-    first_answers c.args.self.now true (binary.Stands old) c.args.piece.now c.step-result.result c.requires.unbegun begins c.in-Ok.ensures.stands
-    old.limits old.catalog.now c.step-result.ensures.answers c.in-Ok.ensures.limits c.in-Ok.ensures.catalog
+    first_answers c.args.self.now true (binary.Stands old) c.args.piece.now c.step-result.result c.requires.unbegun begins c.in-Ok.ensures.is_new.stands
+    old.limits old.catalog.now c.step-result.ensures.answers c.in-Ok.ensures.is_new.limits c.in-Ok.ensures.is_new.catalog
 
 pub returns-in-Ok-new-clause-stands : goal.returns-in-Ok-new-clause-stands
 returns-in-Ok-new-clause-stands c =
@@ -30,16 +31,16 @@ returns-in-Ok-new-clause-stands c =
     let result = c.step-result-in-Ok-new.result in
     let begins = other_at_first c.args.piece.now c.in-Some.field-0.now c.in-Some.ensures.value c.in-Some.field-0-test.1 in
     first_kept c.args.self.now c.go_on-in-Ok-new.new.self (Text new) c.args.piece.now result c.go_on-in-Ok-new.ensures
-    (first_stands c.args.self.now false (text.Stands old) c.args.piece.now result c.requires.unbegun begins c.in-Ok-new.ensures.stands
+    (first_stands c.args.self.now false (text.Stands old) c.args.piece.now result c.requires.unbegun begins c.in-Ok-new.ensures.is_new.stands
     new.limits new.catalog.now (text.Stands new)
-    (first_used false c.args.piece.now result (text.pending old) c.in-Ok-new.ensures.pending begins c.step-result-in-Ok-new.ensures.uses_all (text.pending new)
-    c.step-result-in-Ok-new.ensures.progress)
-    c.step-result-in-Ok-new.ensures.stands (c.step-result-in-Ok-new.ensures.limits ∙ c.in-Ok-new.ensures.limits)
-    (c.step-result-in-Ok-new.ensures.catalog ∙ c.in-Ok-new.ensures.catalog))
+    (first_used false old new c.args.piece.now result c.in-Ok-new.ensures.is_new.pending begins c.step-result-in-Ok-new.ensures.leaves)
+    c.step-result-in-Ok-new.ensures.stands (c.step-result-in-Ok-new.ensures.setting.1 ∙ c.in-Ok-new.ensures.is_new.limits)
+    (c.step-result-in-Ok-new.ensures.setting.0 ∙ c.in-Ok-new.ensures.is_new.catalog))
 
 pub returns-in-Ok-new-clause-answers : goal.returns-in-Ok-new-clause-answers
 returns-in-Ok-new-clause-answers c =
     let old = c.in-Ok-new.reader in
     let begins = other_at_first c.args.piece.now c.in-Some.field-0.now c.in-Some.ensures.value c.in-Some.field-0-test.1 in
-    first_answers c.args.self.now false (text.Stands old) c.args.piece.now c.step-result-in-Ok-new.result c.requires.unbegun begins c.in-Ok-new.ensures.stands
-    old.limits old.catalog.now c.step-result-in-Ok-new.ensures.answers c.in-Ok-new.ensures.limits c.in-Ok-new.ensures.catalog
+    first_answers c.args.self.now false (text.Stands old) c.args.piece.now c.step-result-in-Ok-new.result c.requires.unbegun begins
+    c.in-Ok-new.ensures.is_new.stands old.limits old.catalog.now c.step-result-in-Ok-new.ensures.answers c.in-Ok-new.ensures.is_new.limits
+    c.in-Ok-new.ensures.is_new.catalog

@@ -11,14 +11,14 @@ returns-in-Binary-clause-stands c =
     let old = c.in-Binary.reader in
     let new = c.pass.new.self in
     forward_passed d true old.limits old.catalog.now (binary.Stands old) (λ u s. inside d (Binary old) u s c.in-Binary.is)
-    new.limits new.catalog.now (binary.Stands new) c.args.piece.now c.pass.result c.pass.ensures.stands c.pass.ensures.limits c.pass.ensures.catalog
+    new.limits new.catalog.now (binary.Stands new) c.args.piece.now c.pass.result c.pass.ensures.stands c.pass.ensures.setting.1 c.pass.ensures.setting.0
 
-pub returns-in-Binary-clause-refuses : goal.returns-in-Binary-clause-refuses
-returns-in-Binary-clause-refuses c =
+pub returns-in-Binary-clause-answers : goal.returns-in-Binary-clause-answers
+returns-in-Binary-clause-answers c =
     let d = c.args.self.now in
     let old = c.in-Binary.reader in
     forward_refuses d true old.limits old.catalog.now (binary.Stands old) (λ u s. inside d (Binary old) u s c.in-Binary.is) c.args.piece.now c.pass.result
-    c.pass.ensures.refuses
+    c.pass.ensures.answers
 
 pub returns-in-Text-clause-stands : goal.returns-in-Text-clause-stands
 returns-in-Text-clause-stands c =
@@ -26,12 +26,12 @@ returns-in-Text-clause-stands c =
     let old = c.in-Text.reader in
     let new = c.pass-in-Text.new.self in
     forward_passed d false old.limits old.catalog.now (text.Stands old) (λ u s. inside d (Text old) u s c.in-Text.is)
-    new.limits new.catalog.now (text.Stands new) c.args.piece.now c.pass-in-Text.result c.pass-in-Text.ensures.stands c.pass-in-Text.ensures.limits
-    c.pass-in-Text.ensures.catalog
+    new.limits new.catalog.now (text.Stands new) c.args.piece.now c.pass-in-Text.result c.pass-in-Text.ensures.stands c.pass-in-Text.ensures.setting.1
+    c.pass-in-Text.ensures.setting.0
 
-pub returns-in-Text-clause-refuses : goal.returns-in-Text-clause-refuses
-returns-in-Text-clause-refuses c =
+pub returns-in-Text-clause-answers : goal.returns-in-Text-clause-answers
+returns-in-Text-clause-answers c =
     let d = c.args.self.now in
     let old = c.in-Text.reader in
     forward_refuses d false old.limits old.catalog.now (text.Stands old) (λ u s. inside d (Text old) u s c.in-Text.is) c.args.piece.now c.pass-in-Text.result
-    c.pass-in-Text.ensures.refuses
+    c.pass-in-Text.ensures.answers

@@ -11,7 +11,7 @@ returns-in-Binary-clause-stands c =
     let old = c.in-Binary.reader in
     let new = c.step.new.self in
     forward_stands d true old.limits old.catalog.now (binary.Stands old) (λ u s. inside d (Binary old) u s c.in-Binary.is)
-    new.limits new.catalog.now (binary.Stands new) c.args.piece.now c.step.result c.step.ensures.stands c.step.ensures.limits c.step.ensures.catalog
+    new.limits new.catalog.now (binary.Stands new) c.args.piece.now c.step.result c.step.ensures.stands c.step.ensures.setting.1 c.step.ensures.setting.0
 
 pub returns-in-Binary-clause-answers : goal.returns-in-Binary-clause-answers
 returns-in-Binary-clause-answers c =
@@ -26,8 +26,8 @@ returns-in-Text-clause-stands c =
     let old = c.in-Text.reader in
     let new = c.step-in-Text.new.self in
     forward_stands d false old.limits old.catalog.now (text.Stands old) (λ u s. inside d (Text old) u s c.in-Text.is)
-    new.limits new.catalog.now (text.Stands new) c.args.piece.now c.step-in-Text.result c.step-in-Text.ensures.stands c.step-in-Text.ensures.limits
-    c.step-in-Text.ensures.catalog
+    new.limits new.catalog.now (text.Stands new) c.args.piece.now c.step-in-Text.result c.step-in-Text.ensures.stands c.step-in-Text.ensures.setting.1
+    c.step-in-Text.ensures.setting.0
 
 pub returns-in-Text-clause-answers : goal.returns-in-Text-clause-answers
 returns-in-Text-clause-answers c =

@@ -11,13 +11,13 @@ returns-in-Err-clause-refuses g c = λ other u given h more.
     let catalog = g.I.Items.catalog c.args.self.now.items in
     let limits = g.I.Items.limits c.args.self.now.items in
     let w = u ++ left_of c.args.self.now in
-    let a = rw c.deref.ensures.value at (c.in-Err.ensures.refuses u given h other) in
+    let a = rw c.deref.ensures.value at (c.in-Err.ensures.answers u given h other) in
     refused_early (format_of g.I.Items catalog limits) (g.met.I.Items.reasons catalog limits) w more given c.in-Err.refusal a.0 a.1
     (g.met.I.Items.refused catalog limits w c.in-Err.refusal a.1) (g.met.I.Items.settled catalog limits w more)
 
 pub returns-in-Ok-clause-gives : goal.returns-in-Ok-clause-gives
 returns-in-Ok-clause-gives g c = λ u given h.
-    let used = c.in-Ok.ensures.used in
+    let used = c.in-Ok.ensures.leaves.used in
     let fits : c.in-Ok.used ≤ c.args.self.now.end - c.args.self.now.at = omega (arith, used, length-take {A = ℕ}, length-drop {A = ℕ}) in
     let total = g.met.I.Items.counted c.args.self.now.items u given h in
     let counted = c.requires.counted in
@@ -31,8 +31,8 @@ returns-in-Ok-clause-gives g c = λ u given h.
 pub returns-in-Ok-clause-ready : goal.returns-in-Ok-clause-ready
 returns-in-Ok-clause-ready g c =
     let ready = c.requires in
-    let used = c.in-Ok.ensures.used in
-    let taken = c.in-Ok.ensures.counts in
+    let used = c.in-Ok.ensures.leaves.used in
+    let taken = c.in-Ok.ensures.leaves.counts in
     let fits : c.in-Ok.used ≤ c.args.self.now.end - c.args.self.now.at = omega (arith, used, length-take {A = ℕ}, length-drop {A = ℕ}) in
     record {
       within = omega (arith, fits, ready.within);
@@ -40,20 +40,20 @@ returns-in-Ok-clause-ready g c =
       piece = ready.piece;
       room = omega (arith, ready.room, ready.within, fits, taken);
       begins = begins_drop (g.I.Items.awaits c.take.new.items) c.args.self.now.piece.items c.args.self.now.at c.args.self.now.end c.in-Ok.used fits
-          (rw c.deref.ensures.value at c.in-Ok.ensures.awaited);
+          (rw c.deref.ensures.value at c.in-Ok.ensures.leaves.awaited);
       counted = omega (arith, ready.counted, taken);
     }
 
 pub returns-in-Ok-clause-nothing : goal.returns-in-Ok-clause-nothing
 returns-in-Ok-clause-nothing g c = λ asks.
-    let used = c.in-Ok.ensures.used in
+    let used = c.in-Ok.ensures.leaves.used in
     let fits : c.in-Ok.used ≤ c.args.self.now.end - c.args.self.now.at = omega (arith, used, length-take {A = ℕ}, length-drop {A = ℕ}) in
-    none_there c.in-Ok.found (λ some. let less = c.in-Ok.ensures.progress some in let owes = asks.owes in let used_up = asks.used_up in
+    none_there c.in-Ok.found (λ some. let less = c.in-Ok.ensures.leaves.progress some in let owes = asks.owes in let used_up = asks.used_up in
     absurd (omega (arith, less, owes, used_up, fits)))
 
 pub returns-in-Err-clause-none_refused : goal.returns-in-Err-clause-none_refused
 returns-in-Err-clause-none_refused g c = λ other asks.
-    let within = c.in-Err.ensures.within other (none_failed (g.I.Items.failed c.args.self.now.items) asks.not_failed) in
+    let within = c.in-Err.ensures.refuses.within other (none_failed (g.I.Items.failed c.args.self.now.items) asks.not_failed) in
     let used_up = asks.used_up in
     let from = within.0 in
     let to = within.1 in

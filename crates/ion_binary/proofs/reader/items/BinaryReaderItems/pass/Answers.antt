@@ -11,7 +11,7 @@ returns-in-Some-walk-clause-stands c = λ u s h.
           c.in-Some-walk.ensures.used c.in-Some-walk.ensures.setting u s h,
     )
 
-pub returns-in-Err-clause-refuses : goal.returns-in-Err-clause-refuses
-returns-in-Err-clause-refuses c = λ u s h.
+pub returns-in-Err-clause-answers : goal.returns-in-Err-clause-answers
+returns-in-Err-clause-answers c = λ u s h.
     let same : c.walk.new.self ≡ c.args.self.now = search rules in
     rw same at c.in-Err.ensures.answers u s h

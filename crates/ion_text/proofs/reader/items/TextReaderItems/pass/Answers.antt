@@ -11,10 +11,11 @@ use Rattle.ion_text.proofs.Pendings.{step_progress}
 use Rattle.ion_text.proofs.Tops.{beside_stands}
 use Rattle.ion_text.proofs.reader.items.TextReaderItems.pass.Goals as goal
 
-pub returns-in-Some-walk-clause-progress : goal.returns-in-Some-walk-clause-progress
-returns-in-Some-walk-clause-progress c =
+pub returns-in-Some-walk-clause-leaves : goal.returns-in-Some-walk-clause-leaves
+returns-in-Some-walk-clause-leaves c =
     let found = c.in-Some-walk.ensures.gives in
-    step_progress c.args.self.now c.walk.new.self c.args.piece.now (Ok (record { used = c.in-Some-walk.used; value = Some found.0 })) found.2
+    let progress = step_progress c.args.self.now c.walk.new.self c.args.piece.now (Ok (record { used = c.in-Some-walk.used; value = Some found.0 })) found.2 in
+    search rules
 
 pub returns-in-Some-walk-clause-stands : goal.returns-in-Some-walk-clause-stands
 returns-in-Some-walk-clause-stands c = λ u s h.
@@ -25,8 +26,8 @@ returns-in-Some-walk-clause-stands c = λ u s h.
           c.in-Some-walk.ensures.used (c.in-Some-walk.ensures.fine h.scanner_fine) c.in-Some-walk.ensures.steady c.in-Some-walk.ensures.setting u s h,
     )
 
-pub returns-in-Err-clause-refuses : goal.returns-in-Err-clause-refuses
-returns-in-Err-clause-refuses c = λ u s h.
+pub returns-in-Err-clause-answers : goal.returns-in-Err-clause-answers
+returns-in-Err-clause-answers c = λ u s h.
     let old = c.args.self.now in
     let none : IsNone c.walk.result = search rules in
     let same : (b : TokenReader) × (c.walk.new.self ≡ with_beside old b) = c.walk.ensures.none none in

@@ -1,3 +1,4 @@
+use Rattle.std.proofs.Common.{rules}
 use Rattle.ion_text.specs.machine.Views.{state_of}
 use Rattle.ion_text.proofs.Further.{step_answers, step_stands, step_within}
 use Rattle.ion_text.proofs.Pendings.{step_progress, step_pending}
@@ -18,14 +19,15 @@ returns-in_default-result-clause-stands c =
     step_stands c.args.self.now c.advance-result.new.self c.args.piece.now c.advance-result.result c.requires.begins c.advance-result.ensures.does
     c.advance-result.ensures.used c.advance-result.ensures.fine c.advance-result.ensures.steady c.advance-result.ensures.setting
 
-pub returns-in_default-result-clause-progress : goal.returns-in_default-result-clause-progress
-returns-in_default-result-clause-progress c = step_progress c.args.self.now c.advance-result.new.self c.args.piece.now c.advance-result.result
-    c.advance-result.ensures.does
+pub returns-in_default-result-clause-leaves : goal.returns-in_default-result-clause-leaves
+returns-in_default-result-clause-leaves c =
+    let progress = step_progress c.args.self.now c.advance-result.new.self c.args.piece.now c.advance-result.result c.advance-result.ensures.does in
+    let few_pending = step_pending c.args.self.now c.advance-result.new.self c.args.piece.now c.advance-result.result c.requires.begins
+    c.advance-result.ensures.does in
+    search rules
 
-pub returns-in_default-result-clause-few_pending : goal.returns-in_default-result-clause-few_pending
-returns-in_default-result-clause-few_pending c = step_pending c.args.self.now c.advance-result.new.self c.args.piece.now c.advance-result.result
-    c.requires.begins c.advance-result.ensures.does
-
-pub returns-in-Err-clause-within : goal.returns-in-Err-clause-within
-returns-in-Err-clause-within c = step_within c.args.self.now (state_of c.advance-result.new.self) c.advance-result.new.self.awaited c.args.piece.now
-    c.advance-result.result c.advance-result.ensures.does
+pub returns-in-Err-clause-refuses : goal.returns-in-Err-clause-refuses
+returns-in-Err-clause-refuses c =
+    let within = step_within c.args.self.now (state_of c.advance-result.new.self) c.advance-result.new.self.awaited c.args.piece.now c.advance-result.result
+    c.advance-result.ensures.does in
+    search rules
