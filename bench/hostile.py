@@ -170,6 +170,17 @@ def ending_in_an_id(count):
     return value * (count * 10 // len(value))
 
 
+def ending_in_a_new_symbol(count):
+    """Values that are told part by part up to their last, which has no id yet."""
+    front = b"[" + b"abc," * 200
+    return b"".join(b"%ss%x]\n" % (front, place) for place in range(count * 10 // len(front)))
+
+
+def annotated_lists(count):
+    """Small values with an annotation at each of many levels, the last of which no walk takes."""
+    return (b"[" + b"a::[" * 50 + b"1" + b"]" * 51 + b"\n[" + b"a::[" * 50 + b"$4" + b"]" * 51 + b"\n") * (count * 10 // 510)
+
+
 def empty_lists(count):
     return b"[] " * count
 
@@ -274,6 +285,10 @@ CASES = [
     ("texts that part in the last octets of each value", "compare A B", [two_lines, lambda count: two_lines(count, 2)], MILLION, LARGE),
     ("equal texts that end in what isn't passed over", "compare A B", [ending_in_an_id, ending_in_an_id], MILLION, LARGE),
     ("small equal texts on one line", "compare A B", [empty_lists, empty_lists], MILLION, LARGE),
+    ("texts that end in what isn't told by parts, to binary", "convert A --to binary", [ending_in_an_id], MILLION, LARGE),
+    ("texts that end in a new symbol, to binary", "convert A --to binary", [ending_in_a_new_symbol], MILLION, LARGE),
+    ("annotated lists in text", "check A", [annotated_lists], MILLION, LARGE),
+    ("annotated lists in text, to binary", "convert A --to binary", [annotated_lists], MILLION, LARGE),
     ("symbols, to binary", "convert A --to binary", [symbols], MILLION, LARGE),
     ("colliding symbols, to binary", "convert A --to binary", [colliding], MILLION, LARGE),
     ("appended tables", "check A", [tables], MILLION, LARGE),

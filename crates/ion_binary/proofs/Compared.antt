@@ -218,3 +218,12 @@ scalar_there t a m b end p o ec eo ea s =
       is = subst (λ x. Plain a.context.now x p) (sym whole) (is_scalar (between w a.at m.at) (between w m.at end) t p
           (subst (λ k. Header (forms.Scalar t) k (between w a.at m.at)) (sym size) o.header) body);
     }
+
+-- from the front of octets: so many of them are the value
+pub front_found : (c : List Slot) (w : List ℕ) (v : Value) (a b : Comparison) (n : ℕ) → a.context.now ≡ c → a.octets.now ≡ w → a.at ≡ 0
+    → Visited comparing v a b → n ≡ b.at → (n ≤ length w) × Binary c (take n w) v
+front_found c w v a b n context octets front visited e =
+    let f = value_found c w v a b visited (record { context = context; octets = octets; within = omega (arith, front) }) in
+    let most = f.here.within in
+    let place : between w a.at b.at ≡ take n w = ap (λ i. between w i b.at) front ∙ ap (λ k. take k w) (let e : b.at - 0 ≡ n = omega (arith, e) in e) in
+    (omega (arith, e, most), subst (λ x. Binary c x v) place f.is)

@@ -1,9 +1,10 @@
 -- Values that are found and not built.
-use Rattle.std.proofs.Common.{◌≡◌, ℕ, pos, neg_ℤ, ◌+◌, ◌*◌, ◌^◌, ◌<◌, ◌≤◌, List, [], ◌∷◌, ◌++◌, length, take, Option, Some, None, Result, Ok, Err, inl, inr, get_or, true, ◌&&◌, false, refl, ap, sym, subst, ◌∙◌, arith}
-use Rattle.std.specs.Prelude.{is_ok}
+use Rattle.std.proofs.Common.{◌≡◌, ℕ, pos, neg_ℤ, ◌+◌, ◌*◌, ◌^◌, ◌<◌, ◌≤◌, List, [], ◌∷◌, ◌++◌, length, take, Option, Some, None, Result, Ok, Err, inl, inr, get_or, true, ◌&&◌, false, refl, ap, sym, subst, ◌∙◌, arith, Bool, cond, leb-true, le-leb}
+use Rattle.std.specs.Prelude.{is_ok, nat_le}
 use Rattle.std.specs.Str.{IsUtf8}
 use Rattle.std.proofs.Math.Nat.{one-le-pow, mul-le-mul_right}
 use Rattle.ion_atoms.specs.declared.refusal.Reason.{Reason}
+use Rattle.ion_atoms.specs.declared.refusal.Reason.TheVariants.{ItemTooLong}
 use Rattle.ion_atoms.specs.Decimals.{DecimalParts}
 use Rattle.ion_atoms.specs.Timestamps.{TimestampParts}
 use Rattle.ion_model.specs.declared.value.Payload.TheVariants as payloads
@@ -28,7 +29,7 @@ use Rattle.std.proofs.lemmas.Bool.{cond-false, cases_lt, le-ltb}
 use Rattle.ion_binary.specs.declared.state.Frame.{Frame}
 use Rattle.ion_binary.specs.declared.state.Phase.{Phase}
 use Rattle.ion_binary.specs.declared.state.Phase.TheVariants.{Ready}
-use Rattle.ion_binary.specs.machine.EachOctet.{Spot, under, moved, anew, at, deliver, gives, levels, unfit}
+use Rattle.ion_binary.specs.machine.EachOctet.{Spot, under, moved, anew, at, deliver, gives, levels, or_else, unfit}
 use Rattle.ion_binary.specs.machine.Run.{run, Advances}
 use Rattle.ion_binary.specs.machine.Pieces.{run_after}
 use Rattle.ion_binary.proofs.Insides.{with_phase}
@@ -109,6 +110,14 @@ no_table_more [] s h e = λ k. ap (λ b. b && is_fields k) e
 no_table_more (x ∷ xs) s h e = λ k. h k
 
 -- the machine over the octets of a value at the top level
+-- where an item of the top level may end, it may end earlier
+pub fits_earlier : (item start to n : ℕ) → unfit item start [] forms.Wrapper to ≡ None → n ≤ to → unfit item start [] forms.Wrapper n ≡ None
+fits_earlier item start to n h few = go (nat_le to (start + item)) refl h
+  where
+    go : (b : Bool) → nat_le to (start + item) ≡ b → or_else (cond b None (Some ItemTooLong)) None ≡ None → unfit item start [] forms.Wrapper n ≡ None
+    go true e k = ap (λ b. or_else (cond b None (Some ItemTooLong)) None) (let most = leb-true to (start + item) e in le-leb n (start + item) (omega arith))
+    go false e k = absurd cc
+
 pub walk_gives : (g : Catalog) (l : Limits) (spot : Spot) (fs : List Frame) (kept : List ℕ) (phase : Phase) (piece : List ℕ) (n : ℕ) → phase ≡ Ready → fs ≡ []
     → n ≤ length piece → (v : Value) → Binary spot.context (take n piece) v → depth v ≤ l.depth → is_table v ≡ false
     → unfit l.item spot.start fs forms.Wrapper (spot.used + n) ≡ None

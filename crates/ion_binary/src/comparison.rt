@@ -6,7 +6,7 @@ ghost use Rattle.ion_scalar.specs.binary.Fields.{VarUInt};
 ghost use Rattle.ion_binary.specs.visiting.Brackets.{form_in};
 ghost use Rattle.ion_binary.specs.Opening.{opening_of};
 ghost use Rattle.ion_binary.specs.declared.form.Opening.TheVariants.{Null, Truth, Sized};
-ghost use Rattle.ion_binary.specs.visiting.Comparing.{Enters, IsThere, IsOne, IsIdOf, Moves, between};
+ghost use Rattle.ion_binary.specs.visiting.Comparing.{Enters, IsThere, IsOne, IsIdOf, Moves, StandsAt, Wraps, between};
 
 use crate::alike::alike_scalars;
 use crate::build::{lengths, number};
@@ -16,6 +16,8 @@ use ion_model::{Kind, Symbol};
 use ion_scalar::Size;
 use ion_symtab::Context;
 use ion_visiting::Bracket;
+
+mod texts;
 
 /// Where a container that is open in the other octets ends, and the ids of its annotations where it
 /// is a wrapper.
@@ -169,6 +171,41 @@ impl Comparison<'_> {
     }
 }
 
+impl Comparison<'_> {
+    /// Goes behind the header of what stands in brackets: where it ends.
+    #[inline(always)]
+    fn begin(&mut self, form: Form) -> Option<Ends>
+        ensures { IfSome result (λ mark. Enters form self.old self.new mark.end) }
+    {
+        let end = self.enter(form)?;
+        Some(Ends { ids: self.at, end })
+    }
+
+    /// Goes behind the header of a wrapper and the length of its ids: where these and it end.
+    #[inline(always)]
+    fn begin_wrapper(&mut self) -> Option<Ends>
+        ensures { IfSome result (λ mark. Wraps self.old mark self.new) }
+    {
+        let end = self.enter(Form::Wrapper)?;
+        let size = self.next_number()?;
+        if size == 0 || self.at >= end || size >= (end - self.at) as u64 {
+            return None;
+        }
+        Some(Ends {
+            ids: self.at + size as usize,
+            end,
+        })
+    }
+
+    /// Whether all up to this place was gone over.
+    #[inline(always)]
+    fn is_at(&mut self, place: usize) -> bool
+        ensures { result ≡ true → StandsAt self.old self.new place }
+    {
+        self.at == place
+    }
+}
+
 impl Visitor for Comparison<'_> {
     type Mark = Ends;
 
@@ -215,36 +252,27 @@ impl Visitor for Comparison<'_> {
 
     #[inline(always)]
     fn open(&mut self, bracket: Bracket) -> Option<Ends> {
-        let end = self.enter(form_of(bracket))?;
-        Some(Ends { ids: self.at, end })
+        self.begin(form_of(bracket))
     }
 
     #[inline(always)]
     fn close(&mut self, _bracket: Bracket, mark: Ends) -> bool {
-        self.at == mark.end
+        self.is_at(mark.end)
     }
 
     #[inline(always)]
     fn open_wrapper(&mut self) -> Option<Ends> {
-        let end = self.enter(Form::Wrapper)?;
-        let size = self.next_number()?;
-        if size == 0 || self.at >= end || size >= (end - self.at) as u64 {
-            return None;
-        }
-        Some(Ends {
-            ids: self.at + size as usize,
-            end,
-        })
+        self.begin_wrapper()
     }
 
     #[inline(always)]
     fn end_annotations(&mut self, mark: &Ends) -> bool {
-        self.at == mark.ids
+        self.is_at(mark.ids)
     }
 
     #[inline(always)]
     fn close_wrapper(&mut self, mark: Ends) -> bool {
-        self.at == mark.end
+        self.is_at(mark.end)
     }
 }
 

@@ -2,7 +2,7 @@
 use crate::doc_reader::{DocReader, Format};
 use ion_streams::Alike;
 
-/// Values of two documents of one encoding are seen to be the same where they lie.
+/// Values of two documents are seen to be the same where they lie.
 pub(crate) struct SideBySide;
 
 impl<'a> Alike<DocReader<'a>, DocReader<'a>> for SideBySide {
@@ -18,6 +18,15 @@ impl<'a> Alike<DocReader<'a>, DocReader<'a>> for SideBySide {
             }
             (Format::Text(reader), Format::Text(other)) => {
                 reader.pass_alike(piece, other, beside)
+            }
+            (Format::Binary(reader), Format::Text(other)) => {
+                reader.pass_beside(piece, other, beside)
+            }
+            (Format::Text(reader), Format::Binary(other)) => {
+                match other.pass_beside(beside, reader, piece) {
+                    Some((other_used, used)) => Some((used, other_used)),
+                    None => None,
+                }
             }
             _ => None,
         }

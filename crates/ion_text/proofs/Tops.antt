@@ -19,6 +19,7 @@ use Rattle.ion_symtab.specs.declared.catalog.Catalog.{Catalog}
 use Rattle.ion_symtab.specs.Slots.{Slot}
 use Rattle.ion_symtab.specs.Next.{next}
 use Rattle.ion_tokens.specs.declared.token_reader.FoundToken.{FoundToken}
+use Rattle.ion_tokens.specs.declared.mode.Place.{Place}
 use Rattle.ion_tokens.specs.declared.mode.Place.TheVariants as places
 use Rattle.ion_tokens.specs.declared.mode.Mark.{Mark}
 use Rattle.ion_tokens.specs.declared.mode.TokenKind.{TokenKind}
@@ -41,20 +42,20 @@ use Rattle.ion_text.specs.declared.state.Held.{Held}
 use Rattle.ion_text.specs.declared.state.Now.{Now}
 use Rattle.ion_text.specs.declared.state.Now.TheVariants as nows
 use Rattle.ion_text.specs.machine.AtOnce.{Passes}
-use Rattle.ion_text.specs.machine.EachToken.{under, spot_at, Reading, Symbols, goes, gives, refuses, at, fresh, place, settle, turn, turned, within, ended, begun_at}
+use Rattle.ion_text.specs.machine.EachToken.{under, spot_at, Reading, Symbols, goes, gives, refuses, at, fresh, place, place_in, settle, turn, turned, within, ended, begun_at}
 use Rattle.ion_text.specs.machine.Nested.{OpensAt}
 use Rattle.ion_text.specs.machine.Pieces.{led, drive, go_on, Quiet}
 use Rattle.ion_text.specs.machine.Progress.{Advances, Stands}
 use Rattle.ion_text.specs.machine.Run.{State, uses, fails, tells, eats, takes, on_scan, on_said, behind_given, unsettled, reaches, longest_top, is_long_begun, token_of, run, run_on, with_scan}
 use Rattle.ion_text.specs.machine.Views.{state_of, open_frames, with_beside, base}
-use Rattle.ion_text.specs.machine.Walked.{close_of, opened, first_now, behind_note, EndsAtOnce, IsFresh, IsValue, most, rested, FoundNote, FoundScalar, GivesTop, WalkedBare, WalkedContainer, WalkedNote, WalkedNotes, WalkedTop}
+use Rattle.ion_text.specs.machine.Walked.{close_of, opened, first_now, behind_note, EndsAtOnce, IsFresh, IsValue, most, rested, FoundNote, FoundScalar, GivesTop, LeadsPast, Walked, WalkedBare, WalkedContainer, WalkedItem, WalkedNote, WalkedNotes, WalkedTop}
 use Rattle.ion_text.specs.machine.FrontTokens.{held_of}
 use Rattle.ion_text.proofs.Arms.{left_found, given_found, mark_says, at_drop, blank_used}
 use Rattle.ion_text.proofs.Nested.{is_open_left, open_found, close_found, closing}
-use Rattle.ion_text.proofs.Passing.{NoticesNothing, inner_notices, passes_on, passes_none, passes_led, next_octet}
+use Rattle.ion_text.proofs.Passing.{NoticesNothing, inner_notices, passes_blank, passes_on, passes_none, passes_led, next_octet}
 use Rattle.ion_text.proofs.Stretches.{quiet_within}
 use Rattle.ion_text.proofs.Striding.{still_settles}
-use Rattle.ion_text.proofs.Symbols.{held_in, symbol_held, noted_passes, waits_so}
+use Rattle.ion_text.proofs.Symbols.{held_in, symbol_held, note_passes, noted_passes, waits_so}
 use Rattle.ion_text.proofs.Walking.{found_within, open_turns, up_to_close, container_noted}
 
 -- a blank at the front of octets
@@ -149,9 +150,10 @@ base_begun : (start begin : ℕ) (ss : Symbols) → base [] ss start begin ≡ b
 base_begun start begin [] = refl
 base_begun start begin (s ∷ ss) = refl
 
-pub begun_more : (start begin : ℕ) (ss : Symbols) (s : Option (List ℕ)) → begun_at start begin [] (ss ++ s ∷ []) ≡ start
-begun_more start begin [] s = refl
-begun_more start begin (x ∷ ss) s = refl
+pub begun_more : (start begin : ℕ) (fs : List Frame) (ss : Symbols) (s : Option (List ℕ)) → begun_at start begin fs (ss ++ s ∷ []) ≡ start
+begun_more start begin [] [] s = refl
+begun_more start begin [] (x ∷ ss) s = refl
+begun_more start begin (f ∷ fs) ss s = refl
 
 module _ (g : Catalog) (l : Limits) (start : ℕ) (c : List Slot) (ss : Symbols) where
   abbrev on_top : Reading
@@ -303,14 +305,24 @@ noted_notices l start c ss x s idle few =
     reach [] = ap (λ b. longest_top start s.used nows.Ready (x ∷ []) b (is_long_begun b)) none
     reach (y ∷ ss) = ap (λ b. longest_top start s.used nows.Ready (y ∷ (ss ++ x ∷ [])) b (is_long_begun b)) none
 
--- an annotation of the top level
+-- a blank, wherever a value may come
+any_blank : (g : Catalog) (l : Limits) (start : ℕ) (c : List Slot) (fs : List Frame) (ss : Symbols) (rest : Rest) (piece : List ℕ) (n : ℕ)
+    → n ≤ length piece → rest.used + n ≤ l.item + begun_at start rest.used fs ss → IsPassed piece n
+    → Passes g l (rested rest start c fs ss nows.Ready) piece n (rested (past_blank rest n) start c fs ss nows.Ready)
+any_blank g l start c [] ss rest piece n within room passed = top_blank g l start c ss rest piece n within room passed
+any_blank g l start c (f ∷ fs) ss rest piece n within room passed =
+    let r = at start c (f ∷ fs) ss nows.Ready in
+    passes_blank g l r (l.item + start) (inner_notices l r refl) (resting rest) (resting (past_blank rest n)) piece n within refl refl (passed (place r) rest)
+    (omega arith) (still_settles g l r tt)
+
+-- an annotation, wherever a value may come
 module _ (octets : List ℕ) (token : FoundToken) (f : FoundNote octets token) (m : ℕ) (within : token.count + m + 2 < length octets)
     (passed : IsPassed (drop token.count octets) m) (one : get_or octets (token.count + m) 0 ≡ 58) (two : get_or octets (token.count + m + 1) 0 ≡ 58) where
-  note_leads : (g : Catalog) (l : Limits) (start : ℕ) (c : List Slot) (ss : Symbols) (rest : Rest)
-      → rest.used + length octets ≤ l.item + begun_at start rest.used [] ss
-      → Passes g l (rested rest start c [] ss nows.Ready) octets (token.count + m + 2)
-      (rested (behind_note rest token m) (begun_at start rest.used [] ss) c [] (ss ++ f.name ∷ []) nows.Ready)
-  note_leads g l start c ss rest room =
+  note_leads : (g : Catalog) (l : Limits) (start : ℕ) (c : List Slot) (fs : List Frame) (ss : Symbols) (rest : Rest)
+      → rest.used + length octets ≤ l.item + begun_at start rest.used fs ss
+      → Passes g l (rested rest start c fs ss nows.Ready) octets (token.count + m + 2)
+      (rested (behind_note (place_in fs nows.Ready) rest token m) (begun_at start rest.used fs ss) c fs (ss ++ f.name ∷ []) nows.Ready)
+  note_leads g l start c [] ss rest room =
       let b = f.begins places.Top rest in
       let n = token.count in
       let start' = begun_at start rest.used [] ss in
@@ -321,32 +333,40 @@ module _ (octets : List ℕ) (token : FoundToken) (f : FoundNote octets token) (
       (waits_so (under g l) (spot_at (rest.used + n) start' c) [] ss b.content pays.0 pays.1)
       (waits_notices l start' c ss pays.0 (rest.used + n) (rest.used + length octets) (omega arith))
       (λ k idle few. noted_notices l start' c ss f.name k idle (omega arith))
+  note_leads g l start c (h ∷ fs) ss rest room =
+      let r = at start c (h ∷ fs) ss nows.Ready in
+      let b = f.begins (place r) rest in
+      let pays = held_in (held_of b.content) _ b.pays in
+      note_passes g l r refl rest octets token.kind b.kept token.count m token.left b.content room (omega arith) b.found b.says passed tt tt refl pays.0 pays.1
+      f.name (symbol_held pays.0 f.name pays.2) within one two
 
-  note_used : (rest : Rest) → (behind_note rest token m).used ≡ rest.used + (token.count + m + 2)
-  note_used rest = let used = blank_used (past_token places.Top rest token.kind token.count) m in omega arith
+  note_used : (p : Place) (rest : Rest) → (behind_note p rest token m).used ≡ rest.used + (token.count + m + 2)
+  note_used p rest = let used = blank_used (past_token p rest token.kind token.count) m in omega arith
 
   -- with a blank behind it, and what is noted
-  pub walked_note : (before mid after : Tally) (n : ℕ) (known_behind : List ℕ) → known_behind ≡ drop (token.count + m + 2) octets → n ≤ length known_behind
-      → IsPassed known_behind n
-      → mid ≡ record { kind = before.kind; level = before.level; nodes = min (before.nodes + 1) most; rest = behind_note before.rest token m }
+  pub walked_note : (p : Place) (before mid after : Tally) (n : ℕ) (known_behind : List ℕ) → known_behind ≡ drop (token.count + m + 2) octets
+      → n ≤ length known_behind → IsPassed known_behind n
+      → mid ≡ record { kind = before.kind; level = before.level; nodes = min (before.nodes + 1) most; rest = behind_note p before.rest token m }
       → after ≡ record { kind = mid.kind; level = mid.level; nodes = mid.nodes; rest = past_blank mid.rest n }
-      → (w : WalkedNote octets (token.count + m + 2 + n) before after) × (w.name ≡ f.name)
-  walked_note before mid after n known_behind is few blank em ea =
+      → (w : WalkedNote p octets (token.count + m + 2 + n) before after) × (w.name ≡ f.name)
+  walked_note p before mid after n known_behind is few blank em ea =
       let size : length known_behind ≡ length octets - (token.count + m + 2) = ap (λ (w : List ℕ). length w) is ∙ length-drop (token.count + m + 2) octets in
-      let counted = note_used before.rest in
-      let last = blank_used (behind_note before.rest token m) n in
+      let counted = note_used p before.rest in
+      let last = blank_used (behind_note p before.rest token m) n in
       rw (ea, em) (
         record {
           name = f.name;
-          leads = λ g l start c ss room.
-              let start' = begun_at start before.rest.used [] ss in
-              let same = begun_more start' (behind_note before.rest token m).used ss f.name in
-              passes_on g l (rested before.rest start c [] ss nows.Ready) (rested (behind_note before.rest token m) start' c [] (ss ++ f.name ∷ []) nows.Ready)
-              (rested (past_blank (behind_note before.rest token m) n) start' c [] (ss ++ f.name ∷ []) nows.Ready) octets (token.count + m + 2) n
-              (note_leads g l start c ss before.rest room)
-              (subst (λ w. Passes g l (rested (behind_note before.rest token m) start' c [] (ss ++ f.name ∷ []) nows.Ready) w n
-              (rested (past_blank (behind_note before.rest token m) n) start' c [] (ss ++ f.name ∷ []) nows.Ready)) is
-              (top_blank g l start' c (ss ++ f.name ∷ []) (behind_note before.rest token m) known_behind n few (omega arith) blank));
+          leads = λ g l start c fs ss here room.
+              let start' = begun_at start before.rest.used fs ss in
+              let there = behind_note p before.rest token m in
+              let same = begun_more start' there.used fs ss f.name in
+              passes_on g l (rested before.rest start c fs ss nows.Ready) (rested there start' c fs (ss ++ f.name ∷ []) nows.Ready)
+              (rested (past_blank there n) start' c fs (ss ++ f.name ∷ []) nows.Ready) octets (token.count + m + 2) n
+              (subst (λ p. Passes g l (rested before.rest start c fs ss nows.Ready) octets (token.count + m + 2)
+              (rested (behind_note p before.rest token m) start' c fs (ss ++ f.name ∷ []) nows.Ready)) here (note_leads g l start c fs ss before.rest room))
+              (subst (λ w. Passes g l (rested there start' c fs (ss ++ f.name ∷ []) nows.Ready) w n
+              (rested (past_blank there n) start' c fs (ss ++ f.name ∷ []) nows.Ready)) is
+              (any_blank g l start' c fs (ss ++ f.name ∷ []) there known_behind n few (omega arith) blank));
           within = omega arith;
           used = omega arith;
           free = f.free;
@@ -357,10 +377,10 @@ module _ (octets : List ℕ) (token : FoundToken) (f : FoundNote octets token) (
       )
 
 -- none
-unfoldable pub notes_none : (octets : List ℕ) (before : Tally) → WalkedNotes octets 0 before before
-notes_none octets before = record {
+unfoldable pub notes_none : (p : Place) (octets : List ℕ) (before : Tally) → WalkedNotes p octets 0 before before
+notes_none p octets before = record {
   notes = [];
-  leads = λ g l start c few. (start, refl, passes_none g l (rested before.rest start c [] [] nows.Ready) octets);
+  leads = λ g l start c fs here room. (start, refl, passes_none g l (rested before.rest start c fs [] nows.Ready) octets);
   within = omega arith;
   used = omega arith;
   free = λ k. refl;
@@ -369,9 +389,9 @@ notes_none octets before = record {
 }
 
 -- one more
-unfoldable pub notes_on : (octets rest : List ℕ) (a b : ℕ) (before mid after : Tally) → rest ≡ drop a octets → WalkedNotes octets a before mid
-    → WalkedNote rest b mid after → WalkedNotes octets (a + b) before after
-notes_on octets rest a b before mid after is w x =
+unfoldable pub notes_on : (p : Place) (octets rest : List ℕ) (a b : ℕ) (before mid after : Tally) → rest ≡ drop a octets → WalkedNotes p octets a before mid
+    → WalkedNote p rest b mid after → WalkedNotes p octets (a + b) before after
+notes_on p octets rest a b before mid after is w x =
     let size : length rest ≡ length octets - a = ap (λ (w : List ℕ). length w) is ∙ length-drop a octets in
     let within = w.within in
     let within' = x.within in
@@ -382,18 +402,19 @@ notes_on octets rest a b before mid after is w x =
     let more : length (w.notes ++ x.name ∷ []) ≡ length w.notes + 1 = length-append w.notes (x.name ∷ []) in
     record {
       notes = w.notes ++ x.name ∷ [];
-      leads = λ g l start c few.
-          let y = w.leads g l start c few in
-          let begins = y.1 in (
-            before.rest.used,
-            begun_more before.rest.used after.rest.used w.notes x.name,
-            subst (λ k. Passes g l (rested before.rest start c [] [] nows.Ready) octets (a + b) (rested after.rest k c [] (w.notes ++ x.name ∷ []) nows.Ready))
+      leads = λ g l start c fs here room.
+          let y = w.leads g l start c fs here room in
+          let begins = y.1 in
+          let first = begun_at start before.rest.used fs [] in (
+            first,
+            begun_more first after.rest.used fs w.notes x.name,
+            subst (λ k. Passes g l (rested before.rest start c fs [] nows.Ready) octets (a + b) (rested after.rest k c fs (w.notes ++ x.name ∷ []) nows.Ready))
                 begins
-                (passes_on g l (rested before.rest start c [] [] nows.Ready) (rested mid.rest y.0 c [] w.notes nows.Ready)
-                (rested after.rest (begun_at y.0 mid.rest.used [] w.notes) c [] (w.notes ++ x.name ∷ []) nows.Ready) octets a b y.2
-                (subst (λ o. Passes g l (rested mid.rest y.0 c [] w.notes nows.Ready) o b
-                (rested after.rest (begun_at y.0 mid.rest.used [] w.notes) c [] (w.notes ++ x.name ∷ []) nows.Ready)) is
-                (x.leads g l y.0 c w.notes (omega arith)))),
+                (passes_on g l (rested before.rest start c fs [] nows.Ready) (rested mid.rest y.0 c fs w.notes nows.Ready)
+                (rested after.rest (begun_at y.0 mid.rest.used fs w.notes) c fs (w.notes ++ x.name ∷ []) nows.Ready) octets a b y.2
+                (subst (λ o. Passes g l (rested mid.rest y.0 c fs w.notes nows.Ready) o b
+                (rested after.rest (begun_at y.0 mid.rest.used fs w.notes) c fs (w.notes ++ x.name ∷ []) nows.Ready)) is
+                (x.leads g l y.0 c fs w.notes here (omega arith)))),
           );
       within = omega arith;
       used = omega arith;
@@ -405,6 +426,51 @@ notes_on octets rest a b before mid after is w x =
     free : (ss : Symbols) → ((k : Kind) → is_table_of ss k ≡ false) → (k : Kind) → is_table_of (ss ++ x.name ∷ []) k ≡ false
     free [] h k = ap (λ b. b && is_fields k) x.free
     free (s ∷ ss) h k = h k
+
+-- a value behind them in a container
+pub item_annotated : (p : Place) (level : ℕ) (octets rest : List ℕ) (a b : ℕ) (before mid after : Tally) → rest ≡ drop a octets
+    → (w : WalkedNotes p octets a before mid) (x : Walked p level rest b mid after)
+    → (i : WalkedItem p level octets (a + b) before after) × (i.value ≡ annotated w.notes x.payload)
+item_annotated p level octets rest a b before mid after is w x =
+    let size : length rest ≡ length octets - a = ap (λ (w : List ℕ). length w) is ∙ length-drop a octets in
+    let within = w.within in
+    let within' = x.within in
+    let used = w.used in
+    let used' = x.used in
+    let deep = x.deep in
+    let left = w.left in
+    let left' = x.noted.left in
+    let counted = w.counted in
+    let counted' = x.noted.counted in
+    let v = annotated w.notes x.payload in
+    let d : depth v ≡ depth (bare x.payload) = depth-out v ∙ sym (depth-out (bare x.payload)) in
+    let n = nodes-out v in
+    let n' = nodes-out (bare x.payload) in (
+      record {
+        value = v;
+        leads = λ g l start c fs those n inner here deep room puts. inside g l start c fs those n inner here deep room puts;
+        within = omega arith;
+        used = omega arith;
+        deep = omega arith;
+        left = omega arith;
+        counted = omega arith;
+      },
+      refl,
+    )
+  where
+    inside : LeadsPast p level before.rest octets (a + b) after.rest (annotated w.notes x.payload)
+    inside g l start c [] those n inner here deep room puts = absurd cc
+    inside g l start c (f ∷ fs) those n inner here deep room puts =
+        let size : length rest ≡ length octets - a = ap (λ (w : List ℕ). length w) is ∙ length-drop a octets in
+        let within = w.within in
+        let used = w.used in
+        let y = w.leads g l start c (f ∷ fs) here room in
+        let begin : y.0 ≡ start = y.1 in
+        passes_on g l (rested before.rest start c (f ∷ fs) [] nows.Ready) (rested mid.rest start c (f ∷ fs) w.notes nows.Ready)
+        (rested after.rest start c those [] n) octets a b
+        (subst (λ k. Passes g l (rested before.rest start c (f ∷ fs) [] nows.Ready) octets a (rested mid.rest k c (f ∷ fs) w.notes nows.Ready)) begin y.2)
+        (subst (λ o. Passes g l (rested mid.rest start c (f ∷ fs) w.notes nows.Ready) o b (rested after.rest start c those [] n)) is
+        (x.leads g l start c w.notes (f ∷ fs) those n inner here deep (omega arith) puts))
 
 -- values behind them
 
@@ -462,8 +528,8 @@ bare_scalar level octets s before after f ends given low e =
     )
 
 -- both
-unfoldable pub walked_top : (level : ℕ) (octets rest : List ℕ) (a b : ℕ) (before mid after : Tally) → rest ≡ drop a octets → WalkedNotes octets a before mid
-    → WalkedBare level rest b mid after → WalkedTop level octets (a + b) before after
+unfoldable pub walked_top : (level : ℕ) (octets rest : List ℕ) (a b : ℕ) (before mid after : Tally) → rest ≡ drop a octets
+    → WalkedNotes places.Top octets a before mid → WalkedBare level rest b mid after → WalkedTop level octets (a + b) before after
 walked_top level octets rest a b before mid after is w x =
     let size : length rest ≡ length octets - a = ap (λ (w : List ℕ). length w) is ∙ length-drop a octets in
     let within = w.within in
@@ -486,12 +552,13 @@ walked_top level octets rest a b before mid after is w x =
     record {
       value = v;
       gives = λ g l start c deep few.
-          let y = w.leads g l start c few in
+          let y = w.leads g l start c [] refl (omega arith) in
           let begins = y.1 in
           let r = x.gives g l y.0 c w.notes deep (omega arith) (w.free (kind_of v)) in
           passes_then g l (rested before.rest start c [] [] nows.Ready) (rested mid.rest y.0 c [] w.notes nows.Ready) octets a b some y.2
           ∙ (ap (λ o. run g l mid.rest.used (rested mid.rest y.0 c [] w.notes nows.Ready) (take b o)) (sym is)
           ∙ (r ∙ ap (λ j. record { given = (v, j) ∷ []; now = Ok (rested after.rest 0 c [] [] nows.Ready) }) total));
+      plain = w.free (kind_of v);
       some = omega arith;
       within = omega arith;
       used = omega arith;

@@ -9,15 +9,15 @@ use Rattle.ion_tokens.specs.declared.mode.Place.{Place}
 use Rattle.ion_tokens.specs.declared.mode.Place.TheVariants as places
 use Rattle.ion_tokens.specs.declared.plain_tokens.Rest.{Rest}
 use Rattle.ion_tokens.specs.Places.{is_name}
-use Rattle.ion_visiting.specs.Visits.{IsPart, Visits, part, annotation, name, bare_visited, annotated_visited, VisitedPayload, in_one, in_list, in_sexp, in_struct, VisitedItems, VisitedFields, no_annotations, one_annotation}
+use Rattle.ion_visiting.specs.Visits.{IsPart, Visits, part, annotation, name, bare_visited, annotated_visited, Visited, VisitedPayload, in_one, in_list, in_sexp, in_struct, VisitedItems, VisitedFields, no_annotations, one_annotation}
 use Rattle.ion_text.specs.declared.reader.finders.Scalar.{Scalar}
 use Rattle.ion_text.specs.declared.reader.walks.Tally.{Tally}
 use Rattle.ion_text.specs.machine.Nested.{OpensAt}
 use Rattle.ion_text.specs.machine.Walked.{behind_open, behind_close, Walked, WalkedName, WalkedNote, WalkedBare}
 use Rattle.ion_text.specs.visiting.Parts.{bracket_of}
-use Rattle.ion_text.specs.visiting.Walks.{FoundPart, VisitedValue, VisitedContainer, VisitedInside, VisitedName, VisitedNotes, VisitedBare, VisitedTop}
-use Rattle.ion_text.proofs.Tops.{notes_none, notes_on, walked_bare, walked_top}
-use Rattle.ion_text.proofs.Walking.{ListGone, SexpGone, FieldsGone, walked_container, list_inside, sexp_inside, fields_inside}
+use Rattle.ion_text.specs.visiting.Walks.{FoundPart, VisitedValue, VisitedItem, VisitedContainer, VisitedInside, VisitedName, VisitedNotes, VisitedBare, VisitedTop}
+use Rattle.ion_text.proofs.Tops.{item_annotated, notes_none, notes_on, walked_bare, walked_top}
+use Rattle.ion_text.proofs.Walking.{ListGone, SexpGone, FieldsGone, item_bare, walked_container, list_inside, sexp_inside, fields_inside}
 
 module _ {S M : Type 0} (h : Visits S M) where
   -- a value of one token
@@ -48,11 +48,11 @@ module _ {S M : Type 0} (h : Visits S M) where
       subst (λ k. VisitedName h octets (k + n) before after a b) (sym e) (record { walked = w.0; visited = subst (λ x. h.takes a (name x) b) (sym w.1) t })
 
   -- an annotation
-  pub note_visited : (octets : List ℕ) (note total n : ℕ) (s : Option (List ℕ)) (before after : Tally) (a b : S) → note ≡ total
-      → (w : WalkedNote octets (total + n) before after) × (w.name ≡ s) → h.takes a (annotation s) b
-      → (w : WalkedNote octets (note + n) before after) × h.takes a (annotation w.name) b
-  note_visited octets note total n s before after a b e w t =
-      subst (λ k. (w : WalkedNote octets (k + n) before after) × h.takes a (annotation w.name) b) (sym e)
+  pub note_visited : (p : Place) (octets : List ℕ) (note total n : ℕ) (s : Option (List ℕ)) (before after : Tally) (a b : S) → note ≡ total
+      → (w : WalkedNote p octets (total + n) before after) × (w.name ≡ s) → h.takes a (annotation s) b
+      → (w : WalkedNote p octets (note + n) before after) × h.takes a (annotation w.name) b
+  note_visited p octets note total n s before after a b e w t =
+      subst (λ k. (w : WalkedNote p octets (k + n) before after) × h.takes a (annotation w.name) b) (sym e)
       (w.0, subst (λ x. h.takes a (annotation x) b) (sym w.1) t)
 
   -- containers
@@ -110,18 +110,38 @@ module _ {S M : Type 0} (h : Visits S M) where
     }
 
   -- annotations of an item
-  pub no_notes : (octets : List ℕ) (before : Tally) (a : S) → VisitedNotes h octets 0 before before a a
+  pub no_notes : (p : Place) (octets : List ℕ) (before : Tally) (a : S) → VisitedNotes h p octets 0 before before a a
   unfolding notes_none
-  no_notes octets before a = record { walked = notes_none octets before; some = λ e. absurd (omega (arith, e)); visited = no_annotations a }
+  no_notes p octets before a = record { walked = notes_none p octets before; some = λ e. absurd (omega (arith, e)); visited = no_annotations a }
 
-  pub notes_more : (octets rest : List ℕ) (i j : ℕ) (before mid after : Tally) (a m b : S) → rest ≡ drop i octets → VisitedNotes h octets i before mid a m
-      → (w : WalkedNote rest j mid after) × h.takes m (annotation w.name) b → VisitedNotes h octets (i + j) before after a b
+  pub notes_more : (p : Place) (octets rest : List ℕ) (i j : ℕ) (before mid after : Tally) (a m b : S) → rest ≡ drop i octets → VisitedNotes h p octets i before mid a m
+      → (w : WalkedNote p rest j mid after) × h.takes m (annotation w.name) b → VisitedNotes h p octets (i + j) before after a b
   unfolding notes_on
-  notes_more octets rest i j before mid after a m b is w x = record {
-    walked = notes_on octets rest i j before mid after is w.walked x.0;
+  notes_more p octets rest i j before mid after a m b is w x = record {
+    walked = notes_on p octets rest i j before mid after is w.walked x.0;
     some = λ e. omega (arith, length-append w.walked.notes (x.0.name ∷ []));
     visited = one_annotation w.walked.notes x.0.name a m b w.visited x.1;
   }
+
+  -- a value in a container, without annotations
+  pub item_bare_visited : (p : Place) (level : ℕ) (octets : List ℕ) (before after : Tally) (a b : S) (r : Option ℕ)
+      → IfSome r (λ n. VisitedValue h p level octets n before after a b) → IfSome r (λ n. VisitedItem h p level octets n before after a b)
+  unfolding item_bare
+  item_bare_visited p level octets before after a b None w = w
+  item_bare_visited p level octets before after a b (Some n) w =
+      record { walked = item_bare p level octets n before after w.walked; visited = bare_visited w.walked.payload a b w.visited }
+
+  -- and with some
+  pub item_annotated_visited : (p : Place) (level : ℕ) (octets rest : List ℕ) (i j : ℕ) (before mid after : Tally) (k : M) (a m n x y b : S)
+      → rest ≡ drop i octets → 0 < i → h.opens_wrapper a k m → VisitedNotes h p octets i before mid m n → h.ends_annotations n k x
+      → VisitedValue h p level rest j mid after x y → h.closes_wrapper y k b → VisitedItem h p level octets (i + j) before after a b
+  item_annotated_visited p level octets rest i j before mid after k a m n x y b is some o w t v c =
+      let item = item_annotated p level octets rest i j before mid after is w.walked v.walked in
+      record {
+        walked = item.0;
+        visited = subst (λ v. Visited h v a b) (sym item.1)
+            (annotated_visited w.walked.notes v.walked.payload k a m n x y b (w.some some) o w.visited t v.visited c);
+      }
 
   -- the item of a value without annotations
   pub tops_bare : (level : ℕ) (octets : List ℕ) (before after : Tally) (a b : S) (r : Option ℕ) → IfSome r (λ n. VisitedBare h level octets n before after a b)
@@ -132,14 +152,14 @@ module _ {S M : Type 0} (h : Visits S M) where
       let all : 0 + n ≡ n = omega arith in
       subst (λ k. VisitedTop h level octets k before after a b) all
       (record {
-        walked = walked_top level octets octets 0 n before before after refl (notes_none octets before) w.walked;
+        walked = walked_top level octets octets 0 n before before after refl (notes_none places.Top octets before) w.walked;
         visited =
             bare_visited w.walked.payload a b w.visited;
       })
 
   -- and of one with some
   pub top_annotated : (level : ℕ) (octets rest : List ℕ) (i j : ℕ) (before mid after : Tally) (k : M) (a m n x y b : S) → rest ≡ drop i octets → 0 < i
-      → h.opens_wrapper a k m → VisitedNotes h octets i before mid m n → h.ends_annotations n k x → VisitedBare h level rest j mid after x y
+      → h.opens_wrapper a k m → VisitedNotes h places.Top octets i before mid m n → h.ends_annotations n k x → VisitedBare h level rest j mid after x y
       → h.closes_wrapper y k b
       → VisitedTop h level octets (i + j) before after a b
   unfolding walked_top

@@ -41,7 +41,7 @@ use Rattle.ion_text.specs.machine.Pieces.{Quiet}
 use Rattle.ion_text.specs.machine.Nested.{OpensAt, closes}
 use Rattle.ion_text.specs.machine.Views.{IsCalm}
 use Rattle.ion_text.specs.machine.AtOnce.{Passes, IsStill}
-use Rattle.ion_text.specs.machine.Walked.{behind_key, EndsAtOnce, IsValue, most, FoundScalar, FoundName, rested, Leads, LeadsBehind, Noted, Walked, WalkedContainer, WalkedInside, WalkedName, close_of, opened, first_now}
+use Rattle.ion_text.specs.machine.Walked.{behind_key, EndsAtOnce, IsValue, most, FoundScalar, FoundName, rested, Leads, LeadsBehind, Noted, Walked, WalkedItem, WalkedContainer, WalkedInside, WalkedName, close_of, opened, first_now}
 use Rattle.ion_text.proofs.Arms.{StaysIn, ready_turns, ended_stays, left_passes, given_passes, mark_says, at_drop, blank_used}
 use Rattle.ion_text.proofs.Nested.{is_open_left, open_found, close_found, closing}
 use Rattle.ion_text.proofs.Passing.{inner_notices, passes_none, passes_on, passes_blank, calm_quiet}
@@ -207,24 +207,37 @@ field_comma level r octets ms some first = λ g l start c ss fs deep room.
 
 -- values in containers
 
+-- one without annotations
+unfoldable pub item_bare : (p : Place) (level : ℕ) (octets : List ℕ) (count : ℕ) (before after : Tally) → Walked p level octets count before after
+    → WalkedItem p level octets count before after
+item_bare p level octets count before after w = record {
+  value = bare w.payload;
+  leads = λ g l start c fs those n inner here deep room puts. w.leads g l start c [] fs those n inner here deep room puts;
+  within = w.within;
+  used = w.used;
+  deep = w.deep;
+  left = w.noted.left;
+  counted = w.noted.counted;
+}
+
 module _ (level : ℕ) (octets : List ℕ) (count : ℕ) (before after : Tally) where
-  pub list_value : (w : Walked places.List level octets count before after) (vs : List Value)
-      → Leads level before.rest octets count after.rest (λ ss. frames.List ss vs) nows.Ready (λ ss. frames.List ss (vs ++ bare w.payload ∷ [])) nows.After
+  pub list_value : (w : WalkedItem places.List level octets count before after) (vs : List Value)
+      → Leads level before.rest octets count after.rest (λ ss. frames.List ss vs) nows.Ready (λ ss. frames.List ss (vs ++ w.value ∷ [])) nows.After
   list_value w vs = λ g l start c ss fs deep room.
-      w.leads g l start c [] (frames.List ss vs ∷ fs) (frames.List ss (vs ++ bare w.payload ∷ []) ∷ fs) nows.After refl refl (omega arith) room
+      w.leads g l start c (frames.List ss vs ∷ fs) (frames.List ss (vs ++ w.value ∷ []) ∷ fs) nows.After refl refl (omega arith) room
       (λ setting spot. refl)
 
-  pub sexp_value : (w : Walked places.Sexp level octets count before after) (vs : List Value)
-      → Leads level before.rest octets count after.rest (λ ss. frames.Sexp ss vs) nows.Ready (λ ss. frames.Sexp ss (vs ++ bare w.payload ∷ [])) nows.Ready
+  pub sexp_value : (w : WalkedItem places.Sexp level octets count before after) (vs : List Value)
+      → Leads level before.rest octets count after.rest (λ ss. frames.Sexp ss vs) nows.Ready (λ ss. frames.Sexp ss (vs ++ w.value ∷ [])) nows.Ready
   sexp_value w vs = λ g l start c ss fs deep room.
-      w.leads g l start c [] (frames.Sexp ss vs ∷ fs) (frames.Sexp ss (vs ++ bare w.payload ∷ []) ∷ fs) nows.Ready refl refl (omega arith) room
+      w.leads g l start c (frames.Sexp ss vs ∷ fs) (frames.Sexp ss (vs ++ w.value ∷ []) ∷ fs) nows.Ready refl refl (omega arith) room
       (λ setting spot. refl)
 
-  pub field_value : (w : Walked places.FieldValue level octets count before after) (ms : List Field) (name : Option (List ℕ))
+  pub field_value : (w : WalkedItem places.FieldValue level octets count before after) (ms : List Field) (name : Option (List ℕ))
       → Leads level before.rest octets count after.rest (λ ss. frames.Named ss ms name) nows.Ready
-      (λ ss. frames.Fields ss (ms ++ field_of name (bare w.payload) ∷ [])) nows.After
+      (λ ss. frames.Fields ss (ms ++ field_of name w.value ∷ [])) nows.After
   field_value w ms name = λ g l start c ss fs deep room.
-      w.leads g l start c [] (frames.Named ss ms name ∷ fs) (frames.Fields ss (ms ++ field_of name (bare w.payload) ∷ []) ∷ fs) nows.After refl refl
+      w.leads g l start c (frames.Named ss ms name ∷ fs) (frames.Fields ss (ms ++ field_of name w.value ∷ []) ∷ fs) nows.After refl refl
       (omega arith) room (λ setting spot. refl)
 
 -- containers
@@ -475,21 +488,21 @@ fields-more ms m =
     omega arith
 
 module _ (level : ℕ) (octets rest : List ℕ) (at : ℕ) (before now next : Tally) (is : rest ≡ drop at octets) where
-  pub list_value_on : (vs : List Value) (x : ListGone level octets at before now vs false) (j : ℕ) (w : Walked places.List level rest j now next)
-      → ListGone level octets (at + j) before next (vs ++ bare w.payload ∷ []) true
+  pub list_value_on : (vs : List Value) (x : ListGone level octets at before now vs false) (j : ℕ) (w : WalkedItem places.List level rest j now next)
+      → ListGone level octets (at + j) before next (vs ++ w.value ∷ []) true
   list_value_on vs x j w =
       gone_on marks.ListOpen level octets rest at before now (λ ss. frames.List ss vs) nows.Ready (depths vs) (sum (map nodes vs)) x is next
-      (λ ss. frames.List ss (vs ++ bare w.payload ∷ [])) nows.After j (depth (bare w.payload)) (nodes (bare w.payload)) _ _
-      (list_value level rest j now next w vs) w.within w.used w.deep w.noted.left w.noted.counted (deepest-more vs (bare w.payload))
-      (nodes-more vs (bare w.payload))
+      (λ ss. frames.List ss (vs ++ w.value ∷ [])) nows.After j (depth w.value) (nodes w.value) _ _
+      (list_value level rest j now next w vs) w.within w.used w.deep w.left w.counted (deepest-more vs w.value)
+      (nodes-more vs w.value)
 
-  pub sexp_value_on : (vs : List Value) (x : SexpGone level octets at before now vs) (j : ℕ) (w : Walked places.Sexp level rest j now next)
-      → SexpGone level octets (at + j) before next (vs ++ bare w.payload ∷ [])
+  pub sexp_value_on : (vs : List Value) (x : SexpGone level octets at before now vs) (j : ℕ) (w : WalkedItem places.Sexp level rest j now next)
+      → SexpGone level octets (at + j) before next (vs ++ w.value ∷ [])
   sexp_value_on vs x j w =
       gone_on marks.SexpOpen level octets rest at before now (λ ss. frames.Sexp ss vs) nows.Ready (depths vs) (sum (map nodes vs)) x is next
-      (λ ss. frames.Sexp ss (vs ++ bare w.payload ∷ [])) nows.Ready j (depth (bare w.payload)) (nodes (bare w.payload)) _ _
-      (sexp_value level rest j now next w vs) w.within w.used w.deep w.noted.left w.noted.counted (deepest-more vs (bare w.payload))
-      (nodes-more vs (bare w.payload))
+      (λ ss. frames.Sexp ss (vs ++ w.value ∷ [])) nows.Ready j (depth w.value) (nodes w.value) _ _
+      (sexp_value level rest j now next w vs) w.within w.used w.deep w.left w.counted (deepest-more vs w.value)
+      (nodes-more vs w.value)
 
   pub list_comma_on : (vs : List Value) (x : ListGone level octets at before now vs true) → 0 < length rest → get_or rest 0 0 ≡ 44
       → next ≡ record { kind = now.kind; level = now.level; nodes = now.nodes; rest = past_token places.List now.rest (kinds.Mark marks.Comma) 1 }
@@ -532,13 +545,13 @@ module _ (level : ℕ) (octets rest : List ℕ) (at : ℕ) (before now next : Ta
   -- and its value
   pub field_value_on : (ms : List Field) (name : Option (List ℕ))
       (x : Gone marks.FieldsOpen level octets at before now (λ ss. frames.Named ss ms name) nows.Ready (field_depths ms) (sum (map field_nodes ms) + 1)) (j : ℕ)
-      (w : Walked places.FieldValue level rest j now next)
-      → FieldsGone level octets (at + j) before next (ms ++ field_of name (bare w.payload) ∷ []) true
+      (w : WalkedItem places.FieldValue level rest j now next)
+      → FieldsGone level octets (at + j) before next (ms ++ field_of name w.value ∷ []) true
   field_value_on ms name x j w =
-      let more = fields-more ms (field_of name (bare w.payload)) in
+      let more = fields-more ms (field_of name w.value) in
       gone_on marks.FieldsOpen level octets rest at before now (λ ss. frames.Named ss ms name) nows.Ready (field_depths ms) (sum (map field_nodes ms) + 1) x is
-      next (λ ss. frames.Fields ss (ms ++ field_of name (bare w.payload) ∷ [])) nows.After j (depth (bare w.payload)) (nodes (bare w.payload)) _ _
-      (field_value level rest j now next w ms name) w.within w.used w.deep w.noted.left w.noted.counted (field_deepest-more ms (field_of name (bare w.payload)))
+      next (λ ss. frames.Fields ss (ms ++ field_of name w.value ∷ [])) nows.After j (depth w.value) (nodes w.value) _ _
+      (field_value level rest j now next w ms name) w.within w.used w.deep w.left w.counted (field_deepest-more ms (field_of name w.value))
       (omega arith)
 
 -- up to the close

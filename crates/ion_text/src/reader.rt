@@ -16,6 +16,7 @@ use std::mem;
 mod advance;
 mod alike;
 mod annotation_or_value;
+mod annotations;
 mod blanks_while_waiting;
 mod containers;
 mod end_of_input;

@@ -1,6 +1,8 @@
 //! Values that wait to be gone over.
-ghost use Rattle.std.specs.Prelude.{◌≡◌, ◌+◌, ◌<◌, ◌^◌, ℕ, List, length, IfSome, IsNone};
+ghost use Rattle.std.specs.Prelude.{◌≡◌, ◌+◌, ◌≤◌, ◌<◌, ◌^◌, ℕ, List, length, false, IfSome, IsNone};
 ghost use Rattle.ion_model.specs.declared.value.Value.{Value};
+ghost use Rattle.ion_model.specs.Kinds.{is_table};
+ghost use Rattle.ion_model.specs.Measures.{depth};
 ghost use Rattle.ion_visiting.specs.Visits.{Visited};
 
 use crate::told::TextVisitor;
@@ -14,16 +16,22 @@ pub trait Visitable {
     /// this value.
     ghost took_up: { Self → Self → List ℕ → ℕ → Value → Type 0 };
 
-    /// Takes up the value at the front of a piece, and tells its parts to a visitor: how many
-    /// octets were taken up.
+    /// Takes up the value at the front of a piece, of at most so many levels, and tells its parts to
+    /// a visitor: how many octets were taken up.
     ///
-    /// `None`, with nothing taken up, where the value isn't whole in the piece, where the reader
-    /// doesn't go over values of its form or has refused, and where the visitor can't go on; its
-    /// state means nothing then.
-    fn visit<T: TextVisitor>(&mut self, piece: &[u8], visitor: &mut T) -> Option<usize>
+    /// `None`, with nothing taken up, where the value isn't whole in the piece or has more levels,
+    /// where the reader doesn't go over values of its form or has refused, and where the visitor
+    /// can't go on; its state means nothing then.
+    fn visit<T: TextVisitor>(
+        &mut self,
+        piece: &[u8],
+        level: u32,
+        visitor: &mut T,
+    ) -> Option<usize>
         requires room { taken self.old + length piece.now < 2 ^ 63 }
         ensures value { IfSome result (λ used. (v : Value)
             × took_up self.old self.new piece.now used v
+            × (depth v ≤ level) × (is_table v ≡ false)
             × Visited T.visits v visitor.old visitor.new) }
         ensures stays { IsNone result → self.new ≡ self.old };
 }

@@ -12,11 +12,13 @@ ghost use Rattle.ion_binary.specs.Carrying.{WritesValue};
 use super::BinaryReader;
 use crate::alike::alike_value;
 use crate::build::extent;
+use crate::comparison::Comparison;
 use crate::measure::Measure;
 use crate::walk::walk_value;
 use crate::writer::BinaryWriter;
 use ion_model::Outline;
 use ion_symtab::{Fault, Items, Outlet};
+use ion_visiting::Visitable;
 use std::hash::BuildHasher;
 
 /// What became of a value that was carried from a reader to a writer.
@@ -135,6 +137,41 @@ impl<'a> BinaryReader<'a> {
             return None;
         }
         self.walk_alike(piece, other, beside)
+    }
+
+    /// Takes up the value at the front of a piece, and that at the front of a piece of what can be
+    /// gone over, where they are the same: how many octets of each. It needn't have the same octets
+    /// or the same encoding, and symbols are the same by their texts.
+    ///
+    /// `None`, with both as they were, where that isn't so or isn't seen: a container is open, the
+    /// value isn't whole in both, its fields stand in another order, it is in any way unusual, the
+    /// piece goes on behind the most octets that an item may have, or one of them has refused.
+    pub fn pass_beside<V: Visitable>(
+        &mut self,
+        piece: &[u8],
+        other: &mut V,
+        beside: &[u8],
+    ) -> Option<(usize, usize)>
+        requires room { ⟦<BinaryReader<'a> as Items>⟧.taken self.old + length piece.now < 2 ^ 63 }
+        requires other_room { V.taken other.old + length beside.now < 2 ^ 63 }
+        ensures alike { IfSome result (λ used. (value : Value)
+            × TookUp ⟦<BinaryReader<'a> as Items>⟧ self.old self.new piece.now used.0 value
+            × V.took_up other.old other.new beside.now used.1 value) }
+        ensures kept { IsNone result → (self.new ≡ self.old) × (other.new ≡ other.old) }
+    {
+        if self.failed.is_some() || !self.may_walk() {
+            return None;
+        }
+        if !self.admits(self.used + piece.len() as u64) {
+            return None;
+        }
+        let mut comparison = Comparison::new(&self.context, piece);
+        let other_used = other.visit(beside, self.limits.depth, &mut comparison)?;
+        let count = comparison.count();
+        let used = self.used + count as u64;
+        self.used = used;
+        self.start = used;
+        Some((count, other_used))
     }
 
     /// Takes up the octets of the value at the front of a piece, and writes it by a writer, without

@@ -162,7 +162,7 @@ pub(crate) fn transcribe_visited<S: BuildHasher + Drop, V: Visitable>(
         crossings: mem::replace(places, Crossings::new(alloc)),
         out: mem::replace(out, Vec::new(alloc)),
     };
-    let used = items.visit(piece, &mut transcription);
+    let used = items.visit(piece, u32::MAX, &mut transcription);
     *places = transcription.crossings;
     *out = transcription.out;
     used

@@ -200,35 +200,52 @@ pub record FoundNote (octets : List ℕ) (token : FoundToken) : Type 0 where
   pub begins : (p : Place) (r : Rest) → BeginsSymbol p r octets token (payloads.Symbol name)
   pub free : names_table name ≡ false
 
--- where a scanner rests behind an annotation of the top level, a blank of so many octets, and `::`
-abbrev pub behind_note : Rest → FoundToken → ℕ → Rest
-behind_note r token blank = past_token places.Top (past_blank (past_token places.Top r token.kind token.count) blank) (tokens.Mark marks.Colons) 2
+-- where a scanner rests behind an annotation in such a place, a blank of so many octets, and `::`
+abbrev pub behind_note : Place → Rest → FoundToken → ℕ → Rest
+behind_note p r token blank = past_token p (past_blank (past_token p r token.kind token.count) blank) (tokens.Mark marks.Colons) 2
 
--- Octets at the top level, behind some annotations of an item, begin with one more, `::` and a blank. The item begins with its first
--- annotation.
-pub record WalkedNote (octets : List ℕ) (count : ℕ) (before after : Tally) : Type 0 where
+-- Octets where a value may come in such a place, behind some annotations of it, begin with one more, `::` and a blank. An item of the top
+-- level begins with its first annotation.
+pub record WalkedNote (p : Place) (octets : List ℕ) (count : ℕ) (before after : Tally) : Type 0 where
   pub name : Option (List ℕ)
-  pub leads : (g : Catalog) (l : Limits) (start : ℕ) (c : List Slot) (ss : Symbols)
-      → before.rest.used + length octets ≤ l.item + begun_at start before.rest.used [] ss
-      → Passes g l (rested before.rest start c [] ss nows.Ready) octets count
-      (rested after.rest (begun_at start before.rest.used [] ss) c [] (ss ++ name ∷ []) nows.Ready)
+  pub leads : (g : Catalog) (l : Limits) (start : ℕ) (c : List Slot) (fs : List Frame) (ss : Symbols) → place_in fs nows.Ready ≡ p
+      → before.rest.used + length octets ≤ l.item + begun_at start before.rest.used fs ss
+      → Passes g l (rested before.rest start c fs ss nows.Ready) octets count
+      (rested after.rest (begun_at start before.rest.used fs ss) c fs (ss ++ name ∷ []) nows.Ready)
   pub within : count ≤ length octets
   pub used : after.rest.used ≡ before.rest.used + count
   pub free : names_table name ≡ false
   pub left : after.level ≡ before.level
   pub counted : min after.nodes most ≡ min (before.nodes + 1) most
 
--- Octets begin with all annotations of an item of the top level, the first of which names no local symbol tables.
-pub record WalkedNotes (octets : List ℕ) (count : ℕ) (before after : Tally) : Type 0 where
+-- Octets where a value may come in such a place begin with all annotations of it, the first of which names no local symbol tables.
+pub record WalkedNotes (p : Place) (octets : List ℕ) (count : ℕ) (before after : Tally) : Type 0 where
   pub notes : Symbols
-  pub leads : (g : Catalog) (l : Limits) (start : ℕ) (c : List Slot) → length octets ≤ l.item
-      → (begin : ℕ) × (begun_at begin after.rest.used [] notes ≡ before.rest.used)
-      × Passes g l (rested before.rest start c [] [] nows.Ready) octets count (rested after.rest begin c [] notes nows.Ready)
+  pub leads : (g : Catalog) (l : Limits) (start : ℕ) (c : List Slot) (fs : List Frame) → place_in fs nows.Ready ≡ p
+      → before.rest.used + length octets ≤ l.item + begun_at start before.rest.used fs []
+      → (begin : ℕ) × (begun_at begin after.rest.used fs notes ≡ begun_at start before.rest.used fs [])
+      × Passes g l (rested before.rest start c fs [] nows.Ready) octets count (rested after.rest begin c fs notes nows.Ready)
   pub within : count ≤ length octets
   pub used : after.rest.used ≡ before.rest.used + count
   pub free : (k : Kind) → is_table_of notes k ≡ false
   pub left : after.level ≡ before.level
   pub counted : min after.nodes most ≡ min (before.nodes + length notes) most
+
+-- Where a value may come in such a place, and so many levels are left, so many octets lead behind this value with its annotations.
+abbrev pub LeadsPast : Place → ℕ → Rest → List ℕ → ℕ → Rest → Value → Type 0
+LeadsPast p level before octets count after v = (g : Catalog) (l : Limits) (start : ℕ) (c : List Slot) (fs those : List Frame) (n : Now)
+    → is_top fs ≡ false → place_in fs nows.Ready ≡ p → length fs + level ≤ l.depth → before.used + length octets ≤ l.item + start
+    → Puts fs v (Ok n) those → Passes g l (rested before start c fs [] nows.Ready) octets count (rested after start c those [] n)
+
+-- octets begin with a value of at most so many levels, with its annotations
+pub record WalkedItem (p : Place) (level : ℕ) (octets : List ℕ) (count : ℕ) (before after : Tally) : Type 0 where
+  pub value : Value
+  pub leads : LeadsPast p level before.rest octets count after.rest value
+  pub within : count ≤ length octets
+  pub used : after.rest.used ≡ before.rest.used + count
+  pub deep : depth value ≤ level
+  pub left : after.level ≡ min before.level (level - depth value)
+  pub counted : min after.nodes most ≡ min (before.nodes + nodes value) most
 
 -- A run over so many octets gives this value with their last.
 abbrev pub GivesTop : Catalog → Limits → Rest → ℕ → List Slot → Symbols → List ℕ → ℕ → Rest → Value → Type 0
@@ -254,6 +271,7 @@ pub record WalkedTop (level : ℕ) (octets : List ℕ) (count : ℕ) (before aft
   pub value : Value
   pub gives : (g : Catalog) (l : Limits) (start : ℕ) (c : List Slot) → level ≤ l.depth → length octets ≤ l.item
       → GivesTop g l before.rest start c [] octets count after.rest value
+  pub plain : is_table value ≡ false
   pub some : 0 < count
   pub within : count ≤ length octets
   pub used : after.rest.used ≡ before.rest.used + count

@@ -11,10 +11,10 @@ use Rattle.ion_tokens.specs.machine.Rests.{past_blank, IsFound, IsPassed}
 use Rattle.ion_tokens.specs.machine.Said.{said}
 use Rattle.ion_visiting.specs.Visits.{Visits, name, Visited, VisitedPayload, VisitedAnnotations}
 use Rattle.ion_text.specs.declared.reader.TextReader.{TextReader}
-use Rattle.ion_text.specs.declared.reader.top_values.Note.{Note}
+use Rattle.ion_text.specs.declared.reader.annotations.Note.{Note}
 use Rattle.ion_text.specs.declared.reader.finders.Scalar.{Scalar}
 use Rattle.ion_text.specs.declared.reader.walks.Tally.{Tally}
-use Rattle.ion_text.specs.machine.Walked.{IsFresh, FoundScalar, FoundNote, Walked, WalkedContainer, WalkedInside, WalkedName, WalkedNotes, WalkedBare, WalkedTop}
+use Rattle.ion_text.specs.machine.Walked.{IsFresh, FoundScalar, FoundNote, Walked, WalkedItem, WalkedContainer, WalkedInside, WalkedName, WalkedNotes, WalkedBare, WalkedTop}
 use Rattle.ion_text.specs.visiting.Parts.{bracket_of}
 
 -- in this place octets begin with this token, which is this value
@@ -58,6 +58,10 @@ module _ {S M : Type 0} (h : Visits S M) where
     pub walked : Walked p level octets count before after
     pub visited : VisitedPayload h walked.payload a b
 
+  pub record VisitedItem (p : Place) (level : ℕ) (octets : List ℕ) (count : ℕ) (before after : Tally) (a b : S) : Type 0 where
+    pub walked : WalkedItem p level octets count before after
+    pub visited : Visited h walked.value a b
+
   pub record VisitedContainer (p : Place) (m : Mark) (level : ℕ) (octets : List ℕ) (count : ℕ) (before after : Tally) (a b : S) : Type 0 where
     pub walked : WalkedContainer p m level octets count before after
     pub visited : VisitedPayload h walked.inside.payload a b
@@ -71,8 +75,8 @@ module _ {S M : Type 0} (h : Visits S M) where
     pub walked : WalkedName octets count before after
     pub visited : h.takes a (name walked.name) b
 
-  pub record VisitedNotes (octets : List ℕ) (count : ℕ) (before after : Tally) (a b : S) : Type 0 where
-    pub walked : WalkedNotes octets count before after
+  pub record VisitedNotes (p : Place) (octets : List ℕ) (count : ℕ) (before after : Tally) (a b : S) : Type 0 where
+    pub walked : WalkedNotes p octets count before after
     pub some : 0 < count → 0 < length walked.notes
     pub visited : VisitedAnnotations h walked.notes a b
 

@@ -1,7 +1,9 @@
 //! Values of the top level that lie whole in a piece, and whose parts are told to a visitor.
-ghost use Rattle.std.specs.Prelude.{◌≡◌, ◌+◌, ◌<◌, ◌^◌, length, IfSome, IsNone, None, Ok, Some};
+ghost use Rattle.std.specs.Prelude.{◌≡◌, ◌+◌, ◌≤◌, ◌<◌, ◌^◌, length, false, IfSome, IsNone, None, Ok, Some};
 ghost use Rattle.std.specs.Option.{is_some};
 ghost use Rattle.ion_model.specs.declared.value.Value.{Value};
+ghost use Rattle.ion_model.specs.Kinds.{is_table};
+ghost use Rattle.ion_model.specs.Measures.{depth};
 ghost use Rattle.ion_tokens.specs.machine.Views.{scanned};
 ghost use Rattle.ion_visiting.specs.Visits.{Visited};
 ghost use Rattle.ion_text.specs.machine.Progress.{Advances, SameSettings, StaysSteady};
@@ -9,17 +11,24 @@ ghost use Rattle.ion_text.specs.machine.Views.{state_of, IsFine};
 
 use super::TextReader;
 use super::top_values::walk_top;
+use super::walks::Tally;
 use ion_symtab::Items;
 use ion_tokens::TokenReader;
 use ion_visiting::{TextVisitor, Visitable};
 
 impl TextReader<'_> {
-    /// Takes up a blank and the item behind it at the front of a piece, and tells the parts of its
-    /// value to a visitor: how many octets they have.
-    fn walk_by<T: TextVisitor>(&mut self, piece: &[u8], visitor: &mut T) -> Option<usize>
+    /// Takes up a blank and the item behind it at the front of a piece, whose value has at most so
+    /// many levels, and tells its parts to a visitor: how many octets they have.
+    fn walk_by<T: TextVisitor>(
+        &mut self,
+        piece: &[u8],
+        level: u32,
+        visitor: &mut T,
+    ) -> Option<usize>
         requires room { (scanned self.old.scanner).used + length piece.now < 2 ^ 63 }
         ensures gives { IfSome result (λ used. (v : Value)
-            × Visited T.visits v visitor.old visitor.new
+            × ((depth v ≤ level) × (is_table v ≡ false)
+            × Visited T.visits v visitor.old visitor.new)
             × Advances self.old.catalog.now self.old.limits (is_some self.old.awaited)
             (scanned self.old.scanner).used (state_of self.old) piece.now
             (Ok (record { used = used; value = Some v })) self.new.awaited (state_of self.new)) }
@@ -33,10 +42,11 @@ impl TextReader<'_> {
         ensures setting { SameSettings self.old self.new }
     {
         let (before, item, begun) = self.item_ahead(piece)?;
-        let mut tally = begun;
+        let most = level.min(self.limits.depth);
+        let mut tally = Tally::new(most, begun.rest);
         // The reader's own would keep another token where nothing is taken up.
         let mut tokens = TokenReader::new(self.alloc);
-        let count = walk_top(&mut tokens, item, self.limits.depth, &mut tally, visitor)?;
+        let count = walk_top(&mut tokens, item, most, &mut tally, visitor)?;
         self.scanner.move_to(tally.rest);
         self.start = 0;
         Some(before + count)
@@ -51,10 +61,15 @@ impl<'a> Visitable for TextReader<'a> {
 
     ghost took_up = { TookUp ⟦<TextReader<'a> as Items>⟧ };
 
-    fn visit<T: TextVisitor>(&mut self, piece: &[u8], visitor: &mut T) -> Option<usize> {
+    fn visit<T: TextVisitor>(
+        &mut self,
+        piece: &[u8],
+        level: u32,
+        visitor: &mut T,
+    ) -> Option<usize> {
         if self.failure().is_some() {
             return None;
         }
-        self.walk_by(piece, visitor)
+        self.walk_by(piece, level, visitor)
     }
 }

@@ -14,8 +14,9 @@ ghost use Rattle.ion_text.specs.machine.Nested.{OpensAt};
 ghost use Rattle.ion_text.specs.machine.Walked.{close_of, kind_of_open, behind_key};
 ghost use Rattle.ion_text.specs.visiting.Parts.{bracket_of};
 ghost use Rattle.ion_visiting.specs.Parts.{payload_of};
-ghost use Rattle.ion_text.specs.visiting.Walks.{FoundPart, FoundNumber, VisitedValue, VisitedContainer, VisitedInside, VisitedName};
+ghost use Rattle.ion_text.specs.visiting.Walks.{FoundPart, FoundNumber, VisitedValue, VisitedItem, VisitedContainer, VisitedInside, VisitedName};
 
+use super::annotations::{note_at, walk_notes};
 use super::escaped_tokens::may_be_rare;
 use super::finders::{
     Scalar, begins_number, number_at, number_kind, plain_at, rare_part, text_name, word_name,
@@ -388,6 +389,11 @@ fn begins_with(octets: &[u8], octet: u8) -> bool
     }
 }
 
+// Whether a symbol may begin there that is an annotation if `::` follows.
+fn begins_symbol(octets: &[u8]) -> bool {
+    matches!(octets.first(), Some(b'a'..=b'z' | b'A'..=b'Z' | b'_' | b'\''))
+}
+
 // Goes over a blank there.
 pub(super) fn walk_blank(octets: &[u8], tally: &mut Tally) -> usize
     requires room { tally.old.rest.used + length octets.now < 2 ^ 63 }
@@ -449,6 +455,57 @@ fn walk_value<T: TextVisitor>(
         None => walk_scalar(beside, here, octets, level, tally, visitor),
         Some(mark) => walk_container(beside, here, mark, octets, level, tally, visitor),
     }
+}
+
+// Goes over the value there, which has annotations.
+#[cycle(walk)]
+#[inline(never)]
+fn walk_annotated_value<T: TextVisitor>(
+    beside: &mut TokenReader,
+    here: Place,
+    octets: &[u8],
+    level: u32,
+    tally: &mut Tally,
+    visitor: &mut T,
+) -> Option<usize>
+    requires value { is_name here ≡ false }
+    requires low { tally.old.level ≤ level }
+    requires room { tally.old.rest.used + length octets.now < 2 ^ 63 }
+    ensures { IfSome result (λ count. VisitedItem T.visits here level octets.now count
+        tally.old tally.new visitor.old visitor.new) }
+{
+    let mark = visitor.open_wrapper()?;
+    let notes = walk_notes(here, octets, tally, visitor)?;
+    if notes == 0 || !visitor.end_annotations(&mark) {
+        return None;
+    }
+    let count = walk_value(beside, here, &octets[notes..], level, tally, visitor)?;
+    if !visitor.close_wrapper(mark) {
+        return None;
+    }
+    Some(notes + count)
+}
+
+/// Goes over the value at the front of octets with its annotations, as `walk_value` does.
+#[cycle(walk)]
+fn walk_item<T: TextVisitor>(
+    beside: &mut TokenReader,
+    here: Place,
+    octets: &[u8],
+    level: u32,
+    tally: &mut Tally,
+    visitor: &mut T,
+) -> Option<usize>
+    requires value { is_name here ≡ false }
+    requires low { tally.old.level ≤ level }
+    requires room { tally.old.rest.used + length octets.now < 2 ^ 63 }
+    ensures { IfSome result (λ count. VisitedItem T.visits here level octets.now count
+        tally.old tally.new visitor.old visitor.new) }
+{
+    if begins_symbol(octets) && note_at(octets).is_some() {
+        return walk_annotated_value(beside, here, octets, level, tally, visitor);
+    }
+    walk_value(beside, here, octets, level, tally, visitor)
 }
 
 /// Goes over the list, the s-expression or the struct there, with its close.
@@ -534,7 +591,7 @@ fn walk_list<T: TextVisitor>(
             behind = false;
             continue;
         }
-        let value = walk_value(beside, Place::List, &octets[at..], level, tally, visitor)?;
+        let value = walk_item(beside, Place::List, &octets[at..], level, tally, visitor)?;
         at += value;
         behind = true;
     }
@@ -562,7 +619,7 @@ fn walk_sexp<T: TextVisitor>(
         if begins_with(&octets[at..], b')') {
             return Some(at);
         }
-        let value = walk_value(beside, Place::Sexp, &octets[at..], level, tally, visitor)?;
+        let value = walk_item(beside, Place::Sexp, &octets[at..], level, tally, visitor)?;
         at += value;
     }
     None
@@ -598,7 +655,7 @@ fn walk_struct<T: TextVisitor>(
         }
         let name = walk_name(beside, &octets[at..], tally, visitor)?;
         at += name;
-        let value = walk_value(
+        let value = walk_item(
             beside,
             Place::FieldValue,
             &octets[at..],

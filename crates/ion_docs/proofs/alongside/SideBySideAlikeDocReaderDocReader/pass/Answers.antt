@@ -92,3 +92,91 @@ returns-in-Text-Text-clause-alike c =
             (other_up.stands u s h.0, begins_on false u (take used.1 c.args.beside.now) h.1, other_up.limits ∙ h.2, other_up.catalog ∙ h.3);
       },
     )) c.pass_alike-in-Text-Text.ensures.alike
+
+pub returns-in-Binary-Text-clause-alike : goal.returns-in-Binary-Text-clause-alike
+returns-in-Binary-Text-clause-alike c =
+    let d = c.args.left.now in
+    let e = c.args.right.now in
+    let old = c.in-Binary-Text.reader in
+    let other = c.in-Binary-Text.other in
+    let is = c.in-Binary-Text.is-0 in
+    let other_is = c.in-Binary-Text.is-1 in
+    let taken : taken_of d.format ≡ old.used = ap taken_of is in
+    let other_taken : taken_of e.format ≡ octets_used other = ap taken_of other_is in
+    let other_waiting : pending_of e.format ≡ pending other = ap pending_of other_is in
+    some_each c.pass_beside.result (λ used found.
+    let up = found.1 in
+    let other_up = found.2 in (
+      found.0,
+      record {
+        fine = ap failed_of is ∙ up.fine;
+        not_failed = up.not_failed;
+        within = up.within;
+        catalog = refl;
+        limits = refl;
+        counts = up.counts ∙ ap (λ (n : ℕ). n + used.0) (sym taken);
+        progress = omega (arith, up.progress);
+        awaited = refl;
+        stands = λ u s stands.
+            let h = inside d (Binary old) u s is stands in
+            (up.stands u s h.0, begins_on true u (take used.0 c.args.piece.now) h.1, up.limits ∙ h.2, up.catalog ∙ h.3);
+      },
+      record {
+        fine = ap failed_of other_is ∙ other_up.fine;
+        not_failed = other_up.not_failed;
+        within = other_up.within;
+        catalog = refl;
+        limits = refl;
+        counts = other_up.counts ∙ ap (λ (n : ℕ). n + used.1) (sym other_taken);
+        progress = omega (arith, other_up.progress);
+        awaited = other_up.awaited;
+        stands = λ u s stands.
+            let h = inside e (Text other) u s other_is stands in
+            (other_up.stands u s h.0, begins_on false u (take used.1 c.args.beside.now) h.1, other_up.limits ∙ h.2, other_up.catalog ∙ h.3);
+      },
+    )) c.pass_beside.ensures.alike
+
+pub returns-in-Text-Binary-in-Some-clause-alike : goal.returns-in-Text-Binary-in-Some-clause-alike
+returns-in-Text-Binary-in-Some-clause-alike c =
+    let d = c.args.left.now in
+    let e = c.args.right.now in
+    let old = c.in-Text-Binary.reader in
+    let other = c.in-Text-Binary.other in
+    let is = c.in-Text-Binary.is-0 in
+    let other_is = c.in-Text-Binary.is-1 in
+    let taken : taken_of d.format ≡ octets_used old = ap taken_of is in
+    let waiting : pending_of d.format ≡ pending old = ap pending_of is in
+    let other_taken : taken_of e.format ≡ other.used = ap taken_of other_is in
+    let used = c.in-Some.used in
+    let other_used = c.in-Some.other_used in
+    let found = c.in-Some.ensures.alike in
+    let other_up = found.1 in
+    let up = found.2 in (
+      found.0,
+      record {
+        fine = ap failed_of is ∙ up.fine;
+        not_failed = up.not_failed;
+        within = up.within;
+        catalog = refl;
+        limits = refl;
+        counts = up.counts ∙ ap (λ (n : ℕ). n + used) (sym taken);
+        progress = omega (arith, up.progress);
+        awaited = up.awaited;
+        stands = λ u s stands.
+            let h = inside d (Text old) u s is stands in
+            (up.stands u s h.0, begins_on false u (take used c.args.piece.now) h.1, up.limits ∙ h.2, up.catalog ∙ h.3);
+      },
+      record {
+        fine = ap failed_of other_is ∙ other_up.fine;
+        not_failed = other_up.not_failed;
+        within = other_up.within;
+        catalog = refl;
+        limits = refl;
+        counts = other_up.counts ∙ ap (λ (n : ℕ). n + other_used) (sym other_taken);
+        progress = omega (arith, other_up.progress);
+        awaited = refl;
+        stands = λ u s stands.
+            let h = inside e (Binary other) u s other_is stands in
+            (other_up.stands u s h.0, begins_on true u (take other_used c.args.beside.now) h.1, other_up.limits ∙ h.2, other_up.catalog ∙ h.3);
+      },
+    )

@@ -1,13 +1,13 @@
 use Rattle.std.proofs.Common.{rules, ◌<◌, ◌+◌, ◌-◌, [], ◌∷◌, ◌++◌, length, take, drop, map, sum, false, sym, subst, arith}
 use Rattle.std.proofs.lemmas.List.{take_rest}
-use Rattle.ion_model.specs.Measures.{nodes, bare, field_of}
-use Rattle.ion_visiting.specs.Visits.{bare_visited, no_items, one_item, no_fields, one_field}
+use Rattle.ion_model.specs.Measures.{nodes, field_of}
+use Rattle.ion_visiting.specs.Visits.{no_items, one_item, no_fields, one_field}
 use Rattle.ion_tokens.specs.declared.mode.Mark.TheVariants as marks
 use Rattle.ion_text.specs.declared.state.Frame.TheVariants as frames
 use Rattle.ion_text.specs.declared.state.Now.TheVariants as nows
 use Rattle.ion_text.specs.laws.reading.complete.Complete.{depths, field_depths}
 use Rattle.ion_text.proofs.Walking.{gone_none, gone_blank, element_now, element_still, field_now, field_still, field_nodes, ListGone, FieldsGone, list_value_on, sexp_value_on, list_comma_on, field_comma_on, name_on, field_value_on}
-use Rattle.ion_text.proofs.Visited.{containers_visited, container_visited, list_visited, sexp_visited, fields_visited}
+use Rattle.ion_text.proofs.Visited.{containers_visited, item_annotated_visited, item_bare_visited, container_visited, list_visited, sexp_visited, fields_visited}
 use Rattle.ion_text.proofs.reader.walks.+walk.Goals as goal
 
 pub walk_value-returns-in-Some : goal.walk_value-returns-in-Some
@@ -15,6 +15,20 @@ walk_value-returns-in-Some g t c =
     let more : 1 < length c.args.octets.now = omega (arith, c.if-octets-lt2.false) in
     containers_visited g.T.TextVisitor.visits c.args.here c.in-Some.mark c.args.level c.args.octets.now c.args.tally.now c.walk_container.new.tally _ _
     c.walk_container.result c.walk_container.ensures more c.in-Some.ensures c.requires.value c.requires.low
+
+pub walk_annotated_value-returns : goal.walk_annotated_value-returns
+walk_annotated_value-returns g t c =
+    let octets = c.args.octets.now in
+    let n = c.in_ok-notes.notes in
+    item_annotated_visited g.T.TextVisitor.visits c.args.here c.args.level octets (take (length octets - n) (drop n octets)) n c.in_ok-count.count
+    c.args.tally.now c.walk_notes.new.tally c.walk_value.new.tally c.in_ok-mark.mark _ _ _ _ _ _ (take_rest octets n)
+    (omega (arith, c.if-notes-eq0.false)) c.in_ok-mark.ensures c.in_ok-notes.ensures (c.end_annotations.ensures c.if-not-end_annotations.false)
+    c.in_ok-count.ensures (c.close_wrapper.ensures c.if-not-close_wrapper.false)
+
+pub walk_item-returns : goal.walk_item-returns
+walk_item-returns g t c =
+    item_bare_visited g.T.TextVisitor.visits c.args.here c.args.level c.args.octets.now c.args.tally.now c.walk_value.new.tally _ _ c.walk_value.result
+    c.walk_value.ensures
 
 pub walk_container-returns : goal.walk_container-returns
 walk_container-returns g t c =
@@ -77,13 +91,13 @@ walk_list-loop-preserved g t c =
     (λ ss. frames.List ss vs) (element_now c.loop.behind) (depths vs) (sum (map nodes vs)) c.loop.invariant.gone (take_rest octets at)
     c.walk_blank-at.new.tally j c.walk_blank-at.ensures.passed c.walk_blank-at.ensures.within (element_still c.loop.behind) c.walk_blank-at.ensures.noted in
     record {
-      values = vs ++ bare c.in_ok-value.ensures.walked.payload ∷ [];
+      values = vs ++ c.in_ok-value.ensures.walked.value ∷ [];
       gone = list_value_on c.args.level octets (take (length octets - (at + j)) (drop (at + j) octets)) (at + j) c.args.tally.now c.walk_blank-at.new.tally
-          c.walk_value.new.tally (take_rest octets (at + j)) vs
+          c.walk_item.new.tally (take_rest octets (at + j)) vs
           (subst (λ b. ListGone c.args.level octets (at + j) c.args.tally.now c.walk_blank-at.new.tally vs b) c.if-behind.false gone) c.in_ok-value.value
           c.in_ok-value.ensures.walked;
-      visited = one_item vs (bare c.in_ok-value.ensures.walked.payload) _ _ _ c.loop.invariant.visited
-          (bare_visited c.in_ok-value.ensures.walked.payload _ _ c.in_ok-value.ensures.visited);
+      visited = one_item vs c.in_ok-value.ensures.walked.value _ _ _ c.loop.invariant.visited
+          c.in_ok-value.ensures.visited;
     }
 
 pub walk_sexp-returns-then-begins_with : goal.walk_sexp-returns-then-begins_with
@@ -116,11 +130,11 @@ walk_sexp-loop-preserved g t c =
     (λ ss. frames.Sexp ss vs) nows.Ready (depths vs) (sum (map nodes vs)) c.loop.invariant.gone (take_rest octets at)
     c.walk_blank-at.new.tally j c.walk_blank-at.ensures.passed c.walk_blank-at.ensures.within tt c.walk_blank-at.ensures.noted in
     record {
-      values = vs ++ bare c.in_ok-value.ensures.walked.payload ∷ [];
+      values = vs ++ c.in_ok-value.ensures.walked.value ∷ [];
       gone = sexp_value_on c.args.level octets (take (length octets - (at + j)) (drop (at + j) octets)) (at + j) c.args.tally.now c.walk_blank-at.new.tally
-          c.walk_value.new.tally (take_rest octets (at + j)) vs gone c.in_ok-value.value c.in_ok-value.ensures.walked;
-      visited = one_item vs (bare c.in_ok-value.ensures.walked.payload) _ _ _ c.loop.invariant.visited
-          (bare_visited c.in_ok-value.ensures.walked.payload _ _ c.in_ok-value.ensures.visited);
+          c.walk_item.new.tally (take_rest octets (at + j)) vs gone c.in_ok-value.value c.in_ok-value.ensures.walked;
+      visited = one_item vs c.in_ok-value.ensures.walked.value _ _ _ c.loop.invariant.visited
+          c.in_ok-value.ensures.visited;
     }
 
 pub walk_struct-returns-then-begins_with : goal.walk_struct-returns-then-begins_with
@@ -179,9 +193,9 @@ walk_struct-loop-preserved g t c =
     (subst (λ b. FieldsGone c.args.level octets (at + j) c.args.tally.now c.walk_blank-at.new.tally ms b) c.if-behind.false gone) i
     c.in_ok-name.ensures.walked in
     record {
-      fields = ms ++ field_of name (bare c.in_ok-value.ensures.walked.payload) ∷ [];
+      fields = ms ++ field_of name c.in_ok-value.ensures.walked.value ∷ [];
       gone = field_value_on c.args.level octets (take (length octets - (at + j + i)) (drop (at + j + i) octets)) (at + j + i) c.args.tally.now
-          c.walk_name.new.tally c.walk_value.new.tally (take_rest octets (at + j + i)) ms name key c.in_ok-value.value c.in_ok-value.ensures.walked;
-      visited = one_field ms name (bare c.in_ok-value.ensures.walked.payload) _ _ _ _ c.loop.invariant.visited c.in_ok-name.ensures.visited
-          (bare_visited c.in_ok-value.ensures.walked.payload _ _ c.in_ok-value.ensures.visited);
+          c.walk_name.new.tally c.walk_item.new.tally (take_rest octets (at + j + i)) ms name key c.in_ok-value.value c.in_ok-value.ensures.walked;
+      visited = one_field ms name c.in_ok-value.ensures.walked.value _ _ _ _ c.loop.invariant.visited c.in_ok-name.ensures.visited
+          c.in_ok-value.ensures.visited;
     }

@@ -1,5 +1,7 @@
-use Rattle.std.proofs.Common.{rules, ◌≡◌, None, ap}
+use Rattle.std.proofs.Common.{rules, ◌≡◌, ◌≤◌, false, None, ap}
 use Rattle.std.proofs.lemmas.Option.{IfSome_then}
+use Rattle.ion_model.specs.Kinds.{is_table}
+use Rattle.ion_model.specs.Measures.{depth}
 use Rattle.ion_visiting.specs.Visits.{Visited}
 use Rattle.ion_text.specs.machine.Progress.{failed}
 use Rattle.ion_text.proofs.Alikes.{visited_up}
@@ -11,7 +13,7 @@ returns-clause-value g c =
     let found = c.walk_by in
     let fine : failed r ≡ None = search rules in
     let all = visited_up r found.new.self c.args.piece.now fine found.ensures.fine found.ensures.steady found.ensures.setting
-    (λ v. Visited g.T.TextVisitor.visits v c.args.visitor.now found.new.visitor) found.result found.ensures.gives found.ensures.used
+    (λ v. (depth v ≤ c.args.level) × (is_table v ≡ false) × Visited g.T.TextVisitor.visits v c.args.visitor.now found.new.visitor) found.result found.ensures.gives found.ensures.used
     found.ensures.awaits in
     IfSome_then found.result all (λ used one.
     let up = one.2 in (
@@ -27,5 +29,7 @@ returns-clause-value g c =
         awaited = up.awaited;
         stands = up.stands;
       },
-      one.1,
+      one.1.0,
+      one.1.1,
+      one.1.2,
     ))

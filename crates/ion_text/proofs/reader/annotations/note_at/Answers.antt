@@ -1,4 +1,4 @@
-use Rattle.ion_text.proofs.reader.top_values.note_at.Goals as goal
+use Rattle.ion_text.proofs.reader.annotations.note_at.Goals as goal
 
 pub returns : goal.returns
 returns c =

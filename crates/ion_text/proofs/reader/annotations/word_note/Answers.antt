@@ -4,7 +4,7 @@ use Rattle.ion_text.specs.Grammar.{is_keyword}
 use Rattle.ion_text.proofs.Notes.{no_table, word_first}
 use Rattle.ion_text.proofs.Symbols as symbols
 use Rattle.ion_text.proofs.Walks.{word_free}
-use Rattle.ion_text.proofs.reader.top_values.word_note.Goals as goal
+use Rattle.ion_text.proofs.reader.annotations.word_note.Goals as goal
 
 pub returns : goal.returns
 returns c =

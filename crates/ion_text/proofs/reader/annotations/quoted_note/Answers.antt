@@ -2,7 +2,7 @@ use Rattle.std.proofs.Common.{◌≢◌, ◌-◌, ◌∙◌, arith, take, drop, 
 use Rattle.std.proofs.lemmas.List.{take_rest}
 use Rattle.ion_text.proofs.Notes.{no_table, quoted_first}
 use Rattle.ion_text.proofs.Symbols as symbols
-use Rattle.ion_text.proofs.reader.top_values.quoted_note.Goals as goal
+use Rattle.ion_text.proofs.reader.annotations.quoted_note.Goals as goal
 
 pub returns : goal.returns
 returns c =
