@@ -33,7 +33,7 @@ use Rattle.ion_binary.specs.machine.Framed.{Heads, Framed, IsListing, IsStructBo
 use Rattle.ion_binary.specs.Depths.{depths, field_depths}
 use Rattle.ion_binary.specs.laws.reading.Complete.{depth-listed, depth-fields, depth-annotated, field_deepest-more, binary_run, binary_some}
 use Rattle.ion_binary.specs.machine.EachOctet.{Spot, under, moved, deliver, levels, unfit, or_else, misfits, stray, nameless}
-use Rattle.ion_binary.specs.laws.reading.Sound.{ends_back, misfits_ends}
+use Rattle.ion_binary.specs.laws.reading.sound.Bounds.{ends_back, misfits_ends}
 use Rattle.ion_binary.specs.machine.Run.{run}
 use Rattle.ion_binary.specs.machine.Pieces.{run_after}
 use Rattle.ion_binary.proofs.Insides.{with_phase}

@@ -1,15 +1,7 @@
--- Reasons that octets decide: no want of memory or of more octets, and nothing about tables of the catalog. `resolve` and `next` answer no others.
-use Rattle.std.proofs.Common.{ℕ, List, Result, Ok, Err}
-use Rattle.std.specs.Prelude.{IfErr}
-use Rattle.ion_model.specs.declared.value.Value.{Value}
+-- Reasons that octets decide: no want of memory or of more octets, and nothing about tables of the catalog.
+use Rattle.std.specs.Prelude.{Result, Ok, Err}
 use Rattle.ion_atoms.specs.declared.refusal.Reason.{Reason}
-use Rattle.ion_atoms.specs.declared.refusal.Reason.TheVariants.{Memory, Incomplete, DuplicateTable, BadTable, SymbolRange, ImportGap, NullTable, RepeatedField, MissingImport, TableTooLarge}
-use Rattle.ion_symtab.specs.Slots.{Slot, resolve}
-use Rattle.ion_symtab.specs.Tables.{Table}
-use Rattle.ion_symtab.specs.Next.{next}
-use Rattle.ion_symtab.specs.Reasons.{IsIdReason, IsTableReason}
-use Rattle.ion_symtab.specs.laws.Reasons.{resolve_fails, next_fails}
-pub use Rattle.ion_symtab.specs.laws.Reasons.{either}
+use Rattle.ion_atoms.specs.declared.refusal.Reason.TheVariants.{Memory, Incomplete, DuplicateTable, BadTable}
 
 -- a reason that an octet can decide
 abbrev pub IsDecided : Reason → Type 0
@@ -23,25 +15,3 @@ IsDecided _ = Unit {0}
 abbrev pub Decides : {A : Type 0} → Result A Reason → Type 0
 Decides (Ok x) = Unit {0}
 Decides (Err e) = IsDecided e
-
-id_decides : (e : Reason) → IsIdReason e → IsDecided e
-id_decides SymbolRange h = tt
-id_decides ImportGap h = tt
-id_decides _ h = absurd h
-
-table_decides : (e : Reason) → IsTableReason e → IsDecided e
-table_decides NullTable h = tt
-table_decides RepeatedField h = tt
-table_decides MissingImport h = tt
-table_decides TableTooLarge h = tt
-table_decides _ h = absurd h
-
-decides_by : {A : Type 0} (P : Reason → Type 0) → ((e : Reason) → P e → IsDecided e) → (r : Result A Reason) → IfErr r P → Decides r
-decides_by P decides (Ok x) h = tt
-decides_by P decides (Err e) h = decides e h
-
-pub resolve_decides : (c : List Slot) (id : ℕ) → Decides (resolve c id)
-resolve_decides c id = decides_by IsIdReason id_decides (resolve c id) (resolve_fails c id)
-
-pub next_decides : (slots : List Slot) (v : Value) (tables : List Table) → Decides (next slots v tables)
-next_decides slots v tables = decides_by IsTableReason table_decides (next slots v tables) (next_fails slots v tables)

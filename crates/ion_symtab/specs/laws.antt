@@ -6,6 +6,7 @@ pub mod Causes
 pub mod Promises
 pub mod Tables
 pub mod Reasons
+pub mod Decided
 pub mod Contexts
 pub mod LocalTables
 pub mod WorkedTables

@@ -1,17 +1,29 @@
 -- Octets that a body or a pad goes on with, taken up at once.
-use Rattle.std.proofs.Common.{◌≡◌, ℕ, zero, suc, ◌+◌, ◌-◌, ◌≤◌, List, [], ◌∷◌, ◌++◌, length, ap, sym, ◌∙◌, arith, append_assoc, append-nil}
+use Rattle.std.proofs.Common.{◌≡◌, ℕ, zero, suc, ◌+◌, ◌-◌, ◌≤◌, List, [], ◌∷◌, ◌++◌, length, ap, sym, ◌∙◌, arith, append_assoc, append-nil, ne_eqb}
+use Rattle.std.proofs.lemmas.Bool.{cond-false}
 use Rattle.ion_symtab.specs.declared.limits.Limits.{Limits}
 use Rattle.ion_symtab.specs.declared.catalog.Catalog.{Catalog}
 use Rattle.ion_binary.specs.declared.form.Scalar.{Scalar}
 use Rattle.ion_binary.specs.declared.state.Frame.{Frame}
 use Rattle.ion_binary.specs.declared.state.Phase.TheVariants.{InPad}
-use Rattle.ion_binary.specs.machine.EachOctet.{Spot, moved, at, in_body}
+use Rattle.ion_binary.specs.machine.EachOctet.{Spot, Outcome, under, moved, at, in_body, on_body, on_pad}
 use Rattle.ion_binary.specs.machine.Run.{run, run_on}
 use Rattle.ion_binary.specs.machine.Pieces.{led}
-use Rattle.ion_binary.specs.laws.reading.Complete.{body_more, pad_more}
 
 module _ (g : Catalog) (l : Limits) where
-  -- no octet of these ends the body
+  -- an octet that doesn't end the body
+  pub body_more : (spot : Spot) (fs : List Frame) (t : Scalar) (n : ℕ) (came : List ℕ) (b : ℕ) → on_body (under g l) spot fs t (suc n) (came ++ b ∷ [])
+      ≡ Outcome.goes (in_body spot fs t n (came ++ b ∷ []))
+  body_more spot fs t n came b =
+      cond-false _ _ _ (ne_eqb (suc n) 0 (λ e. omega arith))
+      ∙ ap (λ k. Outcome.goes (in_body spot fs t k (came ++ b ∷ []))) (let j : suc n - 1 ≡ n = omega arith in j)
+
+  -- an octet that doesn't end the pad
+  pub pad_more : (spot : Spot) (fs : List Frame) (n : ℕ) → on_pad (under g l) spot fs (suc n) ≡ Outcome.goes (at spot fs (InPad n))
+  pad_more spot fs n = cond-false _ _ _ (ne_eqb (suc n) 0 (λ e. omega arith))
+      ∙ ap (λ k. Outcome.goes (at spot fs (InPad k))) (let j : suc n - 1 ≡ n = omega arith in j)
+
+  -- so many that none of them ends the body
   pub body_goes : (spot : Spot) (fs : List Frame) (t : Scalar) (n : ℕ) (came w : List ℕ) → length w ≤ n
       → run g l spot.used (in_body spot fs t n came) w ≡ led (in_body (moved spot (spot.used + length w)) fs t (n - length w) (came ++ w))
   body_goes spot fs t n came [] h =
@@ -23,13 +35,13 @@ module _ (g : Catalog) (l : Limits) where
   body_goes spot fs t (suc n) came (b ∷ bs) h =
       let i : spot.used + 1 + length bs ≡ spot.used + length (b ∷ bs) = omega arith in
       let j : n - length bs ≡ suc n - length (b ∷ bs) = omega arith in
-      ap (run_on (spot.used + 1) (λ m. run g l (spot.used + 1) m bs)) (body_more g l (moved spot (spot.used + 1)) fs t n came b)
+      ap (run_on (spot.used + 1) (λ m. run g l (spot.used + 1) m bs)) (body_more (moved spot (spot.used + 1)) fs t n came b)
       ∙ (body_goes (moved spot (spot.used + 1)) fs t n (came ++ b ∷ []) bs (omega arith)
       ∙ (ap (λ k. led (in_body (moved spot k) fs t (n - length bs) ((came ++ b ∷ []) ++ bs))) i
       ∙ (ap (λ k. led (in_body (moved spot (spot.used + length (b ∷ bs))) fs t k ((came ++ b ∷ []) ++ bs))) j
       ∙ ap (λ x. led (in_body (moved spot (spot.used + length (b ∷ bs))) fs t (suc n - length (b ∷ bs)) x)) (append_assoc came (b ∷ []) bs))))
 
-  -- no octet of these ends the pad
+  -- so many that none of them ends the pad
   pub pad_goes : (spot : Spot) (fs : List Frame) (n : ℕ) (w : List ℕ) → length w ≤ n
       → run g l spot.used (at spot fs (InPad n)) w ≡ led (at (moved spot (spot.used + length w)) fs (InPad (n - length w)))
   pad_goes spot fs n [] h =
@@ -40,6 +52,6 @@ module _ (g : Catalog) (l : Limits) where
   pad_goes spot fs (suc n) (b ∷ bs) h =
       let i : spot.used + 1 + length bs ≡ spot.used + length (b ∷ bs) = omega arith in
       let j : n - length bs ≡ suc n - length (b ∷ bs) = omega arith in
-      ap (run_on (spot.used + 1) (λ m. run g l (spot.used + 1) m bs)) (pad_more g l (moved spot (spot.used + 1)) fs n)
+      ap (run_on (spot.used + 1) (λ m. run g l (spot.used + 1) m bs)) (pad_more (moved spot (spot.used + 1)) fs n)
       ∙ (pad_goes (moved spot (spot.used + 1)) fs n bs (omega arith)
       ∙ (ap (λ k. led (at (moved spot k) fs (InPad (n - length bs)))) i ∙ ap (λ k. led (at (moved spot (spot.used + length (b ∷ bs))) fs (InPad k))) j))

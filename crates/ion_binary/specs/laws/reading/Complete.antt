@@ -31,10 +31,11 @@ use Rattle.ion_binary.specs.Grammar.{Header, short, long, IsPad, skipped, Ids, n
 use Rattle.ion_scalar.specs.binary.Timestamp.{timestamp_of_body, read_offset}
 use Rattle.ion_binary.specs.Judge.{judge}
 use Rattle.ion_binary.specs.laws.reading.Judged.{judge_scalar}
-use Rattle.ion_binary.specs.machine.EachOctet.{Spot, under, spot_at, moved, anew, Outcome, at, in_body, end_of, levels, deliver, proceed, unless, or_else, too_long, misfits, stray, nameless, unending, outside, past, unfit, judged, open_struct, begin, sized, longer, unsized, one_octet, on_descriptor, count_came, annotation_came, number_came, on_body, on_pad, feed, hollow}
+use Rattle.ion_binary.specs.machine.EachOctet.{Spot, under, spot_at, moved, anew, Outcome, at, in_body, end_of, levels, deliver, proceed, unless, or_else, too_long, misfits, stray, nameless, unending, outside, past, unfit, judged, open_struct, begin, sized, longer, unsized, one_octet, on_descriptor, count_came, annotation_came, number_came, feed, hollow}
 use Rattle.ion_binary.specs.machine.Run.{Run, run, run_on}
 use Rattle.ion_binary.specs.Depths.{depths, field_depths}
 use Rattle.ion_binary.specs.laws.reading.Stands.{TopRoom, HasRoom, BodyMayEnd, InRoom, NumberRoom}
+use Rattle.ion_binary.specs.machine.AtOnce.{body_more, pad_more}
 use Rattle.ion_binary.specs.machine.Pieces.{run-append, run_via, run_step, then_run, then_after, on_outcome, led, run_after, length-one}
 
 -- depths
@@ -277,23 +278,13 @@ module _ (g : Catalog) (l : Limits) where
 
   -- bodies
 
-  pub body_more : (spot : Spot) (fs : List Frame) (t : Scalar) (n : ℕ) (came : List ℕ) (b : ℕ) → on_body (under g l) spot fs t (suc n) (came ++ b ∷ [])
-      ≡ Outcome.goes (in_body spot fs t n (came ++ b ∷ []))
-  body_more spot fs t n came b =
-      cond-false _ _ _ (ne_eqb (suc n) 0 (λ e. omega arith))
-      ∙ ap (λ k. Outcome.goes (in_body spot fs t k (came ++ b ∷ []))) (let j : suc n - 1 ≡ n = omega arith in j)
-
-  pub pad_more : (spot : Spot) (fs : List Frame) (n : ℕ) → on_pad (under g l) spot fs (suc n) ≡ Outcome.goes (at spot fs (InPad n))
-  pad_more spot fs n = cond-false _ _ _ (ne_eqb (suc n) 0 (λ e. omega arith))
-      ∙ ap (λ k. Outcome.goes (at spot fs (InPad k))) (let j : suc n - 1 ≡ n = omega arith in j)
-
   pub begin_scalar : (spot : Spot) (fs : List Frame) (t : Scalar) (n : ℕ) → begin (under g l) spot fs (forms.Scalar t) (suc n)
       ≡ Outcome.goes (in_body spot fs t n [])
   begin_scalar spot fs t n = cond-false _ _ _ (ne_eqb (suc n) 0 (λ e. omega arith))
       ∙ ap (λ k. Outcome.goes (in_body spot fs t k [])) (let j : suc n - 1 ≡ n = omega arith in j)
 
   pub begin_pad : (spot : Spot) (fs : List Frame) (n : ℕ) → begin (under g l) spot fs forms.Pad (suc n) ≡ Outcome.goes (at spot fs (InPad n))
-  begin_pad spot fs n = pad_more spot fs n
+  begin_pad spot fs n = pad_more g l spot fs n
 
   pub begin_ordered : (spot : Spot) (fs : List Frame) (n : ℕ) → begin (under g l) spot fs forms.OrderedStruct n ≡ open_struct (under g l) spot fs n
   begin_ordered spot fs n = refl
@@ -310,7 +301,7 @@ module _ (g : Catalog) (l : Limits) where
   body_run spot fs t zero came (b ∷ d ∷ bs) to h e = absurd (omega arith)
   body_run spot fs t (suc n) came [] to h e = absurd (omega arith)
   body_run spot fs t (suc n) came (b ∷ bs) to h e =
-      ap (run_on (spot.used + 1) (λ m. run g l (spot.used + 1) m bs)) (body_more (moved spot (spot.used + 1)) fs t n came b)
+      ap (run_on (spot.used + 1) (λ m. run g l (spot.used + 1) m bs)) (body_more g l (moved spot (spot.used + 1)) fs t n came b)
       ∙ body_run (moved spot (spot.used + 1)) fs t n (came ++ b ∷ []) bs to (omega arith) (omega arith)
       ∙ ap (λ x. run_after to (judged (under g l) (moved spot to) fs (judge spot.context t x))) (append_assoc came (b ∷ []) bs)
 
@@ -320,7 +311,7 @@ module _ (g : Catalog) (l : Limits) where
   pad_run spot fs zero (b ∷ []) to h e = rw e refl
   pad_run spot fs zero (b ∷ d ∷ bs) to h e = absurd (omega arith)
   pad_run spot fs (suc n) [] to h e = absurd (omega arith)
-  pad_run spot fs (suc n) (b ∷ bs) to h e = ap (run_on (spot.used + 1) (λ m. run g l (spot.used + 1) m bs)) (pad_more (moved spot (spot.used + 1)) fs n)
+  pad_run spot fs (suc n) (b ∷ bs) to h e = ap (run_on (spot.used + 1) (λ m. run g l (spot.used + 1) m bs)) (pad_more g l (moved spot (spot.used + 1)) fs n)
       ∙ pad_run (moved spot (spot.used + 1)) fs n bs to (omega arith) (omega arith)
 
   -- a run from a header on

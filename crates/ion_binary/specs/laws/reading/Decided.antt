@@ -8,7 +8,9 @@ use Rattle.ion_atoms.specs.declared.refusal.Reason.{Reason}
 use Rattle.ion_atoms.specs.declared.refusal.Reason.TheVariants.{TooLarge, Malformed}
 use Rattle.ion_scalar.specs.binary.Fields.{positional, uint_field}
 use Rattle.ion_symtab.specs.Slots.{Slot, resolve}
-use Rattle.ion_symtab.specs.Decided.{IsDecided, Decides, either, resolve_decides}
+use Rattle.ion_symtab.specs.laws.Decided.{resolve_decides}
+use Rattle.ion_symtab.specs.laws.Reasons.{either}
+use Rattle.ion_symtab.specs.Decided.{IsDecided, Decides}
 use Rattle.ion_binary.specs.declared.form.Scalar.{Scalar}
 use Rattle.ion_binary.specs.declared.form.Scalar.TheVariants as scalars
 use Rattle.ion_scalar.specs.binary.Decimal.{decimal_of_body}

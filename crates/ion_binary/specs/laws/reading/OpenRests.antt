@@ -5,7 +5,8 @@ use Rattle.ion_model.specs.declared.value.Field.{Field}
 use Rattle.ion_symtab.specs.declared.limits.Limits.{Limits}
 use Rattle.ion_symtab.specs.declared.catalog.Catalog.{Catalog}
 use Rattle.ion_symtab.specs.Slots.{Slot}
-use Rattle.ion_symtab.specs.Decided.{Decides, resolve_decides}
+use Rattle.ion_symtab.specs.laws.Decided.{resolve_decides}
+use Rattle.ion_symtab.specs.Decided.{Decides}
 use Rattle.ion_binary.specs.declared.form.Form.{Form}
 use Rattle.ion_binary.specs.declared.form.Form.TheVariants as forms
 use Rattle.ion_binary.specs.declared.form.Scalar.{Scalar}

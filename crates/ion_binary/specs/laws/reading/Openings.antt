@@ -30,7 +30,7 @@ takes c _ _ (names end ms fs ks m) r = absurd r
 takes c _ _ (named end id ms fs ks m) r = tt
 takes c _ _ (noted end ss fs ks m) r = tt
 
-some_none : (b : Bool) (x : Reason) → cond b (Some x) None ≡ None → b ≡ false
+pub some_none : (b : Bool) (x : Reason) → cond b (Some x) None ≡ None → b ≡ false
 some_none true x h = cc
 some_none false x h = refl
 

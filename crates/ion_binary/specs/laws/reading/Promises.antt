@@ -22,7 +22,7 @@ use Rattle.ion_binary.specs.machine.EachOctet.{Machine, under, anew, at, initial
 use Rattle.ion_binary.specs.machine.Run.{Run, run, whole, ends_of, refused_of, trace_of, trace}
 use Rattle.ion_binary.specs.machine.Pieces.{run-append, then_run, on_now}
 use Rattle.ion_binary.specs.laws.reading.Stands.{Standing, MachineStands}
-use Rattle.ion_binary.specs.laws.reading.Sound.{run_stands, initial_stands, Ended}
+use Rattle.ion_binary.specs.laws.reading.sound.Sound.{run_stands, initial_stands, Ended}
 use Rattle.ion_binary.specs.laws.reading.Steady.{Steady, FineFrames, feed_steady}
 use Rattle.ion_binary.specs.laws.reading.Small.{spaced_on}
 use Rattle.ion_binary.specs.laws.reading.Documents.{pieces_run}

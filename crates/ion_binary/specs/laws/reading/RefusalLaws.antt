@@ -14,7 +14,8 @@ use Rattle.ion_binary.specs.machine.Run.{run, whole, ends_of, refused_of, trace}
 use Rattle.ion_binary.specs.machine.Pieces.{run-append, on_now}
 use Rattle.ion_binary.specs.laws.reading.Stops.{Stop, stop_of, stopped}
 use Rattle.ion_symtab.specs.Trace.{plain}
-use Rattle.ion_binary.specs.laws.reading.Sound.{Leaves, feed_stands}
+use Rattle.ion_binary.specs.laws.reading.Stands.{Leaves}
+use Rattle.ion_binary.specs.laws.reading.sound.Sound.{feed_stands}
 use Rattle.ion_binary.specs.laws.reading.Promises.{ran_stands}
 use Rattle.ion_binary.specs.laws.reading.NumberRuns.{Stopped}
 use Rattle.ion_binary.specs.laws.reading.DecidedRows.{every_row}

@@ -21,7 +21,8 @@ use Rattle.ion_binary.specs.declared.state.Phase.TheVariants.{InMarker, Ready, I
 use Rattle.ion_binary.specs.Opening.{opening_of, is_pad}
 use Rattle.ion_binary.specs.Depths.{depths, field_depths}
 use Rattle.ion_binary.specs.Grammar.{Header, Ids, Sequence, Fields, Pieces}
-use Rattle.ion_binary.specs.machine.EachOctet.{Machine, end_of, levels, stray, nameless}
+use Rattle.ion_binary.specs.Deciding.{Decides}
+use Rattle.ion_binary.specs.machine.EachOctet.{Machine, Outcome, goes, gives, refuses, end_of, levels, stray, nameless}
 
 -- an item of the top level may reach up to `to`; a pad may reach anywhere
 abbrev pub TopRoom : ℕ → ℕ → Form → ℕ → Type 0
@@ -301,3 +302,9 @@ Standing g l start c s fs body (InPad n) u = (came : List ℕ) × BodyStands g l
 pub record MachineStands (g : Catalog) (l : Limits) (u : List ℕ) (s : List Value) (m : Machine) : Type 0 where
   pub used : m.spot.used ≡ length u
   pub standing : Standing g l m.spot.start m.spot.context s m.frames m.body m.phase u
+
+-- what an outcome leaves stands for the octets, and for a refusal there is a row
+abbrev pub Leaves : Catalog → Limits → List ℕ → List Value → Outcome → Type 0
+Leaves g l u s (goes m) = MachineStands g l u s m
+Leaves g l u s (gives v m) = MachineStands g l u (s ++ v ∷ []) m
+Leaves g l u s (refuses e) = Decides g l u e

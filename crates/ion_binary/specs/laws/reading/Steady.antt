@@ -13,7 +13,9 @@ use Rattle.ion_scalar.specs.declared.descriptor.Size.TheVariants.{Known, Follows
 use Rattle.ion_scalar.specs.binary.Descriptor.{descriptor_of, typed}
 use Rattle.ion_symtab.specs.Slots.{Slot, resolve}
 use Rattle.ion_symtab.specs.Next.{next}
-use Rattle.ion_symtab.specs.Decided.{IsDecided, Decides, either, resolve_decides, next_decides}
+use Rattle.ion_symtab.specs.laws.Decided.{resolve_decides, next_decides}
+use Rattle.ion_symtab.specs.laws.Reasons.{either}
+use Rattle.ion_symtab.specs.Decided.{IsDecided, Decides}
 use Rattle.ion_binary.specs.declared.form.Scalar.{Scalar}
 use Rattle.ion_binary.specs.declared.form.Scalar.TheVariants as scalars
 use Rattle.ion_binary.specs.declared.form.Form.{Form}

@@ -1,4 +1,4 @@
-use Rattle.ion_symtab.specs.Decided.{resolve_decides, next_decides}
+use Rattle.ion_symtab.specs.laws.Decided.{resolve_decides, next_decides}
 use Rattle.ion_symtab.proofs.laws.decided.Goals as goal
 
 pub returns : goal.returns

@@ -14,7 +14,8 @@ use Rattle.ion_symtab.specs.declared.limits.Limits.{Limits}
 use Rattle.ion_symtab.specs.declared.catalog.Catalog.{Catalog}
 use Rattle.ion_symtab.specs.Slots.{Slot, resolve}
 use Rattle.ion_symtab.specs.Next.{next}
-use Rattle.ion_symtab.specs.Decided.{IsDecided, Decides, resolve_decides, next_decides}
+use Rattle.ion_symtab.specs.laws.Decided.{resolve_decides, next_decides}
+use Rattle.ion_symtab.specs.Decided.{IsDecided, Decides}
 use Rattle.ion_tokens.specs.declared.mode.Mark.TheVariants as marks
 use Rattle.ion_tokens.specs.declared.mode.Mode.{Mode}
 use Rattle.ion_tokens.specs.declared.mode.Mode.TheVariants as modes

@@ -1,0 +1,175 @@
+-- What stands in the way of a form, an id, a descriptor or an empty body does so for these reasons only.
+use Rattle.std.proofs.Common.{◌≡◌, ◌⊎◌, inl, inr, ℕ, ◌-◌, ◌/◌, ◌%◌, ◌<◌, ◌≤◌, ◌||◌, ◌==◌, ne_eqb, List, [], ◌∷◌, Result, Ok, Err, Option, Some, None, Bool, true, false, cond, refl, ap, sym, subst, arith, slice_get}
+use Rattle.std.specs.Str.{is_utf8}
+use Rattle.std.proofs.lemmas.Str.{is_utf8-from_IsUtf8, IsUtf8-nil}
+use Rattle.std.proofs.lemmas.Bool.{cond-true, cond-false}
+use Rattle.ion_model.specs.declared.value.Payload.{Payload}
+use Rattle.ion_model.specs.declared.value.Payload.TheVariants as payloads
+use Rattle.ion_atoms.specs.declared.refusal.Reason.{Reason}
+use Rattle.ion_atoms.specs.declared.refusal.Reason.TheVariants.{Malformed, Float, SymbolRange, ImportGap, BadUtf8}
+use Rattle.ion_atoms.specs.Reasons.{reason_number}
+use Rattle.ion_scalar.specs.declared.descriptor.Size.{Size}
+use Rattle.ion_scalar.specs.declared.descriptor.Size.TheVariants.{Known, Follows}
+use Rattle.ion_symtab.specs.Slots.{Slot, text, unknown, gap, resolve, symbol_at}
+use Rattle.ion_binary.specs.declared.form.Scalar.{Scalar}
+use Rattle.ion_binary.specs.declared.form.Scalar.TheVariants as scalars
+use Rattle.ion_binary.specs.declared.form.Form.{Form}
+use Rattle.ion_binary.specs.declared.form.Form.TheVariants as forms
+use Rattle.ion_binary.specs.declared.form.Opening.{Opening}
+use Rattle.ion_binary.specs.declared.form.Opening.TheVariants.{Refused}
+use Rattle.ion_binary.specs.declared.state.Frame.{Frame}
+use Rattle.ion_binary.specs.declared.state.Frame.TheVariants as frames
+use Rattle.ion_scalar.specs.binary.Descriptor.{descriptor_of, typed}
+use Rattle.ion_scalar.specs.declared.descriptor.Descriptor.{Descriptor}
+use Rattle.ion_scalar.specs.declared.descriptor.Descriptor.TheVariants as descriptors
+use Rattle.ion_scalar.specs.binary.Timestamp.{timestamp_of_body, read_offset}
+use Rattle.ion_scalar.specs.binary.Decimal.{decimal_of_body}
+use Rattle.ion_binary.specs.Opening.{opening_of, opens, body_of, with_octets, is_pad, is_wrapper}
+use Rattle.ion_binary.specs.Judge.{judge}
+use Rattle.ion_binary.specs.machine.EachOctet.{stray, hollow}
+use Rattle.ion_symtab.specs.laws.Reasons.{either}
+
+-- what stands in the way of a form is `Malformed` but for the room at the top level and the id of a name
+
+malformed_only : (b : Bool) → (cond b (Some Malformed) None ≡ None) ⊎ (cond b (Some Malformed) None ≡ Some Malformed)
+malformed_only true = inr refl
+malformed_only false = inl refl
+
+pub hollow_only : (form : Form) (n : ℕ) → (hollow form n ≡ None) ⊎ (hollow form n ≡ Some Malformed)
+hollow_only (forms.Scalar scalars.NegativeInt) n = malformed_only (n == 0)
+hollow_only (forms.Scalar scalars.Timestamp) n = malformed_only (n == 0)
+hollow_only (forms.Scalar scalars.Int) n = inl refl
+hollow_only (forms.Scalar scalars.Decimal) n = inl refl
+hollow_only (forms.Scalar scalars.Symbol) n = inl refl
+hollow_only (forms.Scalar scalars.Str) n = inl refl
+hollow_only (forms.Scalar scalars.Clob) n = inl refl
+hollow_only (forms.Scalar scalars.Blob) n = inl refl
+hollow_only forms.OrderedStruct n = malformed_only (n == 0)
+hollow_only forms.Wrapper n = malformed_only (n == 0)
+hollow_only forms.Pad n = inl refl
+hollow_only (forms.Listing x) n = inl refl
+hollow_only forms.Struct n = inl refl
+
+pub stray_only : (fs : List Frame) (form : Form) → (stray fs form ≡ None) ⊎ (stray fs form ≡ Some Malformed)
+stray_only [] form = inl refl
+stray_only (frames.Items end x vs ∷ fs) form = inl refl
+stray_only (frames.Fields end ms ∷ fs) form = inl refl
+stray_only (frames.Named end ms r ∷ fs) form = inl refl
+stray_only (frames.Annotated end ss ∷ fs) form = malformed_only (is_pad form || is_wrapper form)
+
+-- ids have no other reasons
+pub resolve_only : (c : List Slot) (id : ℕ) (e : Reason) → resolve c id ≡ Err e → (e ≡ SymbolRange) ⊎ (e ≡ ImportGap)
+unfolding resolve
+resolve_only c id e h = by (id == 0) (slice_get c (id - 1)) h
+  where
+    reason : Result (Option (List ℕ)) Reason → Reason → Reason
+    reason (Err x) y = x
+    reason (Ok s) y = y
+
+    slot : (s : Option Slot) → symbol_at s ≡ Err e → (e ≡ SymbolRange) ⊎ (e ≡ ImportGap)
+    slot None k = inl (let q : Err SymbolRange ≡ Err e = k in cc)
+    slot (Some (text t)) k = absurd cc
+    slot (Some unknown) k = absurd cc
+    slot (Some gap) k = inr (let q : Err ImportGap ≡ Err e = k in cc)
+
+    by : (b : Bool) (s : Option Slot) → cond b (Ok None) (symbol_at s) ≡ Err e → (e ≡ SymbolRange) ⊎ (e ≡ ImportGap)
+    by true s k = absurd cc
+    by false s k = slot s k
+
+pub late_name : (e : Reason) → (e ≡ SymbolRange) ⊎ (e ≡ ImportGap) → (8 ≤ reason_number e) × (reason_number e ≤ 9)
+late_name e (inl h) = subst (λ (x : Reason). (8 ≤ reason_number x) × (reason_number x ≤ 9)) (sym h) (omega arith, omega arith)
+late_name e (inr h) = subst (λ (x : Reason). (8 ≤ reason_number x) × (reason_number x ≤ 9)) (sym h) (omega arith, omega arith)
+
+-- what a descriptor is refused for
+
+abbrev pub IsPlainReason : Reason → Type 0
+IsPlainReason e = (e ≡ Malformed) ⊎ (e ≡ Float)
+
+abbrev pub PlainOpening : Opening → Type 0
+PlainOpening (Refused e) = IsPlainReason e
+PlainOpening _ = Unit {0}
+
+abbrev PlainDescriptor : Result Descriptor Reason → Type 0
+PlainDescriptor (Err e) = IsPlainReason e
+PlainDescriptor (Ok d) = Unit {0}
+
+with_plain : (t : Scalar) (z : Size) → PlainOpening (with_octets t z)
+with_plain t (Known n) = either PlainOpening (n == 0) _ _ (inl refl) tt
+with_plain t Follows = tt
+
+body_plain : (code : ℕ) (z : Size) → PlainOpening (body_of code z)
+body_plain code z =
+    either PlainOpening (code == 2) _ _ tt (either PlainOpening (code == 3) _ _ (with_plain scalars.NegativeInt z)
+    (either PlainOpening (code == 5) _ _ tt (either PlainOpening (code == 6) _ _ (with_plain scalars.Timestamp z)
+    (either PlainOpening (code == 7) _ _ tt (either PlainOpening (code == 8) _ _ tt
+    (either PlainOpening (code == 9) _ _ tt (either PlainOpening (code == 10) _ _ tt
+    (either PlainOpening (code == 11) _ _ tt (either PlainOpening (code == 12) _ _ tt
+    (either PlainOpening (code == 13) _ _ tt (either PlainOpening (code == 14) _ _ tt (inl refl))))))))))))
+
+opens_plain : (d : Result Descriptor Reason) → PlainDescriptor d → PlainOpening (opens d)
+opens_plain (Err e) h = h
+opens_plain (Ok descriptors.Marker) h = tt
+opens_plain (Ok (descriptors.Null k)) h = tt
+opens_plain (Ok (descriptors.Truth t)) h = tt
+opens_plain (Ok (descriptors.Pad z)) h = tt
+opens_plain (Ok descriptors.Ordered) h = tt
+opens_plain (Ok (descriptors.Body code z)) h = body_plain code z
+
+typed_plain : (t n : ℕ) → PlainDescriptor (typed t n)
+typed_plain t n =
+    let P : Result Descriptor Reason → Type 0 = λ d. PlainDescriptor d in
+    either P (t == 15) _ _ (inl refl)
+    (either P (t == 14) _ _
+    (either P (n == 0) _ _ tt (either P ((n == 1) || (n == 2) || (n == 15)) _ _ (inl refl) tt))
+    (either P (n == 15) _ _ tt
+    (either P (t == 0) _ _ tt
+    (either P (t == 1) _ _ (either P (n == 0) _ _ tt (either P (n == 1) _ _ tt (inl refl)))
+    (either P (t == 4) _ _ (either P ((n == 0) || (n == 4) || (n == 8)) _ _ (inr refl) (inl refl))
+    (either P (t == 13) _ _ (either P (n == 1) _ _ tt tt) tt))))))
+
+pub opening_plain : (b : ℕ) → PlainOpening (opening_of b)
+unfolding opening_of descriptor_of
+opening_plain b = opens_plain (descriptor_of b) (typed_plain (b / 16) (b % 16))
+
+pub plain_small : (e : Reason) → IsPlainReason e → reason_number e ≤ 5
+plain_small e (inl h) = subst (λ (x : Reason). reason_number x ≤ 5) (sym h) (omega arith)
+plain_small e (inr h) = subst (λ (x : Reason). reason_number x ≤ 5) (sym h) (omega arith)
+
+pub pad_is : (form : Form) → is_pad form ≡ true → form ≡ forms.Pad
+pad_is forms.Pad h = refl
+pad_is (forms.Scalar t) h = cc
+pad_is (forms.Listing x) h = cc
+pad_is forms.Struct h = cc
+pad_is forms.OrderedStruct h = cc
+pad_is forms.Wrapper h = cc
+
+pub hollow_some : (form : Form) (n : ℕ) → 0 < n → hollow form n ≡ None
+hollow_some (forms.Scalar scalars.NegativeInt) n h = cond-false _ _ _ (ne_eqb n 0 (λ e. omega arith))
+hollow_some (forms.Scalar scalars.Timestamp) n h = cond-false _ _ _ (ne_eqb n 0 (λ e. omega arith))
+hollow_some (forms.Scalar scalars.Int) n h = refl
+hollow_some (forms.Scalar scalars.Decimal) n h = refl
+hollow_some (forms.Scalar scalars.Symbol) n h = refl
+hollow_some (forms.Scalar scalars.Str) n h = refl
+hollow_some (forms.Scalar scalars.Clob) n h = refl
+hollow_some (forms.Scalar scalars.Blob) n h = refl
+hollow_some forms.OrderedStruct n h = cond-false _ _ _ (ne_eqb n 0 (λ e. omega arith))
+hollow_some forms.Wrapper n h = cond-false _ _ _ (ne_eqb n 0 (λ e. omega arith))
+hollow_some forms.Pad n h = refl
+hollow_some (forms.Listing x) n h = refl
+hollow_some forms.Struct n h = refl
+
+malformed_in : Result Payload Reason → Reason → Reason
+malformed_in (Err e) d = e
+malformed_in (Ok p) d = d
+
+-- no octets are no scalar only where the form asks for some
+pub empty_hollow : (c : List Slot) (t : Scalar) (e : Reason) → judge c t [] ≡ Err e → (hollow (forms.Scalar t) 0 ≡ Some Malformed) × (e ≡ Malformed)
+unfolding judge timestamp_of_body read_offset decimal_of_body resolve malformed_in
+empty_hollow c scalars.NegativeInt e h = (refl, ap (λ x. malformed_in x e) (sym h))
+empty_hollow c scalars.Timestamp e h = (refl, ap (λ x. malformed_in x e) (sym h))
+empty_hollow c scalars.Int e h = absurd cc
+empty_hollow c scalars.Decimal e h = absurd cc
+empty_hollow c scalars.Symbol e h = absurd cc
+empty_hollow c scalars.Str e h = let k = cond-true (is_utf8 []) (Ok (payloads.Str [])) (Err BadUtf8) (is_utf8-from_IsUtf8 [] IsUtf8-nil) in absurd cc
+empty_hollow c scalars.Clob e h = absurd cc
+empty_hollow c scalars.Blob e h = absurd cc

@@ -1,0 +1,99 @@
+-- Octets that pass a test of the machine fit, in the grammar's words; for those that don't, a row of the table decides.
+use Rattle.std.proofs.Common.{◌≡◌, ℕ, ◌+◌, ◌≤◌, List, [], ◌∷◌, Result, Ok, Err, Option, Some, None, refl, sym, ◌∙◌, Bool, true, false, ◌||◌, cond, leb-true, ltb-true, eqb-true, nat_le}
+use Rattle.ion_model.specs.declared.value.Value.{Value}
+use Rattle.ion_model.specs.declared.value.Payload.{Payload}
+use Rattle.ion_atoms.specs.declared.refusal.Reason.{Reason}
+use Rattle.ion_atoms.specs.declared.refusal.Reason.TheVariants.{Malformed, ItemTooLong}
+use Rattle.ion_model.specs.Measures.{bare}
+use Rattle.ion_symtab.specs.declared.limits.Limits.{Limits}
+use Rattle.ion_symtab.specs.declared.catalog.Catalog.{Catalog}
+use Rattle.ion_binary.specs.declared.form.Form.{Form}
+use Rattle.ion_binary.specs.declared.form.Form.TheVariants as forms
+use Rattle.ion_binary.specs.declared.state.Frame.{Frame}
+use Rattle.ion_binary.specs.declared.state.Frame.TheVariants as frames
+use Rattle.ion_binary.specs.Opening.{is_pad, is_wrapper}
+use Rattle.ion_binary.specs.Deciding.{Decides}
+use Rattle.ion_binary.specs.machine.EachOctet.{Spot, under, Outcome, end_of, deliver, unless, or_else, misfits, stray, nameless, unending, judged}
+use Rattle.ion_binary.specs.laws.reading.Stands.{BodyMayEnd, IsStructOf, IsBare, Receives, Accepts, Going, Leaves}
+use Rattle.ion_binary.specs.laws.reading.Openings.{some_none}
+
+-- all forms but a pad may end at the same places
+pub ends_back : (l : Limits) (start : ℕ) (fs : List Frame) (form : Form) (to : ℕ) → is_pad form ≡ false → BodyMayEnd l start fs form to
+    → BodyMayEnd l start fs forms.Struct to
+ends_back l start [] form to i r = λ p. r i
+ends_back l start (frames.Annotated end ss ∷ fs) form to i r = r
+ends_back l start (frames.Items end x vs ∷ fs) form to i r = r
+ends_back l start (frames.Fields end ms ∷ fs) form to i r = r
+ends_back l start (frames.Named end ms name ∷ fs) form to i r = r
+
+pub struct_sized : (form : Form) (n : ℕ) → IsStructOf form n → is_pad form ≡ false
+struct_sized forms.Pad n h = absurd h
+struct_sized (forms.Scalar t) n h = refl
+struct_sized (forms.Listing x) n h = refl
+struct_sized forms.Struct n h = refl
+struct_sized forms.OrderedStruct n h = refl
+struct_sized forms.Wrapper n h = refl
+
+pub cond_none : (b : Bool) (x : Reason) → cond b None (Some x) ≡ None → b ≡ true
+cond_none true x h = refl
+cond_none false x h = cc
+
+top_room : (b : Bool) (item start to : ℕ) → cond (b || nat_le to (start + item)) None (Some ItemTooLong) ≡ None → b ≡ false → to ≤ start + item
+top_room true item start to h e = absurd cc
+top_room false item start to h e = leb-true to (start + item) (cond_none _ _ h)
+
+pub misfits_ends : (l : Limits) (start : ℕ) (fs : List Frame) (form : Form) (to : ℕ) → misfits l.item start fs form to ≡ None → BodyMayEnd l start fs form to
+misfits_ends l start [] form to h = top_room (is_pad form) l.item start to h
+misfits_ends l start (frames.Annotated end ss ∷ fs) form to h = eqb-true to end (cond_none _ _ h)
+misfits_ends l start (frames.Items end x vs ∷ fs) form to h = leb-true to end (cond_none _ _ h)
+misfits_ends l start (frames.Fields end ms ∷ fs) form to h = leb-true to end (cond_none _ _ h)
+misfits_ends l start (frames.Named end ms name ∷ fs) form to h = leb-true to end (cond_none _ _ h)
+
+pub unending_going : (l : Limits) (start : ℕ) (fs : List Frame) (form : Form) (used : ℕ) → unending l.item start fs form used ≡ None
+    → Going l start fs form used
+unending_going l start [] form used h = top_room (is_pad form) l.item start used h
+unending_going l start (f ∷ fs) form used h = ltb-true used (end_of f) (cond_none _ _ h)
+
+pub or_none : (a b : Option Reason) → or_else a b ≡ None → (a ≡ None) × (b ≡ None)
+or_none None b h = (refl, h)
+or_none (Some e) b h = absurd cc
+
+stray_bare : (fs : List Frame) (form : Form) → (is_pad form || is_wrapper form) ≡ true → stray fs form ≡ None → IsBare fs
+stray_bare [] form i h = tt
+stray_bare (frames.Annotated end ss ∷ fs) form i h = let k = some_none (is_pad form || is_wrapper form) Malformed h in absurd cc
+stray_bare (frames.Items end x vs ∷ fs) form i h = tt
+stray_bare (frames.Fields end ms ∷ fs) form i h = tt
+stray_bare (frames.Named end ms name ∷ fs) form i h = tt
+
+pub stray_accepts : (fs : List Frame) (form : Form) → Receives fs → stray fs form ≡ None → Accepts form fs
+stray_accepts fs forms.Pad r h = (r, stray_bare fs forms.Pad refl h)
+stray_accepts fs forms.Wrapper r h = stray_bare fs forms.Wrapper refl h
+stray_accepts fs (forms.Scalar t) r h = tt
+stray_accepts fs (forms.Listing x) r h = tt
+stray_accepts fs forms.Struct r h = tt
+stray_accepts fs forms.OrderedStruct r h = tt
+
+-- what is no pad needs the same of a name
+pub named_struct : (fs : List Frame) (form : Form) → is_pad form ≡ false → nameless fs form ≡ None → nameless fs forms.Struct ≡ None
+named_struct [] form p h = refl
+named_struct (frames.Annotated end ss ∷ fs) form p h = refl
+named_struct (frames.Items end x vs ∷ fs) form p h = refl
+named_struct (frames.Fields end ms ∷ fs) form p h = refl
+named_struct (frames.Named end ms (Ok n) ∷ fs) form p h = refl
+named_struct (frames.Named end ms (Err e) ∷ fs) form p h = let k : cond (is_pad form) None (Some e) ≡ Some e = cond-false' (is_pad form) e p in
+    absurd (let q : Some e ≡ None = sym k ∙ h in cc)
+  where
+    cond-false' : (b : Bool) (e : Reason) → b ≡ false → cond b None (Some e) ≡ Some e
+    cond-false' true e h = absurd cc
+    cond-false' false e h = refl
+
+module _ (g : Catalog) (l : Limits) where
+  pub unless_leaves : (u : List ℕ) (s : List Value) (r : Outcome) (o : Option Reason) → ((e : Reason) → o ≡ Some e → Decides g l u e)
+      → (o ≡ None → Leaves g l u s r) → Leaves g l u s (unless o r)
+  unless_leaves u s r None w h = h refl
+  unless_leaves u s r (Some x) w h = w x refl
+
+  pub judged_leaves : (u : List ℕ) (s : List Value) (spot : Spot) (fs : List Frame) (r : Result Payload Reason) → ((e : Reason) → r ≡ Err e → Decides g l u e)
+      → ((p : Payload) → r ≡ Ok p → Leaves g l u s (deliver (under g l) spot fs (bare p))) → Leaves g l u s (judged (under g l) spot fs r)
+  judged_leaves u s spot fs (Ok p) w h = h p refl
+  judged_leaves u s spot fs (Err e) w h = w e refl

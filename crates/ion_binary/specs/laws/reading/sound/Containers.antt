@@ -1,0 +1,233 @@
+-- A value or a pad that ends, and each container that ends with it, stands for its octets.
+use Rattle.std.proofs.Common.{◌≡◌, ℕ, ◌+◌, ◌≤◌, List, [], ◌∷◌, ◌++◌, length, Result, Ok, Err, Some, None, refl, ap, sym, ◌∙◌, subst, arith, length-append, true, append_assoc, append-nil, eqb-true, ◌==◌}
+use Rattle.std.proofs.lemmas.Bool.{cond_both, eqb-false}
+use Rattle.ion_model.specs.declared.value.Value.{Value}
+use Rattle.ion_model.specs.declared.value.Field.{Field}
+use Rattle.ion_model.specs.declared.value.Payload.{Payload}
+use Rattle.ion_model.specs.declared.value.Payload.TheVariants as payloads
+use Rattle.ion_atoms.specs.declared.refusal.Reason.{Reason}
+use Rattle.ion_model.specs.Measures.{depth, bare, annotated, field_of}
+use Rattle.ion_model.specs.laws.Measures.{deepest-more, depth-out}
+use Rattle.ion_model.specs.Kinds.{is_table}
+use Rattle.ion_symtab.specs.declared.limits.Limits.{Limits}
+use Rattle.ion_symtab.specs.declared.catalog.Catalog.{Catalog}
+use Rattle.ion_symtab.specs.Slots.{Slot}
+use Rattle.ion_symtab.specs.Next.{next}
+use Rattle.ion_scalar.specs.binary.Fields.{none}
+use Rattle.ion_binary.specs.declared.form.Form.{Form}
+use Rattle.ion_binary.specs.declared.form.Form.TheVariants as forms
+use Rattle.ion_binary.specs.declared.form.Listing.{Listing}
+use Rattle.ion_binary.specs.declared.state.Frame.{Frame}
+use Rattle.ion_binary.specs.declared.state.Frame.TheVariants as frames
+use Rattle.ion_binary.specs.Grammar.{Header, IsPad, listed, Plain, is_listing, is_struct, is_ordered, Binary, unannotated, wrapped, one_more, padded, Fields, one_field, padded_field, Pieces, skips, turns, holds}
+use Rattle.ion_binary.specs.Deciding.{bad_table}
+use Rattle.ion_binary.specs.machine.EachOctet.{Spot, under, levels, turned, deliver, proceed, nameless}
+use Rattle.ion_binary.specs.laws.reading.Stands.{BodyMayEnd, IsStructOf, InFields, IsBare, Opened, Receives, Leaves}
+use Rattle.ion_binary.specs.laws.reading.Complete.{depth-listed, depth-fields, field_deepest-more}
+use Rattle.ion_binary.specs.laws.reading.sound.Bounds.{ends_back, struct_sized, named_struct}
+
+-- a value that may come in these frames: in a wrapper one without annotations
+abbrev Comes : List Slot → List Frame → List ℕ → Value → Type 0
+Comes c (frames.Annotated end ss ∷ fs) w v = Plain c w v.payload
+Comes c _ w v = Binary c w v
+
+pub plain_comes : (c : List Slot) (fs : List Frame) (w : List ℕ) (p : Payload) → Plain c w p → Comes c fs w (bare p)
+plain_comes c [] w p h = unannotated w p h
+plain_comes c (frames.Annotated end ss ∷ fs) w p h = h
+plain_comes c (frames.Items end x vs ∷ fs) w p h = unannotated w p h
+plain_comes c (frames.Fields end ms ∷ fs) w p h = unannotated w p h
+plain_comes c (frames.Named end ms name ∷ fs) w p h = unannotated w p h
+
+binary_comes : (c : List Slot) (fs : List Frame) (w : List ℕ) (v : Value) → IsBare fs → Binary c w v → Comes c fs w v
+binary_comes c [] w v i h = h
+binary_comes c (frames.Annotated end ss ∷ fs) w v i h = absurd i
+binary_comes c (frames.Items end x vs ∷ fs) w v i h = h
+binary_comes c (frames.Fields end ms ∷ fs) w v i h = h
+binary_comes c (frames.Named end ms name ∷ fs) w v i h = h
+
+-- a whole struct
+struct_is : (c : List Slot) (form : Form) (n : ℕ) (h body : List ℕ) (ms : List Field) → IsStructOf form n → Header form n h → n ≡ length body → Fields c body ms
+    → Plain c (h ++ body) (payloads.Fields ms)
+struct_is c forms.Struct n h body ms i d e b = is_struct h body ms (subst (λ n. Header forms.Struct n h) e d) b
+struct_is c forms.OrderedStruct n h body ms i d e b = is_ordered h body ms (subst (λ n. Header forms.OrderedStruct n h) e d) (omega arith) b
+struct_is c forms.Pad n h body ms i d e b = absurd i
+struct_is c (forms.Scalar t) n h body ms i d e b = absurd i
+struct_is c (forms.Listing x) n h body ms i d e b = absurd i
+struct_is c forms.Wrapper n h body ms i d e b = absurd i
+
+-- three pieces, bracketed from the right
+pub regroup : (a b c d : List ℕ) → a ++ (b ++ c) ++ d ≡ a ++ (b ++ (c ++ d))
+regroup a b c d = append_assoc a (b ++ c) d ∙ ap (λ x. a ++ x) (append_assoc b c d)
+
+pub length_3 : (a b c : List ℕ) → length (a ++ (b ++ c)) ≡ length a + length b + length c
+length_3 a b c = let i = length-append a (b ++ c) in let j = length-append b c in omega arith
+
+module _ (g : Catalog) (l : Limits) where
+  table_stands : (spot : Spot) (s : List Value) (u w : List ℕ) (v : Value) → Pieces g l u s spot.context → Binary spot.context w v → is_table v ≡ true
+      → depth v ≤ l.depth → length w ≤ l.item → spot.used ≡ length (u ++ w)
+      → Leaves g l (u ++ w) s (turned spot.used (next spot.context v g))
+  table_stands spot s u w v o b t d i e = go (next spot.context v g) refl
+    where
+      go : (r : Result (List Slot) Reason) → next spot.context v g ≡ r → Leaves g l (u ++ w) s (turned spot.used r)
+      go (Ok f) h = record { used = e; standing = record { opened = (turns u w s spot.context f v o b t h d i, sym e); receives = tt; more = tt } }
+      go (Err x) h = bad_table u w s spot.context v x o b t d i h
+
+  -- the adding of a value, in these frames
+  abbrev Adds : Spot → List Value → List Frame → Type 0
+  Adds spot s fs = (u w : List ℕ) (v : Value) → Opened g l spot.start spot.context s fs u → Comes spot.context fs w v → spot.used ≡ length (u ++ w)
+      → depth v + levels fs ≤ l.depth → BodyMayEnd l spot.start fs forms.Struct spot.used → Receives fs → nameless fs forms.Struct ≡ None
+      → Leaves g l (u ++ w) s (deliver (under g l) spot fs v)
+
+  -- a list or s-expression goes on, or ends here
+  pub items_stand : (spot : Spot) (s : List Value) (fs : List Frame) (u : List ℕ) (end : ℕ) (x : Listing) (vs : List Value) → Adds spot s fs
+      → Opened g l spot.start spot.context s (frames.Items end x vs ∷ fs) u → spot.used ≡ length u
+      → Leaves g l u s (proceed (under g l) spot (frames.Items end x vs ∷ fs))
+  items_stand spot s fs u end x vs k o e =
+      let k1 = ap length o.whole in
+      let k2 = length-append o.front o.body in
+      let ends = o.box.ends in
+      let deep = o.deep in
+      let dv = depth-listed x vs in
+      cond_both (spot.used == end) _ _ (Leaves g l u s)
+      (λ h.
+      let here : spot.used ≡ end = eqb-true spot.used end h in
+      let full : o.box.n ≡ length o.body = omega arith in
+      let outside : u ≡ o.box.before ++ (o.box.header ++ o.body) =
+      o.whole ∙ (ap (λ y. y ++ o.body) o.box.whole ∙ append_assoc o.box.before o.box.header o.body) in
+      subst (λ y. Leaves g l y s (deliver (under g l) spot fs (bare (listed x vs)))) (sym outside)
+      (k o.box.before (o.box.header ++ o.body) (bare (listed x vs)) o.box.outer
+      (plain_comes spot.context fs _ _ (is_listing o.box.header o.body x vs (subst (λ n. Header (forms.Listing x) n o.box.header) full o.box.head) o.items))
+      (e ∙ ap length outside) (omega arith) (ends_back l spot.start fs (forms.Listing x) spot.used refl
+      (subst (BodyMayEnd l spot.start fs (forms.Listing x)) (sym here) o.box.room)) o.box.admits.receives
+      (named_struct fs (forms.Listing x) refl o.box.admits.named)))
+      (λ h. let apart = eqb-false spot.used end h in let in_it = o.within in
+      record { used = e; standing = record { opened = o; receives = tt; more = omega arith } })
+
+  -- a struct goes on, or ends here
+  pub fields_stand : (spot : Spot) (s : List Value) (fs : List Frame) (u : List ℕ) (end : ℕ) (ms : List Field) → Adds spot s fs
+      → InFields l spot.start spot.context (Opened g l spot.start spot.context s fs) fs end ms u → spot.used ≡ length u
+      → Leaves g l u s (proceed (under g l) spot (frames.Fields end ms ∷ fs))
+  fields_stand spot s fs u end ms k o e =
+      let k1 = ap length o.whole in
+      let k2 = length-append o.front o.body in
+      let ends = o.box.ends in
+      let deep = o.deep in
+      let in_it = o.within in
+      let dv = depth-fields ms in
+      cond_both (spot.used == end) _ _ (Leaves g l u s)
+      (λ h.
+      let here : spot.used ≡ end = eqb-true spot.used end h in
+      let full : o.box.n ≡ length o.body = omega arith in
+      let outside : u ≡ o.box.before ++ (o.box.header ++ o.body) =
+      o.whole ∙ (ap (λ y. y ++ o.body) o.box.whole ∙ append_assoc o.box.before o.box.header o.body) in
+      subst (λ y. Leaves g l y s (deliver (under g l) spot fs (bare (payloads.Fields ms)))) (sym outside)
+      (k o.box.before (o.box.header ++ o.body) (bare (payloads.Fields ms)) o.box.outer
+      (plain_comes spot.context fs _ _ (struct_is spot.context o.form o.box.n o.box.header o.body ms o.kind o.box.head full o.items))
+      (e ∙ ap length outside) (omega arith) (ends_back l spot.start fs o.form spot.used (struct_sized o.form o.box.n o.kind)
+      (subst (BodyMayEnd l spot.start fs o.form) (sym here) o.box.room)) o.box.admits.receives
+      (named_struct fs o.form (struct_sized o.form o.box.n o.kind) o.box.admits.named)))
+      (λ h. let apart = eqb-false spot.used end h in record {
+        used = e;
+        standing =
+            record { front = u; digits = []; whole = sym (append-nil u); inside = o; small = none; value = refl; bound = omega arith; going = omega arith };
+      })
+
+  -- a value ends here
+  pub deliver_stands : (spot : Spot) (s : List Value) (fs : List Frame) → Adds spot s fs
+  deliver_stands spot s [] u w v o b e d r rc nm =
+      let k = length-append u w in
+      let i = o.1 in
+      let room = r refl in
+      cond_both (is_table v) _ _ (Leaves g l (u ++ w) s)
+      (λ t. table_stands spot s u w v o.0 b t (omega arith) (omega arith) e)
+      (λ t. record {
+        used = e;
+        standing = record { opened = (holds u w s spot.context v o.0 b t (omega arith) (omega arith), sym e); receives = tt; more = tt };
+      })
+  deliver_stands spot s (frames.Fields end ms ∷ fs) u w v o b e d r rc nm = absurd rc
+  deliver_stands spot s (frames.Annotated end ss ∷ fs) u w v o b e d r rc nm =
+      let whole : u ++ w ≡ o.front ++ (o.count ++ (o.ids ++ w)) = ap (λ y. y ++ w) o.whole ∙ regroup o.front o.count o.ids w in
+      let outside : u ++ w ≡ o.box.before ++ (o.box.header ++ (o.count ++ (o.ids ++ w))) =
+      whole ∙ (ap (λ y. y ++ (o.count ++ (o.ids ++ w))) o.box.whole ∙ append_assoc o.box.before o.box.header (o.count ++ (o.ids ++ w))) in
+      let k1 = ap length whole in
+      let k2 = length-append o.front (o.count ++ (o.ids ++ w)) in
+      let ends = o.box.ends in
+      let da : depth (annotated ss v.payload) ≡ depth v = depth-out (annotated ss v.payload) ∙ sym (depth-out v) in
+      let full : o.box.n ≡ length (o.count ++ (o.ids ++ w)) = omega arith in
+      subst (λ y. Leaves g l y s (deliver (under g l) spot fs (annotated ss v.payload))) (sym outside)
+      (deliver_stands spot s fs o.box.before (o.box.header ++ (o.count ++ (o.ids ++ w))) (annotated ss v.payload) o.box.outer
+      (binary_comes spot.context fs _ _ o.bare (wrapped o.box.header o.count o.ids w ss v.payload
+      (subst (λ n. Header forms.Wrapper n o.box.header) full o.box.head) o.number o.some o.symbols b))
+      (e ∙ ap length outside) (omega arith) (ends_back l spot.start fs forms.Wrapper spot.used refl
+      (subst (BodyMayEnd l spot.start fs forms.Wrapper) (sym r) o.box.room)) o.box.admits.receives (named_struct fs forms.Wrapper refl o.box.admits.named))
+  deliver_stands spot s (frames.Named end ms (Err x) ∷ fs) u w v o b e d r rc nm = absurd (let q : Some x ≡ None = nm in cc)
+  deliver_stands spot s (frames.Named end ms (Ok n) ∷ fs) u w v o b e d r rc nm =
+      let i = o.inside in
+      let m = field_deepest-more ms (field_of n v) in
+      let deep = i.deep in
+      let whole : u ++ w ≡ i.front ++ (i.body ++ (o.id ++ w)) =
+      ap (λ y. y ++ w) o.whole ∙ (append_assoc o.front o.id w ∙ (ap (λ y. y ++ (o.id ++ w)) i.whole ∙ append_assoc i.front i.body (o.id ++ w))) in
+      fields_stand spot s fs (u ++ w) end (ms ++ field_of n v ∷ []) (deliver_stands spot s fs)
+      (record {
+        front = i.front;
+        body = i.body ++ (o.id ++ w);
+        form = i.form;
+        whole = whole;
+        box = i.box;
+        kind = i.kind;
+        items =
+            one_field i.body o.id w ms o.k n v i.items o.number (sym o.named) b;
+        deep = omega arith;
+        within = omega arith;
+      }) e
+  deliver_stands spot s (frames.Items end x vs ∷ fs) u w v o b e d r rc nm =
+      let m = deepest-more vs v in
+      let deep = o.deep in
+      let whole : u ++ w ≡ o.front ++ (o.body ++ w) = ap (λ y. y ++ w) o.whole ∙ append_assoc o.front o.body w in
+      items_stand spot s fs (u ++ w) end x (vs ++ v ∷ []) (deliver_stands spot s fs)
+      (record {
+        front = o.front;
+        body = o.body ++ w;
+        whole = whole;
+        box = o.box;
+        items = one_more o.body w vs v o.items b;
+        deep = omega arith;
+        within = omega arith;
+      }) e
+
+  -- a pad ends here
+  pub skip_stands : (spot : Spot) (s : List Value) (fs : List Frame) (u w : List ℕ) → Opened g l spot.start spot.context s fs u → Receives fs → IsBare fs
+      → IsPad w → spot.used ≡ length (u ++ w) → BodyMayEnd l spot.start fs forms.Pad spot.used
+      → Leaves g l (u ++ w) s (proceed (under g l) spot fs)
+  skip_stands spot s [] u w o i y b e r = record { used = e; standing = record { opened = (skips u w s spot.context o.0 b, sym e); receives = tt; more = tt } }
+  skip_stands spot s (frames.Fields end ms ∷ fs) u w o i y b e r = absurd i
+  skip_stands spot s (frames.Annotated end ss ∷ fs) u w o i y b e r = absurd y
+  skip_stands spot s (frames.Items end x vs ∷ fs) u w o i y b e r =
+      let deep = o.deep in
+      let whole : u ++ w ≡ o.front ++ (o.body ++ w) = ap (λ y. y ++ w) o.whole ∙ append_assoc o.front o.body w in
+      items_stand spot s fs (u ++ w) end x vs (deliver_stands spot s fs)
+      (record { front = o.front; body = o.body ++ w; whole = whole; box = o.box; items = padded o.body w vs o.items b; deep = deep; within = omega arith }) e
+  skip_stands spot s (frames.Named end ms name ∷ fs) u w o j y b e r =
+      let i = o.inside in
+      let whole : u ++ w ≡ i.front ++ (i.body ++ (o.id ++ w)) =
+      ap (λ y. y ++ w) o.whole ∙ (append_assoc o.front o.id w ∙ (ap (λ y. y ++ (o.id ++ w)) i.whole ∙ append_assoc i.front i.body (o.id ++ w))) in
+      fields_stand spot s fs (u ++ w) end ms (deliver_stands spot s fs)
+      (record {
+        front = i.front;
+        body = i.body ++ (o.id ++ w);
+        form = i.form;
+        whole = whole;
+        box = i.box;
+        kind = i.kind;
+        items =
+            padded_field i.body o.id w ms o.k i.items o.number b;
+        deep = i.deep;
+        within = omega arith;
+      }) e
+
+  pub shallow : (start : ℕ) (c : List Slot) (s : List Value) (fs : List Frame) (u : List ℕ) → Opened g l start c s fs u → levels fs ≤ l.depth
+  shallow start c s [] u o = omega arith
+  shallow start c s (frames.Items end x vs ∷ fs) u o = let d = o.deep in omega arith
+  shallow start c s (frames.Fields end ms ∷ fs) u o = let d = o.deep in omega arith
+  shallow start c s (frames.Named end ms name ∷ fs) u o = let d = o.inside.deep in omega arith
+  shallow start c s (frames.Annotated end ss ∷ fs) u o = shallow start c s fs o.box.before o.box.outer

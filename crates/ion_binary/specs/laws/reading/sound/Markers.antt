@@ -1,0 +1,198 @@
+-- What an octet of a version marker leaves stands for the octets.
+use Rattle.std.proofs.Common.{◌≡◌, ℕ, ◌+◌, ◌/◌, ◌%◌, List, [], ◌∷◌, ◌++◌, length, Result, Ok, Err, refl, ap, sym, ◌∙◌, subst, subst₂, inl, inr, arith, Bool, true, false, ◌&&◌, ◌||◌, cond, append_assoc, eqb-true, eq-eqb, ◌==◌}
+use Rattle.std.proofs.lemmas.Bool.{cond_both, eqb-false}
+use Rattle.ion_model.specs.declared.value.Value.{Value}
+use Rattle.ion_atoms.specs.declared.refusal.Reason.{Reason}
+use Rattle.ion_atoms.specs.declared.refusal.Reason.TheVariants.{Malformed, Float, Version}
+use Rattle.ion_symtab.specs.declared.limits.Limits.{Limits}
+use Rattle.ion_symtab.specs.declared.catalog.Catalog.{Catalog}
+use Rattle.ion_symtab.specs.Slots.{Slot, system_slots}
+use Rattle.ion_scalar.specs.declared.descriptor.Size.{Size}
+use Rattle.ion_scalar.specs.declared.descriptor.Size.TheVariants.{Known, Follows}
+use Rattle.ion_scalar.specs.declared.descriptor.Descriptor.{Descriptor}
+use Rattle.ion_scalar.specs.declared.descriptor.Descriptor.TheVariants as descriptors
+use Rattle.ion_scalar.specs.binary.Descriptor.{descriptor_of, typed, size, kind}
+use Rattle.ion_binary.specs.declared.form.Form.{Form}
+use Rattle.ion_binary.specs.declared.form.Form.TheVariants as forms
+use Rattle.ion_binary.specs.declared.form.Listing.TheVariants as listings
+use Rattle.ion_binary.specs.declared.form.Scalar.{Scalar}
+use Rattle.ion_binary.specs.declared.form.Scalar.TheVariants as scalars
+use Rattle.ion_binary.specs.declared.form.Opening.{Opening}
+use Rattle.ion_binary.specs.declared.form.Opening.TheVariants.{Refused, Marker, Sized}
+use Rattle.ion_binary.specs.declared.state.Frame.{Frame}
+use Rattle.ion_binary.specs.declared.state.Mark.{Mark}
+use Rattle.ion_binary.specs.declared.state.Mark.TheVariants.{First, Second, Third, Fourth}
+use Rattle.ion_binary.specs.declared.state.Phase.TheVariants.{Ready}
+use Rattle.ion_binary.specs.Opening.{opening_of, opens, body_of, with_octets}
+use Rattle.ion_binary.specs.Grammar.{Pieces, begins, marked, the_marker}
+use Rattle.ion_binary.specs.Deciding as deciding
+use Rattle.ion_binary.specs.Deciding.{Decides, no_marker, other_marker, other_version}
+use Rattle.ion_binary.specs.machine.EachOctet.{Spot, anew, goes, refuses, at, on_marker}
+use Rattle.ion_binary.specs.laws.reading.Stands.{MarkCame, AtFirst, marker_front, Front, marker_place, IfGood, MarkerStands, MachineStands, Leaves}
+use Rattle.ion_binary.specs.machine.Pieces.{length-one}
+use Rattle.ion_symtab.specs.laws.Reasons.{either}
+
+-- no descriptor but E0 is the marker
+
+with_marker : (t : Scalar) (z : Size) → with_octets t z ≡ Marker → ⊥
+with_marker t (Known n) =
+    let P : Opening → Type 0 = λ o. o ≡ Marker → ⊥ in
+    let sized_no : P (Sized (forms.Scalar t) (Known n)) = λ e. cc in
+    let refused_no : P (Refused Malformed) = λ e. cc in
+    either P (n == 0) _ _ refused_no sized_no
+with_marker t Follows = λ e. cc
+
+body_no_marker : (code : ℕ) (z : Size) → body_of code z ≡ Marker → ⊥
+body_no_marker code z =
+    let P : Opening → Type 0 = λ o. o ≡ Marker → ⊥ in
+    let no : (form : Form) → P (Sized form z) = λ form e. cc in
+    let refused_no : P (Refused Malformed) = λ e. cc in
+    either P (code == 2) _ _ (no (forms.Scalar scalars.Int))
+    (either P (code == 3) _ _ (with_marker scalars.NegativeInt z)
+    (either P (code == 5) _ _ (no (forms.Scalar scalars.Decimal)) (either P (code == 6) _ _ (with_marker scalars.Timestamp z)
+    (either P (code == 7) _ _ (no (forms.Scalar scalars.Symbol))
+    (either P (code == 8) _ _ (no (forms.Scalar scalars.Str))
+    (either P (code == 9) _ _ (no (forms.Scalar scalars.Clob)) (either P (code == 10) _ _ (no (forms.Scalar scalars.Blob))
+    (either P (code == 11) _ _ (no (forms.Listing listings.List))
+    (either P (code == 12) _ _ (no (forms.Listing listings.Sexp))
+    (either P (code == 13) _ _ (no forms.Struct) (either P (code == 14) _ _ (no forms.Wrapper) refused_no)))))))))))
+
+opens_marker : (d : Result Descriptor Reason) → opens d ≡ Marker → d ≡ Ok descriptors.Marker
+opens_marker (Err e) h = absurd cc
+opens_marker (Ok descriptors.Marker) h = refl
+opens_marker (Ok (descriptors.Null k)) h = absurd cc
+opens_marker (Ok (descriptors.Truth t)) h = absurd cc
+opens_marker (Ok (descriptors.Pad z)) h = absurd cc
+opens_marker (Ok descriptors.Ordered) h = absurd cc
+opens_marker (Ok (descriptors.Body code z)) h = absurd (body_no_marker code z h)
+
+-- only type code 14 with length code 0 is the marker's descriptor
+typed_marker : (t n : ℕ) → typed t n ≡ Ok descriptors.Marker → (t ≡ 14) × (n ≡ 0)
+typed_marker t n =
+    let P : Result Descriptor Reason → Type 0 = λ d. d ≡ Ok descriptors.Marker → (t ≡ 14) × (n ≡ 0) in
+    let err : (e : Reason) → P (Err e) = λ e h. absurd cc in
+    let nil : P (Ok (descriptors.Null (kind t))) = λ h. absurd cc in
+    let pad : P (Ok (descriptors.Pad (size n))) = λ h. absurd cc in
+    let truth : (b : Bool) → P (Ok (descriptors.Truth b)) = λ b h. absurd cc in
+    let ordered : P (Ok descriptors.Ordered) = λ h. absurd cc in
+    let body : P (Ok (descriptors.Body t (size n))) = λ h. absurd cc in
+    either P (t == 15) _ _ (err Malformed)
+    (cond_both (t == 14) _ _ P
+    (λ e. cond_both (n == 0) _ _ P (λ f h. (eqb-true t 14 e, eqb-true n 0 f)) (λ f. either P ((n == 1) || (n == 2) || (n == 15)) _ _ (err Malformed) body))
+    (λ e. either P (n == 15) _ _ nil
+    (either P (t == 0) _ _ pad
+    (either P (t == 1) _ _ (either P (n == 0) _ _ (truth false) (either P (n == 1) _ _ (truth true) (err Malformed)))
+    (either P (t == 4) _ _ (either P ((n == 0) || (n == 4) || (n == 8)) _ _ (err Float) (err Malformed))
+    (either P (t == 13) _ _ (either P (n == 1) _ _ ordered body) body))))))
+
+pub marker_is : (b : ℕ) → opening_of b ≡ Marker → b ≡ 224
+unfolding opening_of descriptor_of
+marker_is b h =
+    let parts = typed_marker (b / 16) (b % 16) (opens_marker (descriptor_of b) h) in
+    let high = parts.0 in
+    let low = parts.1 in
+    omega arith
+
+good_and : (g h : Bool) (P Q : Type 0) → (h ≡ true → P → Q) → IfGood g P → IfGood (g && h) Q
+good_and true true P Q f p = f refl p
+good_and true false P Q f p = tt
+good_and false h P Q f p = tt
+
+good_map : (g : Bool) (P Q : Type 0) → (P → Q) → IfGood g P → IfGood g Q
+good_map true P Q f p = f p
+good_map false P Q f p = tt
+
+module _ (g : Catalog) (l : Limits) where
+  -- on an octet of a marker
+  goes_on : (start : ℕ) (c : List Slot) (s : List Value) (fs : List Frame) (u : List ℕ) (b : ℕ) (m k : Mark) (good better : Bool)
+      → (o : MarkerStands g l start c s fs m good u) → marker_place m + 1 ≡ marker_place k
+      → (IfGood good (o.came ≡ marker_front m) → IfGood better (o.came ++ b ∷ [] ≡ marker_front k)) → MarkCame k better (o.came ++ b ∷ []) → AtFirst k o.before
+      → MarkerStands g l start c s fs k better (u ++ b ∷ [])
+  goes_on start c s fs u b m k good better o i fit mc af =
+      let n = length-one o.came b in
+      let j = o.long in
+      record {
+        before = o.before;
+        came = o.came ++ b ∷ [];
+        whole = ap (λ x. x ++ b ∷ []) o.whole ∙ append_assoc o.before o.came (b ∷ []);
+        long =
+            omega arith;
+        fits = fit o.fits;
+        front = o.front;
+        top = o.top;
+        octets = mc;
+        first = af;
+      }
+
+  marked_stands : (to : ℕ) (c : List Slot) (s : List Value) (fs : List Frame) (u v : List ℕ) (start : ℕ) → fs ≡ [] → Front g l start c s u → v ≡ u ++ the_marker
+      → to ≡ length v → MachineStands g l v s (at (anew to system_slots) fs Ready)
+  marked_stands to c s fs u v start i (inl h) e k =
+      let d : Pieces g l v s system_slots = subst₂ (λ x y. Pieces g l x y system_slots) (sym (e ∙ ap (λ x. x ++ the_marker) h.0)) (sym h.1) begins in
+      rw i (record { used = k; standing = record { opened = (d, sym k); receives = tt; more = tt } })
+  marked_stands to c s fs u v start i (inr h) e k =
+      let d : Pieces g l v s system_slots = subst (λ x. Pieces g l x s system_slots) (sym e) (marked u s c h.0) in
+      rw i (record { used = k; standing = record { opened = (d, sym k); receives = tt; more = tt } })
+
+  front_is : (start : ℕ) (c : List Slot) (s : List Value) (u : List ℕ) → Front g l start c s u → deciding.IsFront g l u
+  front_is start c s u (inl h) = inl h.0
+  front_is start c s u (inr h) = inr (s, c, h.0)
+
+  pub marker_stands : (spot : Spot) (s : List Value) (fs : List Frame) (u : List ℕ) (b : ℕ) (m : Mark) (good : Bool)
+      → MarkerStands g l spot.start spot.context s fs m good u → spot.used ≡ length (u ++ b ∷ [])
+      → Leaves g l (u ++ b ∷ []) s (on_marker spot fs m good b)
+  marker_stands spot s fs u b First good o e =
+      cond_both (b == 224) _ _ (Leaves g l (u ++ b ∷ []) s)
+      (λ h. record {
+        used = e;
+        standing = goes_on spot.start spot.context s fs u b First Second good good o refl
+            (good_map good (o.came ≡ marker_front First) (o.came ++ b ∷ [] ≡ marker_front Second)
+            (λ p. ap (λ x. x ++ b ∷ []) p ∙ ap (λ x. x ∷ []) (eqb-true b 224 h))) (
+              ap (λ x. x ++ b ∷ []) o.octets.0 ∙ ap (λ x. x ∷ []) (eqb-true b 224 h),
+              o.octets.1,
+            ) tt;
+      })
+      (λ h.
+      let nothing : u ≡ [] = o.whole ∙ (ap (λ x. x ++ o.came) o.first ∙ o.octets.0) in
+      subst (λ x. Decides g l (x ++ b ∷ []) Malformed) (sym nothing) (no_marker b (λ q. let z = eqb-false b 224 h in absurd (z q))))
+  marker_stands spot s fs u b Second good o e =
+      record {
+        used = e;
+        standing = goes_on spot.start spot.context s fs u b Second Third good (good && (b == 1)) o refl
+            (good_and good (b == 1) (o.came ≡ marker_front Second) (o.came ++ b ∷ [] ≡ marker_front Third)
+            (λ h p. ap (λ x. x ++ b ∷ []) p ∙ ap (λ x. 224 ∷ x ∷ []) (eqb-true b 1 h)))
+            (b, ap (λ x. x ++ b ∷ []) o.octets.0, ap (λ x. x && (b == 1)) o.octets.1) tt;
+      }
+  marker_stands spot s fs u b Third good o e =
+      record {
+        used = e;
+        standing = goes_on spot.start spot.context s fs u b Third Fourth good (good && (b == 0)) o refl
+            (good_and good (b == 0) (o.came ≡ marker_front Third) (o.came ++ b ∷ [] ≡ marker_front Fourth)
+            (λ h p. ap (λ x. x ++ b ∷ []) p ∙ ap (λ x. 224 ∷ 1 ∷ x ∷ []) (eqb-true b 0 h)))
+            (o.octets.0, b, ap (λ x. x ++ b ∷ []) o.octets.1, ap (λ x. x && (b == 0)) o.octets.2) tt;
+      }
+  marker_stands spot s fs u b Fourth good o e =
+      cond_both (b == 234) _ _ (Leaves g l (u ++ b ∷ []) s) (λ h. ended_marker good o h)
+      (λ h. subst (λ y. Decides g l y Malformed) (sym whole)
+      (other_marker o.before o.octets.0 o.octets.1 b (front_is spot.start spot.context s o.before o.front) (λ q. let z = eqb-false b 234 h in
+      absurd (z q))))
+    where
+      whole : u ++ b ∷ [] ≡ o.before ++ (224 ∷ o.octets.0 ∷ o.octets.1 ∷ b ∷ [])
+      whole = ap (λ x. x ++ b ∷ []) o.whole ∙ (append_assoc o.before o.came (b ∷ []) ∙ ap (λ x. o.before ++ (x ++ b ∷ [])) o.octets.2)
+
+      ended_marker : (good : Bool) → (o : MarkerStands g l spot.start spot.context s fs Fourth good u) → b == 234 ≡ true
+          → Leaves g l (u ++ b ∷ []) s (cond good (goes (at (anew spot.used system_slots) fs Ready)) (refuses Version))
+      ended_marker true o h = marked_stands spot.used spot.context s fs o.before (u ++ b ∷ []) spot.start o.top o.front
+          (ap (λ x. x ++ b ∷ []) o.whole ∙ append_assoc o.before o.came (b ∷ [])
+          ∙ ap (λ x. o.before ++ x) (ap (λ x. x ++ b ∷ []) o.fits ∙ ap (λ x. 224 ∷ 1 ∷ 0 ∷ x ∷ []) (eqb-true b 234 h))) e
+      ended_marker false o h =
+          let last : o.before ++ (224 ∷ o.octets.0 ∷ o.octets.1 ∷ b ∷ []) ≡ o.before ++ (224 ∷ o.octets.0 ∷ o.octets.1 ∷ 234 ∷ []) =
+          ap (λ x. o.before ++ (224 ∷ o.octets.0 ∷ o.octets.1 ∷ x ∷ [])) (eqb-true b 234 h) in
+          let all : u ++ b ∷ [] ≡ o.before ++ (224 ∷ o.octets.0 ∷ o.octets.1 ∷ b ∷ []) =
+          ap (λ x. x ++ b ∷ []) o.whole ∙ (append_assoc o.before o.came (b ∷ []) ∙ ap (λ x. o.before ++ (x ++ b ∷ [])) o.octets.2) in
+          subst (λ y. Decides g l y Version) (sym (all ∙ last))
+          (other_version o.before o.octets.0 o.octets.1 (front_is spot.start spot.context s o.before o.front)
+          (λ q.
+          let x1 : o.octets.0 == 1 ≡ true = eq-eqb o.octets.0 1 q.0 in
+          let y1 : o.octets.1 == 0 ≡ true = eq-eqb o.octets.1 0 q.1 in
+          let z : false ≡ true = o.octets.3 ∙ (ap (λ t. (true && t) && (o.octets.1 == 0)) x1 ∙ y1) in
+          cc))
