@@ -31,13 +31,15 @@ use Rattle.std.proofs.lemmas.Grind.{common_steps}
 use Rattle.ion_text.specs.declared.state.Held.{Held}
 use Rattle.ion_text.specs.declared.state.Frame.{Frame}
 use Rattle.ion_text.specs.declared.state.Frame.TheVariants as frames
+use Rattle.ion_text.specs.declared.state.Listing.TheVariants as listings
 use Rattle.ion_text.specs.declared.state.Now.{Now}
 use Rattle.ion_text.specs.declared.state.Now.TheVariants as nows
 use Rattle.ion_text.specs.declared.reader.TextReader.{TextReader}
-use Rattle.ion_text.specs.machine.EachToken.{Setting, Spot, under, spot_at, spot_in, Reading, Turn, Symbols, goes, place, place_in, settle, turn, turn_now, begun_at, on_ready, on_after, on_comma, ended, released, paid, held_payload, named}
+use Rattle.ion_text.specs.machine.EachToken.{Setting, Spot, under, spot_at, spot_in, Reading, Turn, Symbols, goes, place, place_in, item_place, settle, turn, turn_now, begun_at, on_ready, on_after, on_comma, ended, released, paid, held_payload, named}
 use Rattle.ion_text.specs.machine.Run.{is_top, with_scan, token_of}
 use Rattle.ion_text.specs.machine.Pieces.{Quiet}
 use Rattle.ion_text.specs.machine.Views.{setting_of, spot_of, state_of, reading_of, open_frames, IsCalm, SameSetting}
+use Rattle.ion_text.specs.machine.Places.{pending_at}
 use Rattle.ion_text.specs.machine.AtOnce.{Passes, IsStill, Inside, Strides}
 use Rattle.ion_text.proofs.Passing.{NoticesNothing, inner_notices, passes_blank, passes_left, passes_given, calm_quiet}
 use Rattle.ion_text.proofs.Striding.{still_settles}
@@ -72,15 +74,15 @@ went P a b e h = subst P (ap (λ t. reading_in t a) e) h
 module _ (setting : Setting) (spot : Spot) (q : Reading) where
   pub ended_stays : (fs : List Frame) (v : Value) → is_top fs ≡ false → ended setting spot fs v ≡ goes q → StaysIn spot.start q
   ended_stays [] v h e = absurd cc
-  ended_stays (frames.List ss vs ∷ fs) v h e = went (StaysIn spot.start) _ q e (refl, refl, tt)
-  ended_stays (frames.Sexp ss vs ∷ fs) v h e = went (StaysIn spot.start) _ q e (refl, refl, tt)
+  ended_stays (frames.Items listings.List ss vs ∷ fs) v h e = went (StaysIn spot.start) _ q e (refl, refl, tt)
+  ended_stays (frames.Items listings.Sexp ss vs ∷ fs) v h e = went (StaysIn spot.start) _ q e (refl, refl, tt)
   ended_stays (frames.Named ss ms name ∷ fs) v h e = went (StaysIn spot.start) _ q e (refl, refl, tt)
   ended_stays (frames.Fields ss ms ∷ fs) v h e = absurd cc
 
   pub comma_stays : (fs : List Frame) → on_comma spot.start spot.context fs ≡ goes q → StaysIn spot.start q
   comma_stays [] e = absurd cc
-  comma_stays (frames.List ss vs ∷ fs) e = went (StaysIn spot.start) _ q e (refl, refl, tt)
-  comma_stays (frames.Sexp ss vs ∷ fs) e = absurd cc
+  comma_stays (frames.Items listings.List ss vs ∷ fs) e = went (StaysIn spot.start) _ q e (refl, refl, tt)
+  comma_stays (frames.Items listings.Sexp ss vs ∷ fs) e = absurd cc
   comma_stays (frames.Named ss ms name ∷ fs) e = absurd cc
   comma_stays (frames.Fields ss ms ∷ fs) e = went (StaysIn spot.start) _ q e (refl, refl, tt)
 
@@ -296,15 +298,13 @@ comma_strides old new moved rest behind octets inside rests move setting within 
 module _ (setting : Setting) (spot : Spot) (q : Reading) where
   pub ended_place : (fs : List Frame) (v : Value) → is_top fs ≡ false → ended setting spot fs v ≡ goes q → place q ≡ place_in fs nows.Ready
   ended_place [] v h e = absurd cc
-  ended_place (frames.List ss vs ∷ fs) v h e = went (λ x. place x ≡ places.List) _ q e refl
-  ended_place (frames.Sexp ss vs ∷ fs) v h e = went (λ x. place x ≡ places.Sexp) _ q e refl
+  ended_place (frames.Items listing ss vs ∷ fs) v h e = went (λ x. place x ≡ item_place listing) _ q e refl
   ended_place (frames.Named ss ms name ∷ fs) v h e = went (λ x. place x ≡ places.FieldValue) _ q e refl
   ended_place (frames.Fields ss ms ∷ fs) v h e = absurd cc
 
   pub named_stays : (fs : List Frame) (s : Option (List ℕ)) → named spot.start spot.context fs s ≡ goes q → StaysIn spot.start q
   named_stays [] s e = absurd cc
-  named_stays (frames.List ss vs ∷ fs) s e = absurd cc
-  named_stays (frames.Sexp ss vs ∷ fs) s e = absurd cc
+  named_stays (frames.Items listing ss vs ∷ fs) s e = absurd cc
   named_stays (frames.Named ss ms name ∷ fs) s e = absurd cc
   named_stays (frames.Fields ss ms ∷ fs) s e = went (StaysIn spot.start) _ q e (refl, refl, tt)
 
@@ -314,19 +314,11 @@ released_inner setting spot [] ss h e = absurd cc
 released_inner setting spot (f ∷ fs) ss h e = refl
 
 pub same_place_in : (fs : List Frame) (n m : Now) → (n ≡ nows.Ready) → (h : Held) (e : ℕ) → m ≡ nows.Pending h e → place_in fs m ≡ place_in fs nows.Ready
-same_place_in fs n m a h e i = ap (place_in fs) i ∙ by fs
-  where
-    by : (fs : List Frame) → place_in fs (nows.Pending h e) ≡ place_in fs nows.Ready
-    by [] = refl
-    by (frames.List ss vs ∷ fs) = refl
-    by (frames.Sexp ss vs ∷ fs) = refl
-    by (frames.Named ss ms name ∷ fs) = refl
-    by (frames.Fields ss ms ∷ fs) = refl
+same_place_in fs n m a h e i = ap (place_in fs) i ∙ pending_at fs h e
 
 pub name_place : (fs : List Frame) (s : Option (List ℕ)) → place_in fs (nows.Keyed s) ≡ place_in fs nows.Name
 name_place [] s = refl
-name_place (frames.List ss vs ∷ fs) s = refl
-name_place (frames.Sexp ss vs ∷ fs) s = refl
+name_place (frames.Items listing ss vs ∷ fs) s = refl
 name_place (frames.Named ss ms name ∷ fs) s = refl
 name_place (frames.Fields ss ms ∷ fs) s = refl
 

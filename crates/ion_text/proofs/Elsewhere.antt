@@ -35,10 +35,14 @@ use Rattle.ion_text.specs.declared.state.Now.{Now}
 use Rattle.ion_text.specs.declared.state.Now.TheVariants as nows
 use Rattle.ion_text.specs.declared.state.Frame.{Frame}
 use Rattle.ion_text.specs.declared.state.Frame.TheVariants as frames
+use Rattle.ion_visiting.specs.declared.bracket.Bracket.TheVariants as brackets
+use Rattle.ion_text.specs.declared.state.Listing.TheVariants as listings
 use Rattle.ion_text.specs.Grammar.{is_keyword}
-use Rattle.ion_text.specs.machine.EachToken.{under, spot_at, token_at, begun_at, Reading, Turn, goes, gives, refuses, late, Symbols, at, fresh, place, place_in, settle, turned, within, ended, released, paid, held_payload, resolved, deeper, bare_close, list_closed, sexp_closed, struct_closed, on_ready, on_pending, noted, held_symbol, on_long, on_after, on_comma, on_name, on_long_name, on_keyed, named, keyed, turn}
+use Rattle.ion_text.specs.machine.EachToken.{under, spot_at, token_at, begun_at, Reading, Turn, goes, gives, refuses, late, Symbols, at, fresh, place, place_in, settle, turned, within, ended, released, paid, held_payload, resolved, deeper, bare_close, opened, first_now, beyond_depth, opening, closed, unexpected, on_ready, on_pending, noted, held_symbol, on_long, on_after, on_comma, on_name, on_long_name, on_keyed, named, keyed, turn}
 use Rattle.ion_visiting.specs.Parts.{number_payload}
 use Rattle.ion_text.specs.machine.Run.{State, Effect, uses, tells, leaves, fails, is_top, in_segment, has_segment, waits_now, unsettled, shut, reaches, noticed, lesser, or_worse, with_scan, token_of, behind_given, behind_left, on_said, on_scan, on_settled, on_octet, takes, eats, Run, run_on, run}
+use Rattle.ion_text.specs.laws.reading.Brackets.{Closes, ends_list, ends_sexp, ends_struct, ends_none, closes_or_not}
+use Rattle.ion_visiting.specs.declared.bracket.Bracket.{Bracket}
 
 -- 1. The same, elsewhere.
 
@@ -163,8 +167,7 @@ segment_there s a b = by (is_idle s.mode)
 
 place_there : (fs : List Frame) (now : Now) (end : ℕ) → place_in fs (now_at end now) ≡ place_in fs now
 place_there [] now e = refl
-place_there (frames.List ss vs ∷ fs) now e = refl
-place_there (frames.Sexp ss vs ∷ fs) now e = refl
+place_there (frames.Items listing ss vs ∷ fs) now e = refl
 place_there (frames.Named ss ms s ∷ fs) now e = refl
 place_there (frames.Fields ss ms ∷ fs) (nows.Pending h x) e = refl
 place_there (frames.Fields ss ms ∷ fs) (nows.Long w x) e = refl
@@ -224,8 +227,8 @@ module _ (g : Catalog) (l l' : Limits) where
             (if b then turned l'.item start' end' (next c v g) else within l'.item start' end' (gives v (fresh c)))
         by true = turned_there (next c v g)
         by false = within_there l.item l'.item start start' end end' (gives v (fresh c)) (gives v (fresh c)) (refl, same_reading 0 0 0 0 c [] [] nows.Ready)
-    ended_there (frames.List ss vs ∷ fs) v = same_reading start 0 start' 0 c (frames.List ss (vs ++ v ∷ []) ∷ fs) [] nows.After
-    ended_there (frames.Sexp ss vs ∷ fs) v = same_reading start 0 start' 0 c (frames.Sexp ss (vs ++ v ∷ []) ∷ fs) [] nows.Ready
+    ended_there (frames.Items listings.List ss vs ∷ fs) v = same_reading start 0 start' 0 c (frames.Items listings.List ss (vs ++ v ∷ []) ∷ fs) [] nows.After
+    ended_there (frames.Items listings.Sexp ss vs ∷ fs) v = same_reading start 0 start' 0 c (frames.Items listings.Sexp ss (vs ++ v ∷ []) ∷ fs) [] nows.Ready
     ended_there (frames.Named ss ms name ∷ fs) v = record { begin = start'; end = 0; is = refl }
     ended_there (frames.Fields ss ms ∷ fs) v = tt
 
@@ -246,26 +249,18 @@ module _ (g : Catalog) (l l' : Limits) where
     released_there [] (s ∷ ss) h = paid_there [] (s ∷ ss) (held_payload h)
     released_there (f ∷ fs) ss h = paid_there (f ∷ fs) ss (held_payload h)
 
-    list_there : (fs : List Frame) → Turns (list_closed (under g l) (spot_at end start c) fs) (list_closed (under g l') (spot_at end' start' c) fs)
-    list_there [] = tt
-    list_there (frames.List ss vs ∷ fs) = ended_there fs (annotated ss (payloads.List vs))
-    list_there (frames.Sexp ss vs ∷ fs) = tt
-    list_there (frames.Fields ss ms ∷ fs) = tt
-    list_there (frames.Named ss ms s ∷ fs) = tt
-
-    sexp_there : (fs : List Frame) → Turns (sexp_closed (under g l) (spot_at end start c) fs) (sexp_closed (under g l') (spot_at end' start' c) fs)
-    sexp_there [] = tt
-    sexp_there (frames.Sexp ss vs ∷ fs) = ended_there fs (annotated ss (payloads.Sexp vs))
-    sexp_there (frames.List ss vs ∷ fs) = tt
-    sexp_there (frames.Fields ss ms ∷ fs) = tt
-    sexp_there (frames.Named ss ms s ∷ fs) = tt
-
-    struct_there : (fs : List Frame) → Turns (struct_closed (under g l) (spot_at end start c) fs) (struct_closed (under g l') (spot_at end' start' c) fs)
-    struct_there [] = tt
-    struct_there (frames.Fields ss ms ∷ fs) = ended_there fs (annotated ss (payloads.Fields ms))
-    struct_there (frames.List ss vs ∷ fs) = tt
-    struct_there (frames.Sexp ss vs ∷ fs) = tt
-    struct_there (frames.Named ss ms s ∷ fs) = tt
+    closed_there : (bracket : Bracket) (fs : List Frame)
+        → Turns (closed bracket (under g l) (spot_at end start c) fs) (closed bracket (under g l') (spot_at end' start' c) fs)
+    closed_there bracket fs = by bracket fs (closes_or_not bracket fs)
+      where
+        by : (bracket : Bracket) (fs : List Frame) → Closes bracket fs
+            → Turns (closed bracket (under g l) (spot_at end start c) fs) (closed bracket (under g l') (spot_at end' start' c) fs)
+        by _ _ (ends_list ss vs fs) = ended_there fs (annotated ss (payloads.List vs))
+        by _ _ (ends_sexp ss vs fs) = ended_there fs (annotated ss (payloads.Sexp vs))
+        by _ _ (ends_struct ss ms fs) = ended_there fs (annotated ss (payloads.Fields ms))
+        by _ _ (ends_none bracket fs e) = subst (λ x. Turns x (closed bracket (under g l') (spot_at end' start' c) fs))
+            (sym (e (under g l) (spot_at end start c)))
+            (subst (Turns unexpected) (sym (e (under g l') (spot_at end' start' c))) tt)
 
     bare_there : (ss : Symbols) (x y : Turn) → Turns x y → Turns (bare_close ss x) (bare_close ss y)
     bare_there [] x y h = h
@@ -301,6 +296,25 @@ module _ (g : Catalog) (l l' : Limits) where
     waiting : (fs : List Frame) (ss : Symbols) (now : Now) → Readings (at start c fs ss (now_at end now)) (at start' c fs ss (now_at end' now))
     waiting fs ss now = same_reading start end start' end' c fs ss now
 
+    opens_there : (fs : List Frame) (ss : Symbols) (bracket : Bracket)
+        → ((t : Turn) → Turns t (beyond_depth bracket (at start' c (opened bracket ss ∷ fs) [] (first_now bracket))))
+        → Turns (opening bracket l.depth start c fs ss) (opening bracket l'.depth start' c fs ss)
+    opens_there fs ss bracket h =
+        deeper_there fs (at start c (opened bracket ss ∷ fs) [] (first_now bracket)) (at start' c (opened bracket ss ∷ fs) [] (first_now bracket)) _ _
+        (there bracket) (stops bracket) h
+      where
+        there : (bracket : Bracket)
+            → Readings (at start c (opened bracket ss ∷ fs) [] (first_now bracket)) (at start' c (opened bracket ss ∷ fs) [] (first_now bracket))
+        there brackets.List = record { begin = start'; end = 0; is = refl }
+        there brackets.Sexp = record { begin = start'; end = 0; is = refl }
+        there brackets.Fields = record { begin = start'; end = 0; is = refl }
+
+        stops : (bracket : Bracket) → Turns (beyond_depth bracket (at start c (opened bracket ss ∷ fs) [] (first_now bracket)))
+            (goes (at start' c (opened bracket ss ∷ fs) [] (first_now bracket)))
+        stops brackets.List = tt
+        stops brackets.Sexp = tt
+        stops brackets.Fields = tt
+
     ready_there : (fs : List Frame) (ss : Symbols) (x : Content)
         → Turns (on_ready (under g l) (spot_at end start c) fs ss x) (on_ready (under g l') (spot_at end' start' c) fs ss x)
     ready_there fs ss (Word w) = record { begin = start'; end = end'; is = refl }
@@ -315,20 +329,13 @@ module _ (g : Catalog) (l l' : Limits) where
     ready_there fs ss (Operator w) = ended_there fs (annotated ss (payloads.Symbol (Some w)))
     ready_there fs ss (Clob w) = ended_there fs (annotated ss (payloads.Clob w))
     ready_there fs ss (Blob w) = ended_there fs (annotated ss (payloads.Blob w))
-    ready_there fs ss (Mark' marks.ListOpen) =
-        deeper_there fs (at start c (frames.List ss [] ∷ fs) [] nows.Ready) (at start' c (frames.List ss [] ∷ fs) [] nows.Ready) (refuses reasons.Depth)
-        (refuses reasons.Depth) (record { begin = start'; end = 0; is = refl }) tt (never reasons.Depth)
-    ready_there fs ss (Mark' marks.SexpOpen) =
-        deeper_there fs (at start c (frames.Sexp ss [] ∷ fs) [] nows.Ready) (at start' c (frames.Sexp ss [] ∷ fs) [] nows.Ready) (refuses reasons.Depth)
-        (refuses reasons.Depth) (record { begin = start'; end = 0; is = refl }) tt (never reasons.Depth)
-    ready_there fs ss (Mark' marks.FieldsOpen) =
-        deeper_there fs (at start c (frames.Fields ss [] ∷ fs) [] nows.Name) (at start' c (frames.Fields ss [] ∷ fs) [] nows.Name)
-        (late reasons.Depth (at start c (frames.Fields ss [] ∷ fs) [] nows.Name)) (late reasons.Depth (at start' c (frames.Fields ss [] ∷ fs) [] nows.Name))
-        (record { begin = start'; end = 0; is = refl }) tt (late_never reasons.Depth (at start' c (frames.Fields ss [] ∷ fs) [] nows.Name))
-    ready_there fs ss (Mark' marks.ListClose) = bare_there ss (list_closed (under g l) (spot_at end start c) fs)
-        (list_closed (under g l') (spot_at end' start' c) fs) (list_there fs)
-    ready_there fs ss (Mark' marks.SexpClose) = bare_there ss (sexp_closed (under g l) (spot_at end start c) fs)
-        (sexp_closed (under g l') (spot_at end' start' c) fs) (sexp_there fs)
+    ready_there fs ss (Mark' marks.ListOpen) = opens_there fs ss brackets.List (never reasons.Depth)
+    ready_there fs ss (Mark' marks.SexpOpen) = opens_there fs ss brackets.Sexp (never reasons.Depth)
+    ready_there fs ss (Mark' marks.FieldsOpen) = opens_there fs ss brackets.Fields (late_never reasons.Depth _)
+    ready_there fs ss (Mark' marks.ListClose) = bare_there ss (closed brackets.List (under g l) (spot_at end start c) fs)
+        (closed brackets.List (under g l') (spot_at end' start' c) fs) (closed_there brackets.List fs)
+    ready_there fs ss (Mark' marks.SexpClose) = bare_there ss (closed brackets.Sexp (under g l) (spot_at end start c) fs)
+        (closed brackets.Sexp (under g l') (spot_at end' start' c) fs) (closed_there brackets.Sexp fs)
     ready_there fs ss (Mark' marks.FieldsClose) = tt
     ready_there fs ss (Mark' marks.Comma) = tt
     ready_there fs ss (Mark' marks.Colon) = tt
@@ -340,16 +347,15 @@ module _ (g : Catalog) (l l' : Limits) where
 
     comma_there : (fs : List Frame) → Turns (on_comma start c fs) (on_comma start' c fs)
     comma_there [] = tt
-    comma_there (frames.List ss vs ∷ fs) = record { begin = start'; end = 0; is = refl }
+    comma_there (frames.Items listings.List ss vs ∷ fs) = record { begin = start'; end = 0; is = refl }
     comma_there (frames.Fields ss ms ∷ fs) = record { begin = start'; end = 0; is = refl }
-    comma_there (frames.Sexp ss vs ∷ fs) = tt
+    comma_there (frames.Items listings.Sexp ss vs ∷ fs) = tt
     comma_there (frames.Named ss ms s ∷ fs) = tt
 
     named_there : (fs : List Frame) (s : Option (List ℕ)) → Turns (named start c fs s) (named start' c fs s)
     named_there [] s = tt
     named_there (frames.Fields ss ms ∷ fs) s = record { begin = start'; end = 0; is = refl }
-    named_there (frames.List ss vs ∷ fs) s = tt
-    named_there (frames.Sexp ss vs ∷ fs) s = tt
+    named_there (frames.Items listing ss vs ∷ fs) s = tt
     named_there (frames.Named ss ms n ∷ fs) s = tt
 
     pending_there : (fs : List Frame) (ss : Symbols) (h : Held) (x : Content) → Turns (on_pending start c fs ss h x) (on_pending start' c fs ss h x)
@@ -407,9 +413,9 @@ module _ (g : Catalog) (l l' : Limits) where
     after_there fs (Clob w') = tt
     after_there fs (Blob w') = tt
     after_there fs (Mark' marks.FieldsOpen) = tt
-    after_there fs (Mark' marks.FieldsClose) = struct_there fs
+    after_there fs (Mark' marks.FieldsClose) = closed_there brackets.Fields fs
     after_there fs (Mark' marks.ListOpen) = tt
-    after_there fs (Mark' marks.ListClose) = list_there fs
+    after_there fs (Mark' marks.ListClose) = closed_there brackets.List fs
     after_there fs (Mark' marks.SexpOpen) = tt
     after_there fs (Mark' marks.SexpClose) = tt
     after_there fs (Mark' marks.Comma) = comma_there fs
@@ -434,7 +440,7 @@ module _ (g : Catalog) (l l' : Limits) where
     name_there fs (Clob w') = tt
     name_there fs (Blob w') = tt
     name_there fs (Mark' marks.FieldsOpen) = tt
-    name_there fs (Mark' marks.FieldsClose) = struct_there fs
+    name_there fs (Mark' marks.FieldsClose) = closed_there brackets.Fields fs
     name_there fs (Mark' marks.ListOpen) = tt
     name_there fs (Mark' marks.ListClose) = tt
     name_there fs (Mark' marks.SexpOpen) = tt

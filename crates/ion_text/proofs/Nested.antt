@@ -8,7 +8,8 @@ use Rattle.ion_symtab.specs.declared.catalog.Catalog.{Catalog}
 use Rattle.ion_symtab.specs.Slots.{Slot}
 use Rattle.ion_tokens.specs.declared.mode.Place.{Place}
 use Rattle.ion_tokens.specs.declared.mode.Place.TheVariants as places
-use Rattle.ion_tokens.specs.declared.mode.Mark.{Mark}
+use Rattle.ion_visiting.specs.declared.bracket.Bracket.{Bracket}
+use Rattle.ion_visiting.specs.declared.bracket.Bracket.TheVariants as brackets
 use Rattle.ion_tokens.specs.declared.mode.Mark.TheVariants as marks
 use Rattle.ion_tokens.specs.declared.mode.TokenKind.TheVariants as kinds
 use Rattle.ion_tokens.specs.declared.scanner.Scanner.{Scanner}
@@ -22,35 +23,36 @@ use Rattle.ion_tokens.specs.machine.Rests.{resting, past_token, lexeme_at, IsFou
 use Rattle.ion_tokens.proofs.runs.WholeTokens.{list_open_found, list_close_found, sexp_open_found, sexp_close_found, fields_open_found, fields_close_found}
 use Rattle.ion_text.specs.declared.state.Frame.{Frame}
 use Rattle.ion_text.specs.declared.state.Frame.TheVariants as frames
+use Rattle.ion_text.specs.declared.state.Listing.TheVariants as listings
 use Rattle.ion_text.specs.declared.state.Now.{Now}
 use Rattle.ion_text.specs.declared.state.Now.TheVariants as nows
 use Rattle.ion_text.specs.declared.reader.TextReader.{TextReader}
-use Rattle.ion_text.specs.machine.EachToken.{Setting, Spot, under, spot_at, token_at, Reading, Turn, Symbols, goes, at, place, place_in, settle, turn, turn_now, begun_at, on_ready}
+use Rattle.ion_text.specs.machine.EachToken.{Setting, Spot, under, spot_at, token_at, Reading, Turn, Symbols, goes, at, place, place_in, settle, turn, turn_now, begun_at, on_ready, opened, first_now, beyond_depth, opening, closed, unexpected}
 use Rattle.ion_text.specs.machine.Run.{is_top, with_scan, token_of}
 use Rattle.ion_text.specs.machine.Pieces.{Quiet}
-use Rattle.ion_text.specs.machine.Nested.{OpensAt, OpensStruct, ClosesAt, closes, close_octet, closed}
+use Rattle.ion_text.specs.machine.Nested.{open_mark, close_mark, OpensAt, OpensStruct, ClosesAt, closes, close_octet}
 use Rattle.ion_text.specs.machine.Views.{setting_of, spot_of, reading_of, state_of, open_frames, IsCalm, SameSetting, SameReader}
 use Rattle.ion_text.specs.machine.AtOnce.{Passes, IsStill, Inside, Strides}
+use Rattle.ion_text.specs.laws.reading.Brackets.{open_turns, Closes, ends_list, ends_sexp, ends_struct, ends_none, closes_or_not}
 use Rattle.ion_text.proofs.Passing.{passes_left, top_quiet}
 use Rattle.ion_text.proofs.Striding.{still_settles}
 use Rattle.ion_text.proofs.Arms.{StaysIn, Moved, with_scanner, went, ready_turns, ended_stays, mark_says, token_strides}
 
 -- An open. That of a struct shows its end by the octet behind it.
-abbrev pub is_open_left : Mark → Bool
-is_open_left marks.FieldsOpen = true
+abbrev pub is_open_left : Bracket → Bool
+is_open_left brackets.Fields = true
 is_open_left _ = false
 
-pub open_found : (m : Mark) (p : Place) (r : Rest) (octets : List ℕ) → OpensAt octets m → 1 < length octets → is_name p ≡ false
-    → IsFound p r octets (kinds.Mark m) [] 1 (is_open_left m)
-open_found marks.ListOpen p r octets opens more name = list_open_found p r octets name (omega arith) opens
-open_found marks.SexpOpen p r octets opens more name = sexp_open_found p r octets name (omega arith) opens
-open_found marks.FieldsOpen p r octets opens more name = fields_open_found p r octets name more opens.0 opens.1
-open_found marks.ListClose p r octets opens more name = absurd opens
-open_found marks.SexpClose p r octets opens more name = absurd opens
-open_found marks.FieldsClose p r octets opens more name = absurd opens
-open_found marks.Comma p r octets opens more name = absurd opens
-open_found marks.Colon p r octets opens more name = absurd opens
-open_found marks.Colons p r octets opens more name = absurd opens
+pub open_found : (x : Bracket) (p : Place) (r : Rest) (octets : List ℕ) → OpensAt octets x → 1 < length octets → is_name p ≡ false
+    → IsFound p r octets (kinds.Mark (open_mark x)) [] 1 (is_open_left x)
+open_found brackets.List p r octets opens more name = list_open_found p r octets name (omega arith) opens
+open_found brackets.Sexp p r octets opens more name = sexp_open_found p r octets name (omega arith) opens
+open_found brackets.Fields p r octets opens more name = fields_open_found p r octets name more opens.0 opens.1
+
+pub opened_stays : (start : ℕ) (c : List Slot) (fs : List Frame) (ss : Symbols) (x : Bracket) → StaysIn start (at start c (opened x ss ∷ fs) [] (first_now x))
+opened_stays start c fs ss brackets.List = (refl, refl, tt)
+opened_stays start c fs ss brackets.Sexp = (refl, refl, tt)
+opened_stays start c fs ss brackets.Fields = (refl, refl, tt)
 
 -- it goes on in one container more
 module _ (setting : Setting) (spot : Spot) (fs : List Frame) (ss : Symbols) where
@@ -58,35 +60,32 @@ module _ (setting : Setting) (spot : Spot) (fs : List Frame) (ss : Symbols) wher
   deepens true a q deep never stays does = went (StaysIn spot.start) a q does stays
   deepens false a q deep never stays does = absurd (never does)
 
-  open_stays : (m : Mark) (octets : List ℕ) (q : Reading) → OpensAt octets m → on_ready setting spot fs ss (Mark' m) ≡ goes q → StaysIn spot.start q
-  open_stays marks.ListOpen octets q opens does = deepens (nat_lt (length fs) setting.limits.depth) _ q _ (λ never. cc) (refl, refl, tt) does
-  open_stays marks.SexpOpen octets q opens does = deepens (nat_lt (length fs) setting.limits.depth) _ q _ (λ never. cc) (refl, refl, tt) does
-  open_stays marks.FieldsOpen octets q opens does = deepens (nat_lt (length fs) setting.limits.depth) _ q _ (λ never. cc) (refl, refl, tt) does
-  open_stays marks.ListClose octets q opens does = absurd opens
-  open_stays marks.SexpClose octets q opens does = absurd opens
-  open_stays marks.FieldsClose octets q opens does = absurd opens
-  open_stays marks.Comma octets q opens does = absurd opens
-  open_stays marks.Colon octets q opens does = absurd opens
-  open_stays marks.Colons octets q opens does = absurd opens
+  beyond_depth_stops : (x : Bracket) (a q : Reading) → beyond_depth x a ≡ goes q → ⊥
+  beyond_depth_stops brackets.List a q e = cc
+  beyond_depth_stops brackets.Sexp a q e = cc
+  beyond_depth_stops brackets.Fields a q e = cc
 
-pub open_strides : (old new : TextReader) (moved : Scanner) (rest behind : Rest) (octets : List ℕ) (m : Mark) → Inside old octets
+  open_stays : (x : Bracket) (q : Reading) → opening x setting.limits.depth spot.start spot.context fs ss ≡ goes q → StaysIn spot.start q
+  open_stays x q does = deepens (nat_lt (length fs) setting.limits.depth) _ q _ (beyond_depth_stops x _ q) (opened_stays spot.start spot.context fs ss x) does
+
+pub open_strides : (old new : TextReader) (moved : Scanner) (rest behind : Rest) (octets : List ℕ) (x : Bracket) → Inside old octets
     → scanned old.scanner ≡ resting rest → Moved old.scanner moved behind → SameSetting (with_scanner old moved) new
-    → 1 < length octets → OpensAt octets m → is_name (place (reading_of old)) ≡ false → behind ≡ past_token (place (reading_of old)) rest (kinds.Mark m) 1
-    → old.stage ≡ nows.Ready
-    → on_ready (setting_of old) (spot_of old (rest.used + 1)) (open_frames old) old.notes (Mark' m) ≡ goes (reading_of new) → Strides old new octets 1
-open_strides old new moved rest behind octets m inside rests move setting within opens name there now does =
-    token_strides old new moved rest behind octets inside rests move setting (kinds.Mark m) [] 1 (is_open_left m) (Mark' m) within there
+    → 1 < length octets → OpensAt octets x → is_name (place (reading_of old)) ≡ false
+    → behind ≡ past_token (place (reading_of old)) rest (kinds.Mark (open_mark x)) 1 → old.stage ≡ nows.Ready
+    → opening x old.limits.depth old.start old.context (open_frames old) old.notes ≡ goes (reading_of new) → Strides old new octets 1
+open_strides old new moved rest behind octets x inside rests move setting within opens name there now does =
+    token_strides old new moved rest behind octets inside rests move setting (kinds.Mark (open_mark x)) [] 1 (is_open_left x) (Mark' (open_mark x)) within there
     (subst IsStill (sym now) tt) (inl (subst IsCalm (sym now) tt))
-    (open_found m (place (reading_of old)) rest octets opens within name) (mark_says m)
-    (ready_turns old.catalog.now old.limits (reading_of old) (lexeme_at rest (kinds.Mark m) [] 1) (Mark' m) now inside.inner ∙ does)
-    (open_stays (setting_of old) (spot_of old (rest.used + 1)) (open_frames old) old.notes m octets (reading_of new) opens does)
+    (open_found x (place (reading_of old)) rest octets opens within name) (mark_says (open_mark x))
+    (ready_turns old.catalog.now old.limits (reading_of old) (lexeme_at rest (kinds.Mark (open_mark x)) [] 1) (Mark' (open_mark x)) now inside.inner
+    ∙ (open_turns x (setting_of old) (spot_of old (rest.used + 1)) (open_frames old) old.notes ∙ does))
+    (open_stays (setting_of old) (spot_of old (rest.used + 1)) (open_frames old) old.notes x (reading_of new) does)
 
 -- An open where no item is open: the struct's item begins with it.
 module _ (old new : TextReader) (moved : Scanner) (rest behind : Rest) (octets : List ℕ) (item : 1 ≤ old.limits.item) (h : OpensStruct old octets rest)
     (move : Moved old.scanner moved behind) (setting : new.scanner ≡ moved) (same : SameReader old new)
     (there : behind ≡ past_token places.Top rest (kinds.Mark marks.FieldsOpen) 1)
-    (does : on_ready (setting_of old) (spot_at (rest.used + 1) rest.used old.context) (open_frames old) old.notes (Mark' marks.FieldsOpen)
-    ≡ goes (reading_of new)) where
+    (does : opening brackets.Fields old.limits.depth rest.used old.context (open_frames old) old.notes ≡ goes (reading_of new)) where
   abbrev g : Catalog
   g = old.catalog.now
 
@@ -120,8 +119,7 @@ module _ (old new : TextReader) (moved : Scanner) (rest behind : Rest) (octets :
       ∙ (ap (λ s. on_ready (under g l) (spot_at (rest.used + 1) s r.context) r.frames r.notes (Mark' marks.FieldsOpen)) begun ∙ does)
 
   stays : StaysIn rest.used (reading_of new)
-  stays = open_stays (under g l) (spot_at (rest.used + 1) rest.used old.context) (open_frames old) old.notes marks.FieldsOpen octets (reading_of new) h.opens
-      does
+  stays = open_stays (under g l) (spot_at (rest.used + 1) rest.used old.context) (open_frames old) old.notes brackets.Fields (reading_of new) does
 
   ends : feed (place r) found.known (slice_index octets 1) ≡ Left (lexeme_at rest (kinds.Mark marks.FieldsOpen) [] 1) (resting behind)
   ends = found.ends ∙ ap (λ (k : Rest). Left (lexeme_at rest (kinds.Mark marks.FieldsOpen) [] 1) (resting k))
@@ -146,151 +144,89 @@ module _ (old new : TextReader) (moved : Scanner) (rest behind : Rest) (octets :
   }
 
 -- A close.
-
-pub close_found : (m : Mark) (fs : List Frame) (now : Now) (r : Rest) (octets : List ℕ) → closes m fs now ≡ true → 0 < length octets
-    → slice_index octets 0 ≡ close_octet m → IsFound (place_in fs now) r octets (kinds.Mark m) [] 1 false
-close_found marks.ListClose [] now r octets h some first = absurd cc
-close_found marks.ListClose (frames.List ss vs ∷ fs) now r octets h some first =
-    list_close_found (place_in (frames.List ss vs ∷ fs) now) r octets refl some first
-close_found marks.ListClose (frames.Sexp ss vs ∷ fs) now r octets h some first = absurd cc
-close_found marks.ListClose (frames.Fields ss ms ∷ fs) now r octets h some first = absurd cc
-close_found marks.ListClose (frames.Named ss ms name ∷ fs) now r octets h some first = absurd cc
-close_found marks.SexpClose [] now r octets h some first = absurd cc
-close_found marks.SexpClose (frames.List ss vs ∷ fs) now r octets h some first = absurd cc
-close_found marks.SexpClose (frames.Sexp ss vs ∷ fs) now r octets h some first =
-    sexp_close_found (place_in (frames.Sexp ss vs ∷ fs) now) r octets refl some first
-close_found marks.SexpClose (frames.Fields ss ms ∷ fs) now r octets h some first = absurd cc
-close_found marks.SexpClose (frames.Named ss ms name ∷ fs) now r octets h some first = absurd cc
-close_found marks.FieldsClose fs now r octets h some first = fields_close_found (place_in fs now) r octets some first
-close_found marks.ListOpen fs now r octets h some first = absurd cc
-close_found marks.SexpOpen fs now r octets h some first = absurd cc
-close_found marks.FieldsOpen fs now r octets h some first = absurd cc
-close_found marks.Comma fs now r octets h some first = absurd cc
-close_found marks.Colon fs now r octets h some first = absurd cc
-close_found marks.Colons fs now r octets h some first = absurd cc
+pub close_found : (x : Bracket) (fs : List Frame) (now : Now) (r : Rest) (octets : List ℕ) → closes x fs now ≡ true → 0 < length octets
+    → slice_index octets 0 ≡ close_octet x → IsFound (place_in fs now) r octets (kinds.Mark (close_mark x)) [] 1 false
+close_found brackets.List [] now r octets h some first = absurd cc
+close_found brackets.List (frames.Items listings.List ss vs ∷ fs) now r octets h some first = list_close_found places.List r octets refl some first
+close_found brackets.List (frames.Items listings.Sexp ss vs ∷ fs) now r octets h some first = absurd cc
+close_found brackets.List (frames.Fields ss ms ∷ fs) now r octets h some first = absurd cc
+close_found brackets.List (frames.Named ss ms name ∷ fs) now r octets h some first = absurd cc
+close_found brackets.Sexp [] now r octets h some first = absurd cc
+close_found brackets.Sexp (frames.Items listings.List ss vs ∷ fs) now r octets h some first = absurd cc
+close_found brackets.Sexp (frames.Items listings.Sexp ss vs ∷ fs) now r octets h some first = sexp_close_found places.Sexp r octets refl some first
+close_found brackets.Sexp (frames.Fields ss ms ∷ fs) now r octets h some first = absurd cc
+close_found brackets.Sexp (frames.Named ss ms name ∷ fs) now r octets h some first = absurd cc
+close_found brackets.Fields fs now r octets h some first = fields_close_found (place_in fs now) r octets some first
 
 module _ (g : Catalog) (l : Limits) (begin end start : ℕ) (c : List Slot) where
   -- in such a state the mark closes, and nothing waits
-  abbrev pub MarkCloses : Mark → List Frame → Now → Type 0
-  MarkCloses m fs now = (turn_now (under g l) (at start c fs [] now) (token_at begin end (Mark' m)) now ≡ closed m (under g l) (spot_at end start c) fs)
+  abbrev pub MarkCloses : Bracket → List Frame → Now → Type 0
+  MarkCloses x fs now =
+      (turn_now (under g l) (at start c fs [] now) (token_at begin end (Mark' (close_mark x))) now ≡ closed x (under g l) (spot_at end start c) fs)
       × IsStill now
 
-  pub closing : (m : Mark) (fs : List Frame) (now : Now) → closes m fs now ≡ true → MarkCloses m fs now
-  closing marks.ListClose [] now h = absurd cc
-  closing marks.ListClose (frames.List ss vs ∷ fs) nows.Ready h = (refl, tt)
-  closing marks.ListClose (frames.List ss vs ∷ fs) (nows.Pending held e) h = absurd cc
-  closing marks.ListClose (frames.List ss vs ∷ fs) (nows.Long w e) h = absurd cc
-  closing marks.ListClose (frames.List ss vs ∷ fs) nows.After h = (refl, tt)
-  closing marks.ListClose (frames.List ss vs ∷ fs) nows.Name h = absurd cc
-  closing marks.ListClose (frames.List ss vs ∷ fs) (nows.LongName w) h = absurd cc
-  closing marks.ListClose (frames.List ss vs ∷ fs) (nows.Keyed name) h = absurd cc
-  closing marks.ListClose (frames.Sexp ss vs ∷ fs) now h = absurd cc
-  closing marks.ListClose (frames.Fields ss ms ∷ fs) now h = absurd cc
-  closing marks.ListClose (frames.Named ss ms key ∷ fs) now h = absurd cc
-  closing marks.SexpClose [] now h = absurd cc
-  closing marks.SexpClose (frames.List ss vs ∷ fs) now h = absurd cc
-  closing marks.SexpClose (frames.Sexp ss vs ∷ fs) nows.Ready h = (refl, tt)
-  closing marks.SexpClose (frames.Sexp ss vs ∷ fs) (nows.Pending held e) h = absurd cc
-  closing marks.SexpClose (frames.Sexp ss vs ∷ fs) (nows.Long w e) h = absurd cc
-  closing marks.SexpClose (frames.Sexp ss vs ∷ fs) nows.After h = absurd cc
-  closing marks.SexpClose (frames.Sexp ss vs ∷ fs) nows.Name h = absurd cc
-  closing marks.SexpClose (frames.Sexp ss vs ∷ fs) (nows.LongName w) h = absurd cc
-  closing marks.SexpClose (frames.Sexp ss vs ∷ fs) (nows.Keyed name) h = absurd cc
-  closing marks.SexpClose (frames.Fields ss ms ∷ fs) now h = absurd cc
-  closing marks.SexpClose (frames.Named ss ms key ∷ fs) now h = absurd cc
-  closing marks.FieldsClose [] now h = absurd cc
-  closing marks.FieldsClose (frames.List ss vs ∷ fs) now h = absurd cc
-  closing marks.FieldsClose (frames.Sexp ss vs ∷ fs) now h = absurd cc
-  closing marks.FieldsClose (frames.Fields ss ms ∷ fs) nows.Ready h = absurd cc
-  closing marks.FieldsClose (frames.Fields ss ms ∷ fs) (nows.Pending held e) h = absurd cc
-  closing marks.FieldsClose (frames.Fields ss ms ∷ fs) (nows.Long w e) h = absurd cc
-  closing marks.FieldsClose (frames.Fields ss ms ∷ fs) nows.After h = (refl, tt)
-  closing marks.FieldsClose (frames.Fields ss ms ∷ fs) nows.Name h = (refl, tt)
-  closing marks.FieldsClose (frames.Fields ss ms ∷ fs) (nows.LongName w) h = absurd cc
-  closing marks.FieldsClose (frames.Fields ss ms ∷ fs) (nows.Keyed name) h = absurd cc
-  closing marks.FieldsClose (frames.Named ss ms key ∷ fs) now h = absurd cc
-  closing marks.ListOpen fs now h = absurd cc
-  closing marks.SexpOpen fs now h = absurd cc
-  closing marks.FieldsOpen fs now h = absurd cc
-  closing marks.Comma fs now h = absurd cc
-  closing marks.Colon fs now h = absurd cc
-  closing marks.Colons fs now h = absurd cc
+  pub closing : (x : Bracket) (fs : List Frame) (now : Now) → closes x fs now ≡ true → MarkCloses x fs now
+  closing brackets.List [] now h = absurd cc
+  closing brackets.List (frames.Items listings.List ss vs ∷ fs) nows.Ready h = (refl, tt)
+  closing brackets.List (frames.Items listings.List ss vs ∷ fs) (nows.Pending held e) h = absurd cc
+  closing brackets.List (frames.Items listings.List ss vs ∷ fs) (nows.Long w e) h = absurd cc
+  closing brackets.List (frames.Items listings.List ss vs ∷ fs) nows.After h = (refl, tt)
+  closing brackets.List (frames.Items listings.List ss vs ∷ fs) nows.Name h = absurd cc
+  closing brackets.List (frames.Items listings.List ss vs ∷ fs) (nows.LongName w) h = absurd cc
+  closing brackets.List (frames.Items listings.List ss vs ∷ fs) (nows.Keyed name) h = absurd cc
+  closing brackets.List (frames.Items listings.Sexp ss vs ∷ fs) now h = absurd cc
+  closing brackets.List (frames.Fields ss ms ∷ fs) now h = absurd cc
+  closing brackets.List (frames.Named ss ms key ∷ fs) now h = absurd cc
+  closing brackets.Sexp [] now h = absurd cc
+  closing brackets.Sexp (frames.Items listings.List ss vs ∷ fs) now h = absurd cc
+  closing brackets.Sexp (frames.Items listings.Sexp ss vs ∷ fs) nows.Ready h = (refl, tt)
+  closing brackets.Sexp (frames.Items listings.Sexp ss vs ∷ fs) (nows.Pending held e) h = absurd cc
+  closing brackets.Sexp (frames.Items listings.Sexp ss vs ∷ fs) (nows.Long w e) h = absurd cc
+  closing brackets.Sexp (frames.Items listings.Sexp ss vs ∷ fs) nows.After h = absurd cc
+  closing brackets.Sexp (frames.Items listings.Sexp ss vs ∷ fs) nows.Name h = absurd cc
+  closing brackets.Sexp (frames.Items listings.Sexp ss vs ∷ fs) (nows.LongName w) h = absurd cc
+  closing brackets.Sexp (frames.Items listings.Sexp ss vs ∷ fs) (nows.Keyed name) h = absurd cc
+  closing brackets.Sexp (frames.Fields ss ms ∷ fs) now h = absurd cc
+  closing brackets.Sexp (frames.Named ss ms key ∷ fs) now h = absurd cc
+  closing brackets.Fields [] now h = absurd cc
+  closing brackets.Fields (frames.Items listings.List ss vs ∷ fs) now h = absurd cc
+  closing brackets.Fields (frames.Items listings.Sexp ss vs ∷ fs) now h = absurd cc
+  closing brackets.Fields (frames.Fields ss ms ∷ fs) nows.Ready h = absurd cc
+  closing brackets.Fields (frames.Fields ss ms ∷ fs) (nows.Pending held e) h = absurd cc
+  closing brackets.Fields (frames.Fields ss ms ∷ fs) (nows.Long w e) h = absurd cc
+  closing brackets.Fields (frames.Fields ss ms ∷ fs) nows.After h = (refl, tt)
+  closing brackets.Fields (frames.Fields ss ms ∷ fs) nows.Name h = (refl, tt)
+  closing brackets.Fields (frames.Fields ss ms ∷ fs) (nows.LongName w) h = absurd cc
+  closing brackets.Fields (frames.Fields ss ms ∷ fs) (nows.Keyed name) h = absurd cc
+  closing brackets.Fields (frames.Named ss ms key ∷ fs) now h = absurd cc
+
+inner : (f : Frame) (fs : List Frame) → 1 < length (f ∷ fs) → is_top fs ≡ false
+inner f [] more = absurd (omega (arith, more))
+inner f (x ∷ fs) more = refl
 
 -- what stands around it goes on
-close_stays : (setting : Setting) (spot : Spot) (q : Reading) (m : Mark) (fs : List Frame) → 1 < length fs → closed m setting spot fs ≡ goes q
+close_stays : (setting : Setting) (spot : Spot) (q : Reading) (bracket : Bracket) (fs : List Frame) → 1 < length fs → closed bracket setting spot fs ≡ goes q
     → StaysIn spot.start q
-close_stays setting spot q marks.ListClose [] more does = absurd cc
-close_stays setting spot q marks.ListClose (frames.List ss vs ∷ []) more does = absurd (omega arith)
-close_stays setting spot q marks.ListClose (frames.List ss vs ∷ f ∷ fs) more does =
-    ended_stays setting spot q (f ∷ fs) (annotated ss (payloads.List vs)) refl does
-close_stays setting spot q marks.ListClose (frames.Sexp ss vs ∷ fs) more does = absurd cc
-close_stays setting spot q marks.ListClose (frames.Fields ss ms ∷ fs) more does = absurd cc
-close_stays setting spot q marks.ListClose (frames.Named ss ms key ∷ fs) more does = absurd cc
-close_stays setting spot q marks.SexpClose [] more does = absurd cc
-close_stays setting spot q marks.SexpClose (frames.List ss vs ∷ fs) more does = absurd cc
-close_stays setting spot q marks.SexpClose (frames.Sexp ss vs ∷ []) more does = absurd (omega arith)
-close_stays setting spot q marks.SexpClose (frames.Sexp ss vs ∷ f ∷ fs) more does =
-    ended_stays setting spot q (f ∷ fs) (annotated ss (payloads.Sexp vs)) refl does
-close_stays setting spot q marks.SexpClose (frames.Fields ss ms ∷ fs) more does = absurd cc
-close_stays setting spot q marks.SexpClose (frames.Named ss ms key ∷ fs) more does = absurd cc
-close_stays setting spot q marks.FieldsClose [] more does = absurd cc
-close_stays setting spot q marks.FieldsClose (frames.List ss vs ∷ fs) more does = absurd cc
-close_stays setting spot q marks.FieldsClose (frames.Sexp ss vs ∷ fs) more does = absurd cc
-close_stays setting spot q marks.FieldsClose (frames.Fields ss ms ∷ []) more does = absurd (omega arith)
-close_stays setting spot q marks.FieldsClose (frames.Fields ss ms ∷ f ∷ fs) more does =
-    ended_stays setting spot q (f ∷ fs) (annotated ss (payloads.Fields ms)) refl does
-close_stays setting spot q marks.FieldsClose (frames.Named ss ms key ∷ fs) more does = absurd cc
-close_stays setting spot q marks.ListOpen [] more does = absurd cc
-close_stays setting spot q marks.ListOpen (frames.List ss vs ∷ fs) more does = absurd cc
-close_stays setting spot q marks.ListOpen (frames.Sexp ss vs ∷ fs) more does = absurd cc
-close_stays setting spot q marks.ListOpen (frames.Fields ss ms ∷ []) more does = absurd (omega arith)
-close_stays setting spot q marks.ListOpen (frames.Fields ss ms ∷ f ∷ fs) more does =
-    ended_stays setting spot q (f ∷ fs) (annotated ss (payloads.Fields ms)) refl does
-close_stays setting spot q marks.ListOpen (frames.Named ss ms key ∷ fs) more does = absurd cc
-close_stays setting spot q marks.SexpOpen [] more does = absurd cc
-close_stays setting spot q marks.SexpOpen (frames.List ss vs ∷ fs) more does = absurd cc
-close_stays setting spot q marks.SexpOpen (frames.Sexp ss vs ∷ fs) more does = absurd cc
-close_stays setting spot q marks.SexpOpen (frames.Fields ss ms ∷ []) more does = absurd (omega arith)
-close_stays setting spot q marks.SexpOpen (frames.Fields ss ms ∷ f ∷ fs) more does =
-    ended_stays setting spot q (f ∷ fs) (annotated ss (payloads.Fields ms)) refl does
-close_stays setting spot q marks.SexpOpen (frames.Named ss ms key ∷ fs) more does = absurd cc
-close_stays setting spot q marks.FieldsOpen [] more does = absurd cc
-close_stays setting spot q marks.FieldsOpen (frames.List ss vs ∷ fs) more does = absurd cc
-close_stays setting spot q marks.FieldsOpen (frames.Sexp ss vs ∷ fs) more does = absurd cc
-close_stays setting spot q marks.FieldsOpen (frames.Fields ss ms ∷ []) more does = absurd (omega arith)
-close_stays setting spot q marks.FieldsOpen (frames.Fields ss ms ∷ f ∷ fs) more does =
-    ended_stays setting spot q (f ∷ fs) (annotated ss (payloads.Fields ms)) refl does
-close_stays setting spot q marks.FieldsOpen (frames.Named ss ms key ∷ fs) more does = absurd cc
-close_stays setting spot q marks.Comma [] more does = absurd cc
-close_stays setting spot q marks.Comma (frames.List ss vs ∷ fs) more does = absurd cc
-close_stays setting spot q marks.Comma (frames.Sexp ss vs ∷ fs) more does = absurd cc
-close_stays setting spot q marks.Comma (frames.Fields ss ms ∷ []) more does = absurd (omega arith)
-close_stays setting spot q marks.Comma (frames.Fields ss ms ∷ f ∷ fs) more does =
-    ended_stays setting spot q (f ∷ fs) (annotated ss (payloads.Fields ms)) refl does
-close_stays setting spot q marks.Comma (frames.Named ss ms key ∷ fs) more does = absurd cc
-close_stays setting spot q marks.Colon [] more does = absurd cc
-close_stays setting spot q marks.Colon (frames.List ss vs ∷ fs) more does = absurd cc
-close_stays setting spot q marks.Colon (frames.Sexp ss vs ∷ fs) more does = absurd cc
-close_stays setting spot q marks.Colon (frames.Fields ss ms ∷ []) more does = absurd (omega arith)
-close_stays setting spot q marks.Colon (frames.Fields ss ms ∷ f ∷ fs) more does =
-    ended_stays setting spot q (f ∷ fs) (annotated ss (payloads.Fields ms)) refl does
-close_stays setting spot q marks.Colon (frames.Named ss ms key ∷ fs) more does = absurd cc
-close_stays setting spot q marks.Colons [] more does = absurd cc
-close_stays setting spot q marks.Colons (frames.List ss vs ∷ fs) more does = absurd cc
-close_stays setting spot q marks.Colons (frames.Sexp ss vs ∷ fs) more does = absurd cc
-close_stays setting spot q marks.Colons (frames.Fields ss ms ∷ []) more does = absurd (omega arith)
-close_stays setting spot q marks.Colons (frames.Fields ss ms ∷ f ∷ fs) more does =
-    ended_stays setting spot q (f ∷ fs) (annotated ss (payloads.Fields ms)) refl does
-close_stays setting spot q marks.Colons (frames.Named ss ms key ∷ fs) more does = absurd cc
+close_stays setting spot q bracket fs = by bracket fs (closes_or_not bracket fs)
+  where
+    by : (bracket : Bracket) (fs : List Frame) → Closes bracket fs → 1 < length fs → closed bracket setting spot fs ≡ goes q → StaysIn spot.start q
+    by _ _ (ends_list ss vs fs) more does = ended_stays setting spot q fs (annotated ss (payloads.List vs))
+        (inner (frames.Items listings.List ss vs) fs more) does
+    by _ _ (ends_sexp ss vs fs) more does = ended_stays setting spot q fs (annotated ss (payloads.Sexp vs))
+        (inner (frames.Items listings.Sexp ss vs) fs more) does
+    by _ _ (ends_struct ss ms fs) more does = ended_stays setting spot q fs (annotated ss (payloads.Fields ms)) (inner (frames.Fields ss ms) fs more) does
+    by _ _ (ends_none bracket fs e) more does = absurd (let never : unexpected ≡ goes q = sym (e setting spot) ∙ does in cc)
 
-pub close_strides : (old new : TextReader) (moved : Scanner) (rest behind : Rest) (octets : List ℕ) (m : Mark) → Inside old octets
+pub close_strides : (old new : TextReader) (moved : Scanner) (rest behind : Rest) (octets : List ℕ) (x : Bracket) → Inside old octets
     → scanned old.scanner ≡ resting rest → Moved old.scanner moved behind → SameSetting (with_scanner old moved) new
-    → 1 < length octets → ClosesAt (reading_of old) (slice_index octets 0) m → behind ≡ past_token (place (reading_of old)) rest (kinds.Mark m) 1
-    → closed m (setting_of old) (spot_of old (rest.used + 1)) (open_frames old) ≡ goes (reading_of new) → Strides old new octets 1
-close_strides old new moved rest behind octets m inside rests move setting within h there does =
-    let k = closing old.catalog.now old.limits rest.used (rest.used + 1) old.start old.context m (open_frames old) old.stage h.fits in
-    token_strides old new moved rest behind octets inside rests move setting (kinds.Mark m) [] 1 false (Mark' m) within there k.1 (inr refl)
-    (close_found m (open_frames old) old.stage rest octets h.fits (omega arith) h.octet) (mark_says m)
-    (ap (λ ss. turn_now (setting_of old) (at old.start old.context (open_frames old) ss old.stage) (token_at rest.used (rest.used + 1) (Mark' m)) old.stage)
+    → 1 < length octets → ClosesAt (reading_of old) (slice_index octets 0) x → behind ≡ past_token (place (reading_of old)) rest (kinds.Mark (close_mark x)) 1
+    → closed x (setting_of old) (spot_of old (rest.used + 1)) (open_frames old) ≡ goes (reading_of new) → Strides old new octets 1
+close_strides old new moved rest behind octets x inside rests move setting within h there does =
+    let k = closing old.catalog.now old.limits rest.used (rest.used + 1) old.start old.context x (open_frames old) old.stage h.fits in
+    token_strides old new moved rest behind octets inside rests move setting (kinds.Mark (close_mark x)) [] 1 false (Mark' (close_mark x)) within there k.1
+    (inr refl)
+    (close_found x (open_frames old) old.stage rest octets h.fits (omega arith) h.octet) (mark_says (close_mark x))
+    (ap (λ ss. turn_now (setting_of old) (at old.start old.context (open_frames old) ss old.stage)
+    (token_at rest.used (rest.used + 1) (Mark' (close_mark x))) old.stage)
     h.bare ∙ (k.0 ∙ does))
-    (close_stays (setting_of old) (spot_of old (rest.used + 1)) (reading_of new) m (open_frames old) h.nested does)
+    (close_stays (setting_of old) (spot_of old (rest.used + 1)) (reading_of new) x (open_frames old) h.nested does)

@@ -327,8 +327,7 @@ module _ (g : Catalog) (l : Limits) (r : Reading) (start : ℕ) (now : r.now ≡
 named_place : (start : ℕ) (c : List Slot) (q : Reading) (fs : List Frame) (s : Option (List ℕ)) → named start c fs s ≡ goes q → is_name (place_in fs nows.Name)
     ≡ true
 named_place start c q [] s e = absurd cc
-named_place start c q (frames.List ss vs ∷ fs) s e = absurd cc
-named_place start c q (frames.Sexp ss vs ∷ fs) s e = absurd cc
+named_place start c q (frames.Items listing ss vs ∷ fs) s e = absurd cc
 named_place start c q (frames.Named ss ms name ∷ fs) s e = absurd cc
 named_place start c q (frames.Fields ss ms ∷ fs) s e = refl
 

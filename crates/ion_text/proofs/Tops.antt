@@ -22,6 +22,7 @@ use Rattle.ion_tokens.specs.declared.token_reader.FoundToken.{FoundToken}
 use Rattle.ion_tokens.specs.declared.mode.Place.{Place}
 use Rattle.ion_tokens.specs.declared.mode.Place.TheVariants as places
 use Rattle.ion_tokens.specs.declared.mode.Mark.{Mark}
+use Rattle.ion_visiting.specs.declared.bracket.Bracket.{Bracket}
 use Rattle.ion_tokens.specs.declared.mode.TokenKind.{TokenKind}
 use Rattle.ion_tokens.specs.declared.mode.TokenKind.TheVariants as kinds
 use Rattle.ion_tokens.specs.declared.token_reader.TokenReader.{TokenReader}
@@ -42,13 +43,13 @@ use Rattle.ion_text.specs.declared.state.Held.{Held}
 use Rattle.ion_text.specs.declared.state.Now.{Now}
 use Rattle.ion_text.specs.declared.state.Now.TheVariants as nows
 use Rattle.ion_text.specs.machine.AtOnce.{Passes}
-use Rattle.ion_text.specs.machine.EachToken.{under, spot_at, Reading, Symbols, goes, gives, refuses, at, fresh, place, place_in, settle, turn, turned, within, ended, begun_at}
-use Rattle.ion_text.specs.machine.Nested.{OpensAt}
+use Rattle.ion_text.specs.machine.EachToken.{under, spot_at, Reading, Symbols, goes, gives, refuses, at, fresh, place, place_in, settle, turn, turned, within, ended, begun_at, opened, first_now}
+use Rattle.ion_text.specs.machine.Nested.{open_mark, close_mark, OpensAt}
 use Rattle.ion_text.specs.machine.Pieces.{led, drive, go_on, Quiet}
 use Rattle.ion_text.specs.machine.Progress.{Advances, Stands}
 use Rattle.ion_text.specs.machine.Run.{State, uses, fails, tells, eats, takes, on_scan, on_said, behind_given, unsettled, reaches, longest_top, is_long_begun, token_of, run, run_on, with_scan}
 use Rattle.ion_text.specs.machine.Views.{state_of, open_frames, with_beside, base}
-use Rattle.ion_text.specs.machine.Walked.{close_of, opened, first_now, behind_note, EndsAtOnce, IsFresh, IsValue, most, rested, FoundNote, FoundScalar, GivesTop, LeadsPast, Walked, WalkedBare, WalkedContainer, WalkedItem, WalkedNote, WalkedNotes, WalkedTop}
+use Rattle.ion_text.specs.machine.Walked.{behind_note, EndsAtOnce, IsFresh, IsValue, most, rested, FoundNote, FoundScalar, GivesTop, LeadsPast, Walked, WalkedBare, WalkedContainer, WalkedItem, WalkedNote, WalkedNotes, WalkedTop}
 use Rattle.ion_text.specs.machine.FrontTokens.{held_of}
 use Rattle.ion_text.proofs.Arms.{left_found, given_found, mark_says, at_drop, blank_used}
 use Rattle.ion_text.proofs.Nested.{is_open_left, open_found, close_found, closing}
@@ -56,7 +57,7 @@ use Rattle.ion_text.proofs.Passing.{NoticesNothing, inner_notices, passes_blank,
 use Rattle.ion_text.proofs.Stretches.{quiet_within}
 use Rattle.ion_text.proofs.Striding.{still_settles}
 use Rattle.ion_text.proofs.Symbols.{held_in, symbol_held, note_passes, noted_passes, waits_so}
-use Rattle.ion_text.proofs.Walking.{found_within, open_turns, up_to_close, container_noted}
+use Rattle.ion_text.proofs.Walking.{found_within, open_goes, up_to_close, container_noted}
 
 -- a blank at the front of octets
 pub passed_of : (piece front : List ℕ) (n k : ℕ) → front ≡ take k piece → n ≤ k → IsPassed front n → IsPassed piece n
@@ -177,29 +178,32 @@ module _ (g : Catalog) (l : Limits) (start : ℕ) (c : List Slot) (ss : Symbols)
       (inl refl))
 
   -- a container opens
-  abbrev opening : Rest → Mark → Reading
-  opening rest m = at (begin rest.used) c (opened m ss ∷ []) [] (first_now m)
+  abbrev behind_open : Rest → Bracket → Reading
+  behind_open rest bracket = at (begin rest.used) c (opened bracket ss ∷ []) [] (first_now bracket)
 
-  top_open : (rest : Rest) (octets : List ℕ) (m : Mark) → 0 < l.depth → 1 < length octets → OpensAt octets m
+  top_open : (rest : Rest) (octets : List ℕ) (bracket : Bracket) → 0 < l.depth → 1 < length octets → OpensAt octets bracket
       → rest.used + length octets ≤ l.item + begin rest.used
       → Passes g l (rested rest start c [] ss nows.Ready) octets 1
-      (rested (past_token places.Top rest (kinds.Mark m) 1) (begin rest.used) c (opened m ss ∷ []) [] (first_now m))
-  top_open rest octets m deep more opens room = by (is_open_left m) (open_found m places.Top rest octets opens more refl)
+      (rested (past_token places.Top rest (kinds.Mark (open_mark bracket)) 1) (begin rest.used) c (opened bracket ss ∷ []) [] (first_now bracket))
+  top_open rest octets bracket deep more opens room = by (is_open_left bracket) (open_found bracket places.Top rest octets opens more refl)
     where
-      turns : turn g l on_top (token_of (lexeme_at rest (kinds.Mark m) [] 1) (Mark' m)) ≡ goes (opening rest m)
-      turns = open_turns (under g l) (spot_at (rest.used + 1) (begin rest.used) c) [] ss octets m opens deep
+      turns : turn g l on_top (token_of (lexeme_at rest (kinds.Mark (open_mark bracket)) [] 1) (Mark' (open_mark bracket))) ≡ goes (behind_open rest bracket)
+      turns = open_goes (under g l) (spot_at (rest.used + 1) (begin rest.used) c) [] ss bracket deep
 
-      by : (b : Bool) → IsFound places.Top rest octets (kinds.Mark m) [] 1 b
+      by : (b : Bool) → IsFound places.Top rest octets (kinds.Mark (open_mark bracket)) [] 1 b
           → Passes g l (rested rest start c [] ss nows.Ready) octets 1
-          (rested (past_token places.Top rest (kinds.Mark m) 1) (begin rest.used) c (opened m ss ∷ []) [] (first_now m))
-      by true f = left_found g l on_top refl rest octets (kinds.Mark m) [] 1 (Mark' m) (opening rest m) (mark_says m) turns f
+          (rested (past_token places.Top rest (kinds.Mark (open_mark bracket)) 1) (begin rest.used) c (opened bracket ss ∷ []) [] (first_now bracket))
+      by true f = left_found g l on_top refl rest octets (kinds.Mark (open_mark bracket)) [] 1 (Mark' (open_mark bracket)) (behind_open rest bracket)
+          (mark_says (open_mark bracket)) turns f
           (top_quiet rest octets 1 (omega arith) (omega arith))
-      by false f = given_found g l on_top refl rest octets (kinds.Mark m) [] 1 (Mark' m) (opening rest m) (mark_says m) turns f tt (l.item + begin rest.used)
-          (inner_notices l (opening rest m) refl) room
+      by false f = given_found g l on_top refl rest octets (kinds.Mark (open_mark bracket)) [] 1 (Mark' (open_mark bracket)) (behind_open rest bracket)
+          (mark_says (open_mark bracket)) turns f tt (l.item + begin rest.used)
+          (inner_notices l (behind_open rest bracket) refl) room
 
   -- and its close gives the value
-  module _ (level : ℕ) (octets : List ℕ) (count : ℕ) (before after : Tally) (m : Mark) (w : WalkedContainer places.Top m level octets count before after)
-      (more : 1 < length octets) (opens : OpensAt octets m) (deep : level ≤ l.depth)
+  module _ (level : ℕ) (octets : List ℕ) (count : ℕ) (before after : Tally) (bracket : Bracket)
+      (w : WalkedContainer places.Top bracket level octets count before after)
+      (more : 1 < length octets) (opens : OpensAt octets bracket) (deep : level ≤ l.depth)
       (room : before.rest.used + length octets ≤ l.item + begin before.rest.used) (free : is_table (annotated ss w.inside.payload) ≡ false) where
     abbrev v : Value
     v = annotated ss w.inside.payload
@@ -208,7 +212,8 @@ module _ (g : Catalog) (l : Limits) (start : ℕ) (c : List Slot) (ss : Symbols)
     first = rested before.rest start c [] ss nows.Ready
 
     abbrev mid : State
-    mid = rested (past_token places.Top before.rest (kinds.Mark m) 1) (begin before.rest.used) c (opened m ss ∷ []) [] (first_now m)
+    mid = rested (past_token places.Top before.rest (kinds.Mark (open_mark bracket)) 1) (begin before.rest.used) c (opened bracket ss ∷ []) []
+        (first_now bracket)
 
     abbrev inner : Reading
     inner = at (begin before.rest.used) c (w.inside.whole ss ∷ []) [] w.inside.now
@@ -217,7 +222,7 @@ module _ (g : Catalog) (l : Limits) (start : ℕ) (c : List Slot) (ss : Symbols)
     last = with_scan (resting w.last.rest) inner
 
     abbrev close : Mark
-    close = close_of m
+    close = close_mark bracket
 
     abbrev at_close : List ℕ
     at_close = drop (1 + w.behind) octets
@@ -237,8 +242,8 @@ module _ (g : Catalog) (l : Limits) (start : ℕ) (c : List Slot) (ss : Symbols)
     up_to : Passes g l first octets (1 + w.behind) last
     up_to =
         let some = w.some in
-        passes_on g l first mid last octets 1 w.behind (top_open before.rest octets m (omega arith) more opens room)
-        (up_to_close places.Top m level octets count before after w more opens g l (begin before.rest.used) c ss [] (omega arith) room)
+        passes_on g l first mid last octets 1 w.behind (top_open before.rest octets bracket (omega arith) more opens room)
+        (up_to_close places.Top bracket level octets count before after w more opens g l (begin before.rest.used) c ss [] (omega arith) room)
 
     close_gives : run g l w.last.rest.used last (take 1 at_close)
         ≡ record {
@@ -250,10 +255,10 @@ module _ (g : Catalog) (l : Limits) (start : ℕ) (c : List Slot) (ss : Symbols)
         let used = last_used in
         let fits = behind_is in
         let size = close_size in
-        let shut = closing g l w.last.rest.used (w.last.rest.used + 1) (begin before.rest.used) c close (w.inside.whole ss ∷ []) w.inside.now
+        let shut = closing g l w.last.rest.used (w.last.rest.used + 1) (begin before.rest.used) c bracket (w.inside.whole ss ∷ []) w.inside.now
         (w.inside.closes ss []) in
         token_gives g l inner (still_settles g l inner shut.1) w.last.rest at_close (kinds.Mark close) [] 1 (Mark' close) v (fresh c)
-        (close_found close (w.inside.whole ss ∷ []) w.inside.now w.last.rest at_close (w.inside.closes ss []) (omega arith)
+        (close_found bracket (w.inside.whole ss ∷ []) w.inside.now w.last.rest at_close (w.inside.closes ss []) (omega arith)
         (ap (λ w. get_or w 0 0) at_close_is ∙ (at_drop w.behind (drop 1 octets) ∙ w.inside.close))) tt (mark_says close)
         (shut.0 ∙ (w.inside.closed (under g l) (spot_at (w.last.rest.used + 1) (begin before.rest.used) c) ss []
         ∙ top_ended g l (w.last.rest.used + 1) (begin before.rest.used) c v free (omega arith)))
@@ -474,10 +479,10 @@ item_annotated p level octets rest a b before mid after is w x =
 
 -- values behind them
 
-unfoldable pub walked_bare : (level : ℕ) (octets : List ℕ) (count : ℕ) (before after : Tally) (m : Mark)
-    → WalkedContainer places.Top m level octets count before after → 1 < length octets → OpensAt octets m → before.level ≤ level
+unfoldable pub walked_bare : (level : ℕ) (octets : List ℕ) (count : ℕ) (before after : Tally) (bracket : Bracket)
+    → WalkedContainer places.Top bracket level octets count before after → 1 < length octets → OpensAt octets bracket → before.level ≤ level
     → WalkedBare level octets count before after
-walked_bare level octets count before after m w more opens low =
+walked_bare level octets count before after bracket w more opens low =
     let inside = w.inside.within in
     let total = w.total in
     let long : length (drop 1 octets) ≡ length octets - 1 = length-drop 1 octets in
@@ -489,7 +494,7 @@ walked_bare level octets count before after m w more opens low =
     let used = w.inside.used in
     record {
       payload = w.inside.payload;
-      gives = λ g l start c ss deep room free. container_gives g l start c ss level octets count before after m w more opens deep room free;
+      gives = λ g l start c ss deep room free. container_gives g l start c ss level octets count before after bracket w more opens deep room free;
       some = omega arith;
       within = omega arith;
       used = omega arith;

@@ -3,8 +3,8 @@ use Rattle.std.proofs.Common.{◌≡◌, ℕ, ◌+◌, ◌-◌, ◌<◌, ◌≤�
 use Rattle.ion_model.specs.declared.value.Field.{Field}
 use Rattle.ion_model.specs.declared.value.Value.{Value}
 use Rattle.ion_model.specs.declared.value.Payload.{Payload}
-use Rattle.ion_tokens.specs.declared.mode.Mark.{Mark}
-use Rattle.ion_tokens.specs.declared.mode.Mark.TheVariants as marks
+use Rattle.ion_visiting.specs.declared.bracket.Bracket.{Bracket}
+use Rattle.ion_visiting.specs.declared.bracket.Bracket.TheVariants as brackets
 use Rattle.ion_tokens.specs.declared.mode.Place.{Place}
 use Rattle.ion_tokens.specs.declared.mode.Place.TheVariants as places
 use Rattle.ion_tokens.specs.declared.plain_tokens.Rest.{Rest}
@@ -14,10 +14,9 @@ use Rattle.ion_text.specs.declared.reader.finders.Scalar.{Scalar}
 use Rattle.ion_text.specs.declared.reader.walks.Tally.{Tally}
 use Rattle.ion_text.specs.machine.Nested.{OpensAt}
 use Rattle.ion_text.specs.machine.Walked.{behind_open, behind_close, Walked, WalkedName, WalkedNote, WalkedBare}
-use Rattle.ion_text.specs.visiting.Parts.{bracket_of}
 use Rattle.ion_text.specs.visiting.Walks.{FoundPart, VisitedValue, VisitedItem, VisitedContainer, VisitedInside, VisitedName, VisitedNotes, VisitedBare, VisitedTop}
 use Rattle.ion_text.proofs.Tops.{item_annotated, notes_none, notes_on, walked_bare, walked_top}
-use Rattle.ion_text.proofs.Walking.{ListGone, SexpGone, FieldsGone, item_bare, walked_container, list_inside, sexp_inside, fields_inside}
+use Rattle.ion_text.proofs.Walking.{ListGone, SexpGone, FieldsGone, item_bare, walked_container, list_inside, sexp_inside, fields_inside, inside_by}
 
 module _ {S M : Type 0} (h : Visits S M) where
   -- a value of one token
@@ -56,39 +55,42 @@ module _ {S M : Type 0} (h : Visits S M) where
       (w.0, subst (λ x. h.takes a (annotation x) b) (sym w.1) t)
 
   -- containers
-  pub container_visited : (p : Place) (m : Mark) (level : ℕ) (octets rest : List ℕ) (behind : ℕ) (before first last after : Tally) (k : M) (a x y b : S)
-      → 0 < level → rest ≡ drop 1 octets → VisitedInside h m (level - 1) rest behind first last x y
-      → first ≡ behind_open p m level before → after ≡ behind_close p m last → h.opens a (bracket_of m) k x → h.closes y (bracket_of m) k b
-      → VisitedContainer h p m level octets (behind + 2) before after a b
-  container_visited p m level octets rest behind before first last after k a x y b some is w opens shuts o c =
-      let inside : VisitedInside h m (level - 1) (drop 1 octets) behind first last x y =
-      subst (λ w. VisitedInside h m (level - 1) w behind first last x y) is w in
+  pub container_visited : (p : Place) (bracket : Bracket) (level : ℕ) (octets rest : List ℕ) (behind : ℕ) (before first last after : Tally) (k : M)
+      (a x y b : S)
+      → 0 < level → rest ≡ drop 1 octets → VisitedInside h bracket (level - 1) rest behind first last x y
+      → first ≡ behind_open p bracket level before → after ≡ behind_close p bracket last → h.opens a bracket k x → h.closes y bracket k b
+      → VisitedContainer h p bracket level octets (behind + 2) before after a b
+  container_visited p bracket level octets rest behind before first last after k a x y b some is w opens shuts o c =
+      let inside : VisitedInside h bracket (level - 1) (drop 1 octets) behind first last x y =
+      subst (λ w. VisitedInside h bracket (level - 1) w behind first last x y) is w in
       record {
         walked = record { some = some; first = first; last = last; behind = behind; inside = inside.walked; opens = opens; shuts = shuts; total = refl };
         visited = inside.visited k a b o c;
       }
 
-  pub containers_visited : (p : Place) (m : Mark) (level : ℕ) (octets : List ℕ) (before after : Tally) (a b : S) (r : Option ℕ)
-      → IfSome r (λ n. VisitedContainer h p m level octets n before after a b) → 1 < length octets → OpensAt octets m → is_name p ≡ false → before.level ≤ level
+  pub containers_visited : (p : Place) (bracket : Bracket) (level : ℕ) (octets : List ℕ) (before after : Tally) (a b : S) (r : Option ℕ)
+      → IfSome r (λ n. VisitedContainer h p bracket level octets n before after a b) → 1 < length octets → OpensAt octets bracket → is_name p ≡ false
+      → before.level ≤ level
       → IfSome r (λ n. VisitedValue h p level octets n before after a b)
   unfolding walked_container
-  containers_visited p m level octets before after a b None w more opens value low = w
-  containers_visited p m level octets before after a b (Some n) w more opens value low =
-      record { walked = walked_container p m level octets n before after w.walked more opens value low; visited = w.visited }
+  containers_visited p bracket level octets before after a b None w more opens value low = w
+  containers_visited p bracket level octets before after a b (Some n) w more opens value low =
+      record { walked = walked_container p bracket level octets n before after w.walked more opens value low; visited = w.visited }
 
-  pub bares_visited : (level : ℕ) (octets : List ℕ) (before after : Tally) (a b : S) (m : Mark) (r : Option ℕ)
-      → IfSome r (λ n. VisitedContainer h places.Top m level octets n before after a b) → 1 < length octets → OpensAt octets m → before.level ≤ level
+  pub bares_visited : (level : ℕ) (octets : List ℕ) (before after : Tally) (a b : S) (bracket : Bracket) (r : Option ℕ)
+      → IfSome r (λ n. VisitedContainer h places.Top bracket level octets n before after a b) → 1 < length octets → OpensAt octets bracket
+      → before.level ≤ level
       → IfSome r (λ n. VisitedBare h level octets n before after a b)
   unfolding walked_bare
-  bares_visited level octets before after a b m None w more opens low = w
-  bares_visited level octets before after a b m (Some n) w more opens low =
-      record { walked = walked_bare level octets n before after m w.walked more opens low; visited = w.visited }
+  bares_visited level octets before after a b bracket None w more opens low = w
+  bares_visited level octets before after a b bracket (Some n) w more opens low =
+      record { walked = walked_bare level octets n before after bracket w.walked more opens low; visited = w.visited }
 
   -- up to the close
   module _ (level : ℕ) (octets rest : List ℕ) (at : ℕ) (before now : Tally) (is : rest ≡ drop at octets) (some : 0 < length rest) (a b : S) where
     pub list_visited : (vs : List Value) (behind : Bool) → ListGone level octets at before now vs behind → get_or rest 0 0 ≡ 93 → VisitedItems h vs a b
-        → VisitedInside h marks.ListOpen level octets at before now a b
-    unfolding list_inside
+        → VisitedInside h brackets.List level octets at before now a b
+    unfolding list_inside inside_by
     list_visited vs behind x e v = record {
       walked = list_inside level octets rest at before now is some vs behind x e;
       visited =
@@ -96,13 +98,13 @@ module _ {S M : Type 0} (h : Visits S M) where
     }
 
     pub sexp_visited : (vs : List Value) → SexpGone level octets at before now vs → get_or rest 0 0 ≡ 41 → VisitedItems h vs a b
-        → VisitedInside h marks.SexpOpen level octets at before now a b
-    unfolding sexp_inside
+        → VisitedInside h brackets.Sexp level octets at before now a b
+    unfolding sexp_inside inside_by
     sexp_visited vs x e v = record { walked = sexp_inside level octets rest at before now is some vs x e; visited = λ k x y o c. in_sexp vs k x a b y o v c }
 
     pub fields_visited : (ms : List Field) (behind : Bool) → FieldsGone level octets at before now ms behind → get_or rest 0 0 ≡ 125 → VisitedFields h ms a b
-        → VisitedInside h marks.FieldsOpen level octets at before now a b
-    unfolding fields_inside
+        → VisitedInside h brackets.Fields level octets at before now a b
+    unfolding fields_inside inside_by
     fields_visited ms behind x e v = record {
       walked = fields_inside level octets rest at before now is some ms behind x e;
       visited =

@@ -8,7 +8,7 @@ use Rattle.ion_model.specs.declared.value.Field.{Field}
 use Rattle.ion_model.specs.declared.value.Value.{Value}
 use Rattle.ion_model.specs.declared.value.Payload.TheVariants as payloads
 use Rattle.ion_model.specs.declared.value.Payload.TheViews as views
-use Rattle.ion_model.specs.Kinds.{layer_kind}
+use Rattle.ion_model.specs.Kinds.{kind_of, layer_kind}
 use Rattle.ion_model.specs.Measures.{depth, nodes, bare, annotated, field_of}
 use Rattle.ion_model.specs.laws.Measures.{deepest-more, nodes-more, nodes-bare}
 use Rattle.ion_symtab.specs.declared.limits.Limits.{Limits}
@@ -17,8 +17,9 @@ use Rattle.ion_symtab.specs.Slots.{Slot}
 use Rattle.ion_tokens.specs.declared.token_reader.FoundToken.{FoundToken}
 use Rattle.ion_tokens.specs.declared.mode.Place.{Place}
 use Rattle.ion_tokens.specs.declared.mode.Place.TheVariants as places
-use Rattle.ion_tokens.specs.declared.mode.Mark.{Mark}
 use Rattle.ion_tokens.specs.declared.mode.Mark.TheVariants as marks
+use Rattle.ion_visiting.specs.declared.bracket.Bracket.{Bracket}
+use Rattle.ion_visiting.specs.declared.bracket.Bracket.TheVariants as brackets
 use Rattle.ion_tokens.specs.declared.mode.TokenKind.{TokenKind}
 use Rattle.ion_tokens.specs.declared.mode.TokenKind.TheVariants as kinds
 use Rattle.ion_tokens.specs.declared.plain_tokens.Rest.{Rest}
@@ -31,22 +32,26 @@ use Rattle.ion_text.specs.declared.reader.finders.Scalar.{Scalar}
 use Rattle.ion_text.specs.declared.reader.walks.Tally.{Tally}
 use Rattle.ion_text.specs.declared.state.Frame.{Frame}
 use Rattle.ion_text.specs.declared.state.Frame.TheVariants as frames
+use Rattle.ion_text.specs.declared.state.Listing.{Listing}
+use Rattle.ion_text.specs.declared.state.Listing.TheVariants as listings
 use Rattle.ion_text.specs.declared.state.Now.{Now}
 use Rattle.ion_text.specs.declared.state.Now.TheVariants as nows
 use Rattle.ion_text.specs.machine.FrontTokens.{ends_symbol, held_of}
 use Rattle.ion_text.specs.laws.reading.complete.Complete.{depths, field_depths, depth-list, depth-sexp, depth-struct, field_deepest-more}
-use Rattle.ion_text.specs.machine.EachToken.{Setting, Spot, under, spot_at, Reading, Turn, Symbols, goes, at, place, place_in, turn, on_ready, ended}
+use Rattle.ion_text.specs.machine.EachToken.{Setting, Spot, under, spot_at, Reading, Symbols, goes, at, place, place_in, item_place, behind_item, turn, on_ready, ended, opened, first_now, beyond_depth, closed}
 use Rattle.ion_text.specs.machine.Run.{is_top, with_scan, token_of}
 use Rattle.ion_text.specs.machine.Pieces.{Quiet}
-use Rattle.ion_text.specs.machine.Nested.{OpensAt, closes}
+use Rattle.ion_text.specs.machine.Nested.{bracket_in, open_mark, close_mark, OpensAt, closes, close_octet}
 use Rattle.ion_text.specs.machine.Views.{IsCalm}
 use Rattle.ion_text.specs.machine.AtOnce.{Passes, IsStill}
-use Rattle.ion_text.specs.machine.Walked.{behind_key, EndsAtOnce, IsValue, most, FoundScalar, FoundName, rested, Leads, LeadsBehind, Noted, Walked, WalkedItem, WalkedContainer, WalkedInside, WalkedName, close_of, opened, first_now}
+use Rattle.ion_text.specs.machine.Walked.{behind_key, EndsAtOnce, IsValue, most, FoundScalar, FoundName, rested, Leads, LeadsBehind, Noted, Walked, WalkedItem, WalkedContainer, WalkedInside, WalkedName, kind_in}
+use Rattle.ion_text.specs.laws.reading.Brackets.{open_turns}
 use Rattle.ion_text.proofs.Arms.{StaysIn, ready_turns, ended_stays, left_passes, given_passes, mark_says, at_drop, blank_used}
-use Rattle.ion_text.proofs.Nested.{is_open_left, open_found, close_found, closing}
+use Rattle.ion_text.proofs.Nested.{is_open_left, open_found, opened_stays, close_found, closing}
 use Rattle.ion_text.proofs.Passing.{inner_notices, passes_none, passes_on, passes_blank, calm_quiet}
 use Rattle.ion_text.proofs.Striding.{still_settles}
 use Rattle.ion_text.proofs.Symbols.{held_in, symbol_passes, name_passes}
+use Rattle.ion_model.specs.declared.value.Payload.{Payload}
 
 -- a token where the scanner rests and a container is open
 module _ (g : Catalog) (l : Limits) (r : Reading) (inner : is_top r.frames ≡ false) (still : IsStill r.now) (rest : Rest) (octets : List ℕ) (kind : TokenKind)
@@ -191,10 +196,11 @@ module _ (rest : Rest) (octets : List ℕ) (token : FoundToken) (f : FoundName r
 -- commas
 
 pub list_comma : (level : ℕ) (r : Rest) (octets : List ℕ) (vs : List Value) → 0 < length octets → get_or octets 0 0 ≡ 44
-    → Leads level r octets 1 (past_token places.List r (kinds.Mark marks.Comma) 1) (λ ss. frames.List ss vs) nows.After (λ ss. frames.List ss vs) nows.Ready
+    → Leads level r octets 1 (past_token places.List r (kinds.Mark marks.Comma) 1) (λ ss. frames.Items listings.List ss vs) nows.After
+    (λ ss. frames.Items listings.List ss vs) nows.Ready
 list_comma level r octets vs some first = λ g l start c ss fs deep room.
-    token_passes g l (at start c (frames.List ss vs ∷ fs) [] nows.After) refl tt r octets (kinds.Mark marks.Comma) [] 1 (Mark' marks.Comma)
-    (at start c (frames.List ss vs ∷ fs) [] nows.Ready) (mark_says marks.Comma) refl room (refl, refl, tt)
+    token_passes g l (at start c (frames.Items listings.List ss vs ∷ fs) [] nows.After) refl tt r octets (kinds.Mark marks.Comma) [] 1 (Mark' marks.Comma)
+    (at start c (frames.Items listings.List ss vs ∷ fs) [] nows.Ready) (mark_says marks.Comma) refl room (refl, refl, tt)
     false (comma_found places.List r octets some first) (inr refl)
 
 pub field_comma : (level : ℕ) (r : Rest) (octets : List ℕ) (ms : List Field) → 0 < length octets → get_or octets 0 0 ≡ 44
@@ -221,17 +227,12 @@ item_bare p level octets count before after w = record {
 }
 
 module _ (level : ℕ) (octets : List ℕ) (count : ℕ) (before after : Tally) where
-  pub list_value : (w : WalkedItem places.List level octets count before after) (vs : List Value)
-      → Leads level before.rest octets count after.rest (λ ss. frames.List ss vs) nows.Ready (λ ss. frames.List ss (vs ++ w.value ∷ [])) nows.After
-  list_value w vs = λ g l start c ss fs deep room.
-      w.leads g l start c (frames.List ss vs ∷ fs) (frames.List ss (vs ++ w.value ∷ []) ∷ fs) nows.After refl refl (omega arith) room
-      (λ setting spot. refl)
-
-  pub sexp_value : (w : WalkedItem places.Sexp level octets count before after) (vs : List Value)
-      → Leads level before.rest octets count after.rest (λ ss. frames.Sexp ss vs) nows.Ready (λ ss. frames.Sexp ss (vs ++ w.value ∷ [])) nows.Ready
-  sexp_value w vs = λ g l start c ss fs deep room.
-      w.leads g l start c (frames.Sexp ss vs ∷ fs) (frames.Sexp ss (vs ++ w.value ∷ []) ∷ fs) nows.Ready refl refl (omega arith) room
-      (λ setting spot. refl)
+  pub item_value : (listing : Listing) (w : WalkedItem (item_place listing) level octets count before after) (vs : List Value)
+      → Leads level before.rest octets count after.rest (λ ss. frames.Items listing ss vs) nows.Ready
+      (λ ss. frames.Items listing ss (vs ++ w.value ∷ [])) (behind_item listing)
+  item_value listing w vs = λ g l start c ss fs deep room.
+      w.leads g l start c (frames.Items listing ss vs ∷ fs) (frames.Items listing ss (vs ++ w.value ∷ []) ∷ fs) (behind_item listing) refl refl
+      (omega arith) room (λ setting spot. refl)
 
   pub field_value : (w : WalkedItem places.FieldValue level octets count before after) (ms : List Field) (name : Option (List ℕ))
       → Leads level before.rest octets count after.rest (λ ss. frames.Named ss ms name) nows.Ready
@@ -242,44 +243,22 @@ module _ (level : ℕ) (octets : List ℕ) (count : ℕ) (before after : Tally) 
 
 -- containers
 
-pub open_turns : (setting : Setting) (spot : Spot) (fs : List Frame) (ss : Symbols) (octets : List ℕ) (m : Mark) → OpensAt octets m
-    → length fs < setting.limits.depth
-    → on_ready setting spot fs ss (Mark' m) ≡ goes (at spot.start spot.context (opened m ss ∷ fs) [] (first_now m))
-open_turns setting spot fs ss octets m opens deep = by m opens
+pub open_goes : (setting : Setting) (spot : Spot) (fs : List Frame) (ss : Symbols) (x : Bracket) → length fs < setting.limits.depth
+    → on_ready setting spot fs ss (Mark' (open_mark x)) ≡ goes (at spot.start spot.context (opened x ss ∷ fs) [] (first_now x))
+open_goes setting spot fs ss x deep = open_turns x setting spot fs ss ∙ ap (λ b. if b then goes inside else beyond_depth x inside) admits
   where
+    inside : Reading
+    inside = at spot.start spot.context (opened x ss ∷ fs) [] (first_now x)
+
     admits : nat_lt (length fs) setting.limits.depth ≡ true
     admits = grind (arith, nat_tests)
 
-    deepens : (a : Reading) (t : Turn) → (if nat_lt (length fs) setting.limits.depth then goes a else t) ≡ goes a
-    deepens a t = ap (λ b. if b then goes a else t) admits
-
-    by : (m : Mark) → OpensAt octets m → on_ready setting spot fs ss (Mark' m) ≡ goes (at spot.start spot.context (opened m ss ∷ fs) [] (first_now m))
-    by marks.ListOpen h = deepens _ _
-    by marks.SexpOpen h = deepens _ _
-    by marks.FieldsOpen h = deepens _ _
-    by marks.ListClose h = absurd h
-    by marks.SexpClose h = absurd h
-    by marks.FieldsClose h = absurd h
-    by marks.Comma h = absurd h
-    by marks.Colon h = absurd h
-    by marks.Colons h = absurd h
-
-opened_stays : (start : ℕ) (c : List Slot) (fs : List Frame) (ss : Symbols) (m : Mark) → StaysIn start (at start c (opened m ss ∷ fs) [] (first_now m))
-opened_stays start c fs ss marks.ListOpen = (refl, refl, tt)
-opened_stays start c fs ss marks.SexpOpen = (refl, refl, tt)
-opened_stays start c fs ss marks.FieldsOpen = (refl, refl, tt)
-opened_stays start c fs ss marks.ListClose = (refl, refl, tt)
-opened_stays start c fs ss marks.SexpClose = (refl, refl, tt)
-opened_stays start c fs ss marks.FieldsClose = (refl, refl, tt)
-opened_stays start c fs ss marks.Comma = (refl, refl, tt)
-opened_stays start c fs ss marks.Colon = (refl, refl, tt)
-opened_stays start c fs ss marks.Colons = (refl, refl, tt)
-
 -- behind the open, and up to the close
-module _ (p : Place) (m : Mark) (level : ℕ) (octets : List ℕ) (count : ℕ) (before after : Tally) (w : WalkedContainer p m level octets count before after)
-    (more : 1 < length octets) (opens : OpensAt octets m) where
+module _ (p : Place) (bracket : Bracket) (level : ℕ) (octets : List ℕ) (count : ℕ) (before after : Tally)
+    (w : WalkedContainer p bracket level octets count before after)
+    (more : 1 < length octets) (opens : OpensAt octets bracket) where
   abbrev first : Rest
-  first = past_token p before.rest (kinds.Mark m) 1
+  first = past_token p before.rest (kinds.Mark (open_mark bracket)) 1
 
   pub first_is : w.first.rest ≡ first
   first_is = ap (λ (t : Tally). t.rest) w.opens
@@ -289,13 +268,13 @@ module _ (p : Place) (m : Mark) (level : ℕ) (octets : List ℕ) (count : ℕ) 
 
   pub up_to_close : (g : Catalog) (l : Limits) (start : ℕ) (c : List Slot) (ss : Symbols) (fs : List Frame) → length fs + level ≤ l.depth
       → before.rest.used + length octets ≤ l.item + start
-      → Passes g l (rested first start c (opened m ss ∷ fs) [] (first_now m)) (drop 1 octets) w.behind
+      → Passes g l (rested first start c (opened bracket ss ∷ fs) [] (first_now bracket)) (drop 1 octets) w.behind
       (rested w.last.rest start c (w.inside.whole ss ∷ fs) [] w.inside.now)
   up_to_close g l start c ss fs deep room =
       let some = w.some in
       let long = size in
       let used : w.first.rest.used ≡ before.rest.used + 1 = ap (λ (r : Rest). r.used) first_is in
-      subst (λ r. Passes g l (rested r start c (opened m ss ∷ fs) [] (first_now m)) (drop 1 octets) w.behind
+      subst (λ r. Passes g l (rested r start c (opened bracket ss ∷ fs) [] (first_now bracket)) (drop 1 octets) w.behind
       (rested w.last.rest start c (w.inside.whole ss ∷ fs) [] w.inside.now)) first_is
       (w.inside.leads g l start c ss fs (omega arith) (omega arith))
 
@@ -309,22 +288,23 @@ module _ (p : Place) (m : Mark) (level : ℕ) (octets : List ℕ) (count : ℕ) 
       let behind = drop w.behind (drop 1 octets) in
       let left : length behind ≡ length (drop 1 octets) - w.behind = length-drop w.behind (drop 1 octets) in
       let r = at start c fs ss nows.Ready in
-      let q = at start c (opened m ss ∷ fs) [] (first_now m) in
+      let q = at start c (opened bracket ss ∷ fs) [] (first_now bracket) in
       let k = at start c (w.inside.whole ss ∷ fs) [] w.inside.now in
       let e = at start c those [] n in
-      let close = close_of m in
-      let shut = closing g l w.last.rest.used (w.last.rest.used + 1) start c close (w.inside.whole ss ∷ fs) w.inside.now (w.inside.closes ss fs) in
+      let close = close_mark bracket in
+      let shut = closing g l w.last.rest.used (w.last.rest.used + 1) start c bracket (w.inside.whole ss ∷ fs) w.inside.now (w.inside.closes ss fs) in
       let does : ended (under g l) (spot_at (w.last.rest.used + 1) start c) fs (annotated ss w.inside.payload) ≡ goes e =
       puts (under g l) (spot_at (w.last.rest.used + 1) start c) in
-      let found = close_found close (w.inside.whole ss ∷ fs) w.inside.now w.last.rest behind (w.inside.closes ss fs) (omega arith)
+      let found = close_found bracket (w.inside.whole ss ∷ fs) w.inside.now w.last.rest behind (w.inside.closes ss fs) (omega arith)
       (at_drop w.behind (drop 1 octets) ∙ w.inside.close) in
-      let one : Passes g l (rested before.rest start c fs ss nows.Ready) octets 1 (rested first start c (opened m ss ∷ fs) [] (first_now m)) =
+      let one : Passes g l (rested before.rest start c fs ss nows.Ready) octets 1 (rested first start c (opened bracket ss ∷ fs) [] (first_now bracket)) =
       subst (λ p. Passes g l (rested before.rest start c fs ss nows.Ready) octets 1
-      (rested (past_token p before.rest (kinds.Mark m) 1) start c (opened m ss ∷ fs) [] (first_now m))) here
-      (token_passes g l r inner tt before.rest octets (kinds.Mark m) [] 1 (Mark' m) q (mark_says m)
-      (ready_turns g l r (lexeme_at before.rest (kinds.Mark m) [] 1) (Mark' m) refl inner
-      ∙ open_turns (under g l) (spot_at (before.rest.used + 1) start c) fs ss octets m opens (omega arith)) room
-      (opened_stays start c fs ss m) (is_open_left m) (open_found m (place_in fs nows.Ready) before.rest octets opens more (ap is_name here ∙ value))
+      (rested (past_token p before.rest (kinds.Mark (open_mark bracket)) 1) start c (opened bracket ss ∷ fs) [] (first_now bracket))) here
+      (token_passes g l r inner tt before.rest octets (kinds.Mark (open_mark bracket)) [] 1 (Mark' (open_mark bracket)) q (mark_says (open_mark bracket))
+      (ready_turns g l r (lexeme_at before.rest (kinds.Mark (open_mark bracket)) [] 1) (Mark' (open_mark bracket)) refl inner
+      ∙ open_goes (under g l) (spot_at (before.rest.used + 1) start c) fs ss bracket (omega arith)) room
+      (opened_stays start c fs ss bracket) (is_open_left bracket) (open_found bracket (place_in fs nows.Ready) before.rest octets opens more
+      (ap is_name here ∙ value))
       (inl tt)) in
       let last : Passes g l (rested w.last.rest start c (w.inside.whole ss ∷ fs) [] w.inside.now) behind 1
       (rested (past_token (place k) w.last.rest (kinds.Mark close) 1) start c those [] n) =
@@ -335,9 +315,10 @@ module _ (p : Place) (m : Mark) (level : ℕ) (octets : List ℕ) (count : ℕ) 
       let total : 1 + (w.behind + 1) ≡ count = let t = w.total in omega arith in
       subst (λ j. Passes g l (rested before.rest start c fs ss nows.Ready) octets j (rested after.rest start c those [] n)) total
       (subst (λ x. Passes g l (rested before.rest start c fs ss nows.Ready) octets (1 + (w.behind + 1)) (rested x start c those [] n)) (sym there)
-      (passes_on g l (rested before.rest start c fs ss nows.Ready) (rested first start c (opened m ss ∷ fs) [] (first_now m))
+      (passes_on g l (rested before.rest start c fs ss nows.Ready) (rested first start c (opened bracket ss ∷ fs) [] (first_now bracket))
       (rested (past_token (place k) w.last.rest (kinds.Mark close) 1) start c those [] n) octets 1 (w.behind + 1) one
-      (passes_on g l (rested first start c (opened m ss ∷ fs) [] (first_now m)) (rested w.last.rest start c (w.inside.whole ss ∷ fs) [] w.inside.now)
+      (passes_on g l (rested first start c (opened bracket ss ∷ fs) [] (first_now bracket))
+      (rested w.last.rest start c (w.inside.whole ss ∷ fs) [] w.inside.now)
       (rested (past_token (place k) w.last.rest (kinds.Mark close) 1) start c those [] n) (drop 1 octets) w.behind 1
       (up_to_close g l start c ss fs deep room) last)))
 
@@ -377,18 +358,19 @@ module _ (p : Place) (m : Mark) (level : ℕ) (octets : List ℕ) (count : ℕ) 
       }
 
 -- So many octets behind the open of a container were gone over: it stands so now, and what is in it is so deep and of so many nodes.
-pub record Gone (m : Mark) (level : ℕ) (octets : List ℕ) (at : ℕ) (before now : Tally) (h : Symbols → Frame) (n : Now) (deepest many : ℕ) : Type 0 where
-  pub leads : Leads level before.rest octets at now.rest (opened m) (first_now m) h n
+pub record Gone (bracket : Bracket) (level : ℕ) (octets : List ℕ) (at : ℕ) (before now : Tally) (h : Symbols → Frame) (n : Now)
+    (deepest many : ℕ) : Type 0 where
+  pub leads : Leads level before.rest octets at now.rest (opened bracket) (first_now bracket) h n
   pub within : at ≤ length octets
   pub used : now.rest.used ≡ before.rest.used + at
   pub few : deepest ≤ level
   pub left : now.level ≡ min before.level (level - deepest)
   pub counted : min now.nodes most ≡ min (before.nodes + many) most
 
-pub gone_none : (m : Mark) (level : ℕ) (octets : List ℕ) (before : Tally) → before.level ≤ level
-    → Gone m level octets 0 before before (opened m) (first_now m) 0 0
-gone_none m level octets before low = record {
-  leads = λ g l start c ss fs deep room. passes_none g l (rested before.rest start c (opened m ss ∷ fs) [] (first_now m)) octets;
+pub gone_none : (bracket : Bracket) (level : ℕ) (octets : List ℕ) (before : Tally) → before.level ≤ level
+    → Gone bracket level octets 0 before before (opened bracket) (first_now bracket) 0 0
+gone_none bracket level octets before low = record {
+  leads = λ g l start c ss fs deep room. passes_none g l (rested before.rest start c (opened bracket ss ∷ fs) [] (first_now bracket)) octets;
   within = omega arith;
   used = omega arith;
   few = omega arith;
@@ -396,8 +378,8 @@ gone_none m level octets before low = record {
   counted = omega arith;
 }
 
-module _ (m : Mark) (level : ℕ) (octets rest : List ℕ) (at : ℕ) (before now : Tally) (h : Symbols → Frame) (n : Now) (deepest many : ℕ)
-    (x : Gone m level octets at before now h n deepest many) (is : rest ≡ drop at octets) where
+module _ (bracket : Bracket) (level : ℕ) (octets rest : List ℕ) (at : ℕ) (before now : Tally) (h : Symbols → Frame) (n : Now) (deepest many : ℕ)
+    (x : Gone bracket level octets at before now h n deepest many) (is : rest ≡ drop at octets) where
   pub gone_length : length rest ≡ length octets - at
   gone_length = ap (λ (w : List ℕ). length w) is ∙ length-drop at octets
 
@@ -409,7 +391,7 @@ module _ (m : Mark) (level : ℕ) (octets rest : List ℕ) (at : ℕ) (before no
 
   pub gone_on : (next : Tally) (k : Symbols → Frame) (o : Now) (j deeper more d e : ℕ) → Leads level now.rest rest j next.rest h n k o → j ≤ length rest
       → next.rest.used ≡ now.rest.used + j → deeper ≤ level → next.level ≡ min now.level (level - deeper)
-      → min next.nodes most ≡ min (now.nodes + more) most → d ≡ max deepest deeper → e ≡ many + more → Gone m level octets (at + j) before next k o d e
+      → min next.nodes most ≡ min (now.nodes + more) most → d ≡ max deepest deeper → e ≡ many + more → Gone bracket level octets (at + j) before next k o d e
   gone_on next k o j deeper more d e leads within used few left counted ed ee =
       let size = gone_length in
       let a = x.within in
@@ -419,7 +401,7 @@ module _ (m : Mark) (level : ℕ) (octets rest : List ℕ) (at : ℕ) (before no
       let y = x.counted in
       record {
         leads =
-            leads_on level before.rest now.rest next.rest octets at j (opened m) h k (first_now m) n o a b x.leads
+            leads_on level before.rest now.rest next.rest octets at j (opened bracket) h k (first_now bracket) n o a b x.leads
             (subst (λ w. Leads level now.rest w j next.rest h n k o) is leads);
         within = omega arith;
         used = omega arith;
@@ -431,7 +413,7 @@ module _ (m : Mark) (level : ℕ) (octets rest : List ℕ) (at : ℕ) (before no
   -- over a blank
   pub gone_blank : (next : Tally) (j : ℕ) → IsPassed rest j → j ≤ length rest → IsStill n
       → next ≡ record { kind = now.kind; level = now.level; nodes = now.nodes; rest = past_blank now.rest j }
-      → Gone m level octets (at + j) before next h n deepest many
+      → Gone bracket level octets (at + j) before next h n deepest many
   gone_blank next j passed within still e =
       let low = gone_low in
       let used = blank_used now.rest j in
@@ -456,26 +438,30 @@ pub field_still : (b : Bool) → IsStill (field_now b)
 field_still true = tt
 field_still false = tt
 
-pub element_closes : (b : Bool) (ss : Symbols) (vs : List Value) (fs : List Frame) → closes marks.ListClose (frames.List ss vs ∷ fs) (element_now b) ≡ true
+pub element_closes : (b : Bool) (ss : Symbols) (vs : List Value) (fs : List Frame) → closes brackets.List (frames.Items listings.List ss vs ∷ fs)
+    (element_now b) ≡ true
 element_closes true ss vs fs = refl
 element_closes false ss vs fs = refl
 
-pub field_closes : (b : Bool) (ss : Symbols) (ms : List Field) (fs : List Frame) → closes marks.FieldsClose (frames.Fields ss ms ∷ fs) (field_now b) ≡ true
+pub field_closes : (b : Bool) (ss : Symbols) (ms : List Field) (fs : List Frame) → closes brackets.Fields (frames.Fields ss ms ∷ fs) (field_now b) ≡ true
 field_closes true ss ms fs = refl
 field_closes false ss ms fs = refl
 
 abbrev pub field_nodes : Field → ℕ
 field_nodes m = suc (nodes m.value)
 
-abbrev pub ListGone : ℕ → List ℕ → ℕ → Tally → Tally → List Value → Bool → Type 0
-ListGone level octets at before now vs b = Gone marks.ListOpen level octets at before now (λ ss. frames.List ss vs) (element_now b) (depths vs)
+abbrev pub ItemsGone : Listing → ℕ → List ℕ → ℕ → Tally → Tally → List Value → Now → Type 0
+ItemsGone listing level octets at before now vs n = Gone (bracket_in listing) level octets at before now (λ ss. frames.Items listing ss vs) n (depths vs)
     (sum (map nodes vs))
 
+abbrev pub ListGone : ℕ → List ℕ → ℕ → Tally → Tally → List Value → Bool → Type 0
+ListGone level octets at before now vs b = ItemsGone listings.List level octets at before now vs (element_now b)
+
 abbrev pub SexpGone : ℕ → List ℕ → ℕ → Tally → Tally → List Value → Type 0
-SexpGone level octets at before now vs = Gone marks.SexpOpen level octets at before now (λ ss. frames.Sexp ss vs) nows.Ready (depths vs) (sum (map nodes vs))
+SexpGone level octets at before now vs = ItemsGone listings.Sexp level octets at before now vs nows.Ready
 
 abbrev pub FieldsGone : ℕ → List ℕ → ℕ → Tally → Tally → List Field → Bool → Type 0
-FieldsGone level octets at before now ms b = Gone marks.FieldsOpen level octets at before now (λ ss. frames.Fields ss ms) (field_now b) (field_depths ms)
+FieldsGone level octets at before now ms b = Gone brackets.Fields level octets at before now (λ ss. frames.Fields ss ms) (field_now b) (field_depths ms)
     (sum (map field_nodes ms))
 
 fields-more : (ms : List Field) (m : Field) → sum (map field_nodes (ms ++ m ∷ [])) ≡ sum (map field_nodes ms) + field_nodes m
@@ -488,37 +474,31 @@ fields-more ms m =
     omega arith
 
 module _ (level : ℕ) (octets rest : List ℕ) (at : ℕ) (before now next : Tally) (is : rest ≡ drop at octets) where
-  pub list_value_on : (vs : List Value) (x : ListGone level octets at before now vs false) (j : ℕ) (w : WalkedItem places.List level rest j now next)
-      → ListGone level octets (at + j) before next (vs ++ w.value ∷ []) true
-  list_value_on vs x j w =
-      gone_on marks.ListOpen level octets rest at before now (λ ss. frames.List ss vs) nows.Ready (depths vs) (sum (map nodes vs)) x is next
-      (λ ss. frames.List ss (vs ++ w.value ∷ [])) nows.After j (depth w.value) (nodes w.value) _ _
-      (list_value level rest j now next w vs) w.within w.used w.deep w.left w.counted (deepest-more vs w.value)
-      (nodes-more vs w.value)
-
-  pub sexp_value_on : (vs : List Value) (x : SexpGone level octets at before now vs) (j : ℕ) (w : WalkedItem places.Sexp level rest j now next)
-      → SexpGone level octets (at + j) before next (vs ++ w.value ∷ [])
-  sexp_value_on vs x j w =
-      gone_on marks.SexpOpen level octets rest at before now (λ ss. frames.Sexp ss vs) nows.Ready (depths vs) (sum (map nodes vs)) x is next
-      (λ ss. frames.Sexp ss (vs ++ w.value ∷ [])) nows.Ready j (depth w.value) (nodes w.value) _ _
-      (sexp_value level rest j now next w vs) w.within w.used w.deep w.left w.counted (deepest-more vs w.value)
+  pub item_value_on : (listing : Listing) (vs : List Value) (x : ItemsGone listing level octets at before now vs nows.Ready) (j : ℕ)
+      (w : WalkedItem (item_place listing) level rest j now next)
+      → ItemsGone listing level octets (at + j) before next (vs ++ w.value ∷ []) (behind_item listing)
+  item_value_on listing vs x j w =
+      gone_on (bracket_in listing) level octets rest at before now (λ ss. frames.Items listing ss vs) nows.Ready (depths vs) (sum (map nodes vs)) x is next
+      (λ ss. frames.Items listing ss (vs ++ w.value ∷ [])) (behind_item listing) j (depth w.value) (nodes w.value) _ _
+      (item_value level rest j now next listing w vs) w.within w.used w.deep w.left w.counted (deepest-more vs w.value)
       (nodes-more vs w.value)
 
   pub list_comma_on : (vs : List Value) (x : ListGone level octets at before now vs true) → 0 < length rest → get_or rest 0 0 ≡ 44
       → next ≡ record { kind = now.kind; level = now.level; nodes = now.nodes; rest = past_token places.List now.rest (kinds.Mark marks.Comma) 1 }
       → ListGone level octets (at + 1) before next vs false
   list_comma_on vs x some first e =
-      let low = gone_low marks.ListOpen level octets rest at before now (λ ss. frames.List ss vs) nows.After (depths vs) (sum (map nodes vs)) x is in
+      let low = gone_low brackets.List level octets rest at before now (λ ss. frames.Items listings.List ss vs) nows.After (depths vs) (sum (map nodes vs)) x
+      is in
       let mid : Tally = record { kind = now.kind; level = now.level; nodes = now.nodes; rest = past_token places.List now.rest (kinds.Mark marks.Comma) 1 } in
-      rw e (gone_on marks.ListOpen level octets rest at before now (λ ss. frames.List ss vs) nows.After (depths vs) (sum (map nodes vs)) x is mid
-      (λ ss. frames.List ss vs) nows.Ready 1 0 0 (depths vs) (sum (map nodes vs))
+      rw e (gone_on brackets.List level octets rest at before now (λ ss. frames.Items listings.List ss vs) nows.After (depths vs) (sum (map nodes vs)) x is mid
+      (λ ss. frames.Items listings.List ss vs) nows.Ready 1 0 0 (depths vs) (sum (map nodes vs))
       (list_comma level now.rest rest vs some first) (omega arith) refl (omega arith) (omega arith) (omega arith) (omega arith) (omega arith))
 
   pub field_comma_on : (ms : List Field) (x : FieldsGone level octets at before now ms true) → 0 < length rest → get_or rest 0 0 ≡ 44
       → next ≡ record { kind = now.kind; level = now.level; nodes = now.nodes; rest = past_token places.FieldValue now.rest (kinds.Mark marks.Comma) 1 }
       → FieldsGone level octets (at + 1) before next ms false
   field_comma_on ms x some first e =
-      let low = gone_low marks.FieldsOpen level octets rest at before now (λ ss. frames.Fields ss ms) nows.After (field_depths ms) (sum (map field_nodes ms)) x
+      let low = gone_low brackets.Fields level octets rest at before now (λ ss. frames.Fields ss ms) nows.After (field_depths ms) (sum (map field_nodes ms)) x
       is in
       let mid : Tally = record {
         kind = now.kind;
@@ -527,29 +507,29 @@ module _ (level : ℕ) (octets rest : List ℕ) (at : ℕ) (before now next : Ta
         rest =
             past_token places.FieldValue now.rest (kinds.Mark marks.Comma) 1;
       } in
-      rw e (gone_on marks.FieldsOpen level octets rest at before now (λ ss. frames.Fields ss ms) nows.After (field_depths ms) (sum (map field_nodes ms)) x is
+      rw e (gone_on brackets.Fields level octets rest at before now (λ ss. frames.Fields ss ms) nows.After (field_depths ms) (sum (map field_nodes ms)) x is
       mid (λ ss. frames.Fields ss ms) nows.Name 1 0 0 (field_depths ms) (sum (map field_nodes ms))
       (field_comma level now.rest rest ms some first) (omega arith) refl (omega arith) (omega arith) (omega arith) (omega arith) (omega arith))
 
   -- a field's name
   pub name_on : (ms : List Field) (x : FieldsGone level octets at before now ms false) (j : ℕ) (w : WalkedName rest j now next)
-      → Gone marks.FieldsOpen level octets (at + j) before next (λ ss. frames.Named ss ms w.name) nows.Ready (field_depths ms) (sum (map field_nodes ms) + 1)
+      → Gone brackets.Fields level octets (at + j) before next (λ ss. frames.Named ss ms w.name) nows.Ready (field_depths ms) (sum (map field_nodes ms) + 1)
   name_on ms x j w =
-      let low = gone_low marks.FieldsOpen level octets rest at before now (λ ss. frames.Fields ss ms) nows.Name (field_depths ms) (sum (map field_nodes ms)) x
+      let low = gone_low brackets.Fields level octets rest at before now (λ ss. frames.Fields ss ms) nows.Name (field_depths ms) (sum (map field_nodes ms)) x
       is in
       let left = w.left in
-      gone_on marks.FieldsOpen level octets rest at before now (λ ss. frames.Fields ss ms) nows.Name (field_depths ms) (sum (map field_nodes ms)) x is next
+      gone_on brackets.Fields level octets rest at before now (λ ss. frames.Fields ss ms) nows.Name (field_depths ms) (sum (map field_nodes ms)) x is next
       (λ ss. frames.Named ss ms w.name) nows.Ready j 0 1 (field_depths ms) (sum (map field_nodes ms) + 1)
       (w.leads level ms) w.within w.used (omega arith) (omega arith) w.counted (omega arith) refl
 
   -- and its value
   pub field_value_on : (ms : List Field) (name : Option (List ℕ))
-      (x : Gone marks.FieldsOpen level octets at before now (λ ss. frames.Named ss ms name) nows.Ready (field_depths ms) (sum (map field_nodes ms) + 1)) (j : ℕ)
+      (x : Gone brackets.Fields level octets at before now (λ ss. frames.Named ss ms name) nows.Ready (field_depths ms) (sum (map field_nodes ms) + 1)) (j : ℕ)
       (w : WalkedItem places.FieldValue level rest j now next)
       → FieldsGone level octets (at + j) before next (ms ++ field_of name w.value ∷ []) true
   field_value_on ms name x j w =
       let more = fields-more ms (field_of name w.value) in
-      gone_on marks.FieldsOpen level octets rest at before now (λ ss. frames.Named ss ms name) nows.Ready (field_depths ms) (sum (map field_nodes ms) + 1) x is
+      gone_on brackets.Fields level octets rest at before now (λ ss. frames.Named ss ms name) nows.Ready (field_depths ms) (sum (map field_nodes ms) + 1) x is
       next (λ ss. frames.Fields ss (ms ++ field_of name w.value ∷ [])) nows.After j (depth w.value) (nodes w.value) _ _
       (field_value level rest j now next w ms name) w.within w.used w.deep w.left w.counted (field_deepest-more ms (field_of name w.value))
       (omega arith)
@@ -562,77 +542,54 @@ module _ (level : ℕ) (octets rest : List ℕ) (at : ℕ) (before now : Tally) 
   pub inside : at < length octets
   inside = let size : length rest ≡ length octets - at = ap (λ (w : List ℕ). length w) is ∙ length-drop at octets in omega arith
 
+  -- what has come of a container is this value with its close
+  unfoldable pub inside_by : (bracket : Bracket) (payload : Payload) (whole : Symbols → Frame) (n : Now) (deepest many : ℕ)
+      → Gone bracket level octets at before now whole n deepest many → depth (bare payload) ≡ suc deepest → nodes (bare payload) ≡ suc many
+      → kind_of (bare payload) ≡ kind_in bracket → ((ss : Symbols) (fs : List Frame) → closes bracket (whole ss ∷ fs) n ≡ true)
+      → ((setting : Setting) (spot : Spot) (ss : Symbols) (fs : List Frame)
+      → closed bracket setting spot (whole ss ∷ fs) ≡ ended setting spot fs (annotated ss payload)) → get_or rest 0 0 ≡ close_octet bracket
+      → WalkedInside bracket level octets at before now
+  inside_by bracket payload whole n deepest many x deep nodes_are kind may ends e =
+      let few = x.few in
+      let left = x.left in
+      let counted = x.counted in
+      record {
+        payload = payload;
+        whole = whole;
+        now = n;
+        leads = x.leads;
+        closes = may;
+        closed = ends;
+        within = inside;
+        close = closer (close_octet bracket) e;
+        used = x.used;
+        some = omega arith;
+        deep = omega arith;
+        kind = kind;
+        left = omega arith;
+        counted = omega arith;
+      }
+
   unfoldable pub list_inside : (vs : List Value) (b : Bool) → ListGone level octets at before now vs b → get_or rest 0 0 ≡ 93
-      → WalkedInside marks.ListOpen level octets at before now
+      → WalkedInside brackets.List level octets at before now
   list_inside vs b x e =
       let deep = depth-list [] vs in
       let many = nodes-bare (payloads.List vs) _ (views.outs-List vs) in
-      let few = x.few in
-      let left = x.left in
-      let counted = x.counted in
-      record {
-        payload = payloads.List vs;
-        whole = λ ss. frames.List ss vs;
-        now = element_now b;
-        leads = x.leads;
-        closes = λ ss fs. element_closes b ss vs fs;
-        closed = λ setting spot ss fs. refl;
-        within = inside;
-        close = closer 93 e;
-        used = x.used;
-        some = omega arith;
-        deep = omega arith;
-        kind = ap layer_kind (views.outs-List vs);
-        left = omega arith;
-        counted = omega arith;
-      }
+      inside_by brackets.List (payloads.List vs) (λ ss. frames.Items listings.List ss vs) (element_now b) (depths vs) (sum (map nodes vs)) x (omega arith)
+      (omega arith) (ap layer_kind (views.outs-List vs)) (λ ss fs. element_closes b ss vs fs) (λ setting spot ss fs. refl) e
 
   unfoldable pub sexp_inside : (vs : List Value) → SexpGone level octets at before now vs → get_or rest 0 0 ≡ 41
-      → WalkedInside marks.SexpOpen level octets at before now
+      → WalkedInside brackets.Sexp level octets at before now
   sexp_inside vs x e =
       let deep = depth-sexp [] vs in
       let many = nodes-bare (payloads.Sexp vs) _ (views.outs-Sexp vs) in
-      let few = x.few in
-      let left = x.left in
-      let counted = x.counted in
-      record {
-        payload = payloads.Sexp vs;
-        whole = λ ss. frames.Sexp ss vs;
-        now = nows.Ready;
-        leads = x.leads;
-        closes = λ ss fs. refl;
-        closed = λ setting spot ss fs. refl;
-        within = inside;
-        close = closer 41 e;
-        used = x.used;
-        some = omega arith;
-        deep = omega arith;
-        kind = ap layer_kind (views.outs-Sexp vs);
-        left = omega arith;
-        counted = omega arith;
-      }
+      inside_by brackets.Sexp (payloads.Sexp vs) (λ ss. frames.Items listings.Sexp ss vs) nows.Ready (depths vs) (sum (map nodes vs)) x (omega arith)
+      (omega arith) (ap layer_kind (views.outs-Sexp vs)) (λ ss fs. refl) (λ setting spot ss fs. refl) e
 
   unfoldable pub fields_inside : (ms : List Field) (b : Bool) → FieldsGone level octets at before now ms b → get_or rest 0 0 ≡ 125
-      → WalkedInside marks.FieldsOpen level octets at before now
+      → WalkedInside brackets.Fields level octets at before now
   fields_inside ms b x e =
       let deep = depth-struct [] ms in
       let many = nodes-bare (payloads.Fields ms) _ (views.outs-Fields ms) in
-      let few = x.few in
-      let left = x.left in
-      let counted = x.counted in
-      record {
-        payload = payloads.Fields ms;
-        whole = λ ss. frames.Fields ss ms;
-        now = field_now b;
-        leads = x.leads;
-        closes = λ ss fs. field_closes b ss ms fs;
-        closed = λ setting spot ss fs. refl;
-        within = inside;
-        close = closer 125 e;
-        used = x.used;
-        some = omega arith;
-        deep = omega arith;
-        kind = ap layer_kind (views.outs-Fields ms);
-        left = omega arith;
-        counted = omega arith;
-      }
+      inside_by brackets.Fields (payloads.Fields ms) (λ ss. frames.Fields ss ms) (field_now b) (field_depths ms) (sum (map field_nodes ms)) x (omega arith)
+      (omega arith) (ap layer_kind (views.outs-Fields ms)) (λ ss fs. field_closes b ss ms fs) (λ setting spot ss fs. refl) e

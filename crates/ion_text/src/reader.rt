@@ -1,11 +1,11 @@
 //! The reader of text documents: what it holds, and what each token does.
 ghost use Rattle.std.specs.Prelude.{◌≡◌, ◌∷◌, [], nat_lt, length, List, reverse, false, true};
 ghost use Rattle.ion_model.specs.Measures.{annotated};
-ghost use Rattle.ion_text.specs.machine.EachToken.{place, begun_at, ended};
+ghost use Rattle.ion_text.specs.machine.EachToken.{place, begun_at, behind_item, ended};
 ghost use Rattle.ion_text.specs.machine.Run.{is_top};
 ghost use Rattle.ion_text.specs.machine.Views.{setting_of, spot_of, open_frames, reading_of, Does, Puts, SameSetting, is_named, has_field};
 
-use crate::state::{Effect, Frame, Now};
+use crate::state::{Effect, Frame, Listing, Now};
 use ion_model::{Field, Payload, Reason, Refusal, Sequence, Symbol, Value};
 use ion_symtab::{Catalog, Context, Limits};
 use ion_tokens::{Place, Scanner, TokenReader};
@@ -71,19 +71,25 @@ impl Debug for TextReader<'_> {
     }
 }
 
+// What may come behind an item of a list or an s-expression.
+fn behind_item(listing: Listing) -> Now
+    ensures { result ≡ behind_item listing }
+{
+    match listing {
+        Listing::List => Now::After,
+        Listing::Sexp => Now::Ready,
+    }
+}
+
 // Puts a whole value into a list or an s-expression: what may come next.
 fn put_item(frame: &mut Frame, value: Value) -> Result<Now, Reason>
     requires { is_named frame.old ≡ false }
     ensures { (outer : List Frame) → Puts (frame.old ∷ outer) value result (frame.new ∷ outer) }
 {
     match frame {
-        Frame::List(_, items) => {
+        Frame::Items(listing, _, items) => {
             items.push(value)?;
-            Ok(Now::After)
-        }
-        Frame::Sexp(_, items) => {
-            items.push(value)?;
-            Ok(Now::Ready)
+            Ok(behind_item(*listing))
         }
         _ => Err(Reason::Unexpected),
     }
@@ -108,8 +114,8 @@ impl TextReader<'_> {
     {
         match self.frames.last() {
             None => Place::Top,
-            Some(Frame::List(_, _)) => Place::List,
-            Some(Frame::Sexp(_, _)) => Place::Sexp,
+            Some(Frame::Items(Listing::List, _, _)) => Place::List,
+            Some(Frame::Items(Listing::Sexp, _, _)) => Place::Sexp,
             Some(Frame::Named(_, _, _)) => Place::FieldValue,
             Some(Frame::Fields(_, _)) => match &self.stage {
                 Now::After => Place::FieldValue,

@@ -33,11 +33,17 @@ pub enum Now {
     Keyed(Symbol),
 }
 
+/// What has items without names.
+#[derive(Clone, Copy)]
+pub enum Listing {
+    List,
+    Sexp,
+}
+
 /// A container that isn't whole yet: its annotations, and what has come of it.
 #[derive(Drop)]
 pub enum Frame {
-    List(Sequence<Symbol>, Sequence<Value>),
-    Sexp(Sequence<Symbol>, Sequence<Value>),
+    Items(Listing, Sequence<Symbol>, Sequence<Value>),
     /// A struct where no value is open.
     Fields(Sequence<Symbol>, Sequence<Field>),
     /// A struct, and the name of the field whose value is open.

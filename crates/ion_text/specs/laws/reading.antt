@@ -1,4 +1,5 @@
 -- The machine reads what the grammar says.
+pub mod Brackets
 pub mod sound
 pub mod complete
 pub mod small

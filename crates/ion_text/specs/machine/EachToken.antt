@@ -17,12 +17,16 @@ use Rattle.ion_tokens.specs.declared.mode.Place.TheVariants as places
 use Rattle.ion_tokens.specs.declared.mode.Mark.TheVariants as marks
 use Rattle.ion_tokens.specs.Bodies.{Content, Word, Id, Quoted, Short, Long, Number', TypedNull, Operator, Clob, Blob, Mark'}
 use Rattle.ion_visiting.specs.Parts.{number_payload}
+use Rattle.ion_visiting.specs.declared.bracket.Bracket.{Bracket}
+use Rattle.ion_visiting.specs.declared.bracket.Bracket.TheVariants as brackets
 use Rattle.ion_text.specs.declared.state.Held.{Held}
 use Rattle.ion_text.specs.declared.state.Held.TheVariants as helds
 use Rattle.ion_text.specs.declared.state.Now.{Now}
 use Rattle.ion_text.specs.declared.state.Now.TheVariants as nows
 use Rattle.ion_text.specs.declared.state.Frame.{Frame}
 use Rattle.ion_text.specs.declared.state.Frame.TheVariants as frames
+use Rattle.ion_text.specs.declared.state.Listing.{Listing}
+use Rattle.ion_text.specs.declared.state.Listing.TheVariants as listings
 use Rattle.ion_text.specs.Grammar.{is_keyword, is_version, the_marker}
 
 abbrev pub Symbols : Type 0
@@ -82,11 +86,19 @@ at start c fs ss now = record { start = start; context = c; frames = fs; notes =
 abbrev pub fresh : List Slot → Reading
 fresh c = at 0 c [] [] nows.Ready
 
+-- where the items of a list or an s-expression stand, and what may come behind one
+abbrev pub item_place : Listing → Place
+item_place listings.List = places.List
+item_place listings.Sexp = places.Sexp
+
+abbrev pub behind_item : Listing → Now
+behind_item listings.List = nows.After
+behind_item listings.Sexp = nows.Ready
+
 -- the place in which the next token is looked for
 abbrev pub place_in : List Frame → Now → Place
 place_in [] now = places.Top
-place_in (frames.List ss vs ∷ fs) now = places.List
-place_in (frames.Sexp ss vs ∷ fs) now = places.Sexp
+place_in (frames.Items listing ss vs ∷ fs) now = item_place listing
 place_in (frames.Fields ss ms ∷ fs) nows.After = places.FieldValue
 place_in (frames.Fields ss ms ∷ fs) _ = places.Name
 place_in (frames.Named ss ms name ∷ fs) now = places.FieldValue
@@ -108,8 +120,8 @@ abbrev pub ended : Setting → Spot → List Frame → Value → Turn
 ended setting spot [] v =
     if is_table v then turned setting.limits.item spot.start spot.end (next spot.context v setting.catalog)
     else within setting.limits.item spot.start spot.end (gives v (fresh spot.context))
-ended setting spot (frames.List ss vs ∷ fs) v = goes (at spot.start spot.context (frames.List ss (vs ++ v ∷ []) ∷ fs) [] nows.After)
-ended setting spot (frames.Sexp ss vs ∷ fs) v = goes (at spot.start spot.context (frames.Sexp ss (vs ++ v ∷ []) ∷ fs) [] nows.Ready)
+ended setting spot (frames.Items listing ss vs ∷ fs) v =
+    goes (at spot.start spot.context (frames.Items listing ss (vs ++ v ∷ []) ∷ fs) [] (behind_item listing))
 ended setting spot (frames.Named ss ms name ∷ fs) v =
     goes (at spot.start spot.context (frames.Fields ss (ms ++ field_of name v ∷ []) ∷ fs) [] nows.After)
 ended setting spot (frames.Fields ss ms ∷ fs) v = refuses reasons.Unexpected
@@ -167,18 +179,32 @@ resolved (Err e) f = refuses e
 abbrev pub unexpected : Turn
 unexpected = refuses reasons.Unexpected
 
+-- a container behind its open, and what may come there
+abbrev pub opened : Bracket → Symbols → Frame
+opened brackets.List ss = frames.Items listings.List ss []
+opened brackets.Sexp ss = frames.Items listings.Sexp ss []
+opened brackets.Fields ss = frames.Fields ss []
+
+abbrev pub first_now : Bracket → Now
+first_now brackets.Fields = nows.Name
+first_now _ = nows.Ready
+
+-- a container beyond the limit on depth; the octet behind `{` shows that it is no `{{`, and may be refused for a smaller reason
+abbrev pub beyond_depth : Bracket → Reading → Turn
+beyond_depth brackets.Fields r = late reasons.Depth r
+beyond_depth _ r = refuses reasons.Depth
+
+-- an open
+abbrev pub opening : Bracket → ℕ → ℕ → List Slot → List Frame → Symbols → Turn
+opening bracket depth start c fs ss = deeper depth fs (goes (at start c (opened bracket ss ∷ fs) [] (first_now bracket)))
+    (beyond_depth bracket (at start c (opened bracket ss ∷ fs) [] (first_now bracket)))
+
 -- a close, where no annotation stands before it
-abbrev pub list_closed : Setting → Spot → List Frame → Turn
-list_closed setting spot (frames.List ss vs ∷ fs) = ended setting spot fs (annotated ss (payloads.List vs))
-list_closed setting spot _ = unexpected
-
-abbrev pub sexp_closed : Setting → Spot → List Frame → Turn
-sexp_closed setting spot (frames.Sexp ss vs ∷ fs) = ended setting spot fs (annotated ss (payloads.Sexp vs))
-sexp_closed setting spot _ = unexpected
-
-abbrev pub struct_closed : Setting → Spot → List Frame → Turn
-struct_closed setting spot (frames.Fields ss ms ∷ fs) = ended setting spot fs (annotated ss (payloads.Fields ms))
-struct_closed setting spot _ = unexpected
+abbrev pub closed : Bracket → Setting → Spot → List Frame → Turn
+closed brackets.List setting spot (frames.Items listings.List ss vs ∷ fs) = ended setting spot fs (annotated ss (payloads.List vs))
+closed brackets.Sexp setting spot (frames.Items listings.Sexp ss vs ∷ fs) = ended setting spot fs (annotated ss (payloads.Sexp vs))
+closed brackets.Fields setting spot (frames.Fields ss ms ∷ fs) = ended setting spot fs (annotated ss (payloads.Fields ms))
+closed _ setting spot _ = unexpected
 
 abbrev pub bare_close : Symbols → Turn → Turn
 bare_close [] t = t
@@ -197,15 +223,11 @@ on_ready setting spot fs ss (Number' n) = ended setting spot fs (annotated ss (n
 on_ready setting spot fs ss (Operator w) = ended setting spot fs (annotated ss (payloads.Symbol (Some w)))
 on_ready setting spot fs ss (Clob w) = ended setting spot fs (annotated ss (payloads.Clob w))
 on_ready setting spot fs ss (Blob w) = ended setting spot fs (annotated ss (payloads.Blob w))
-on_ready setting spot fs ss (Mark' marks.ListOpen) =
-    deeper setting.limits.depth fs (goes (at spot.start spot.context (frames.List ss [] ∷ fs) [] nows.Ready)) (refuses reasons.Depth)
-on_ready setting spot fs ss (Mark' marks.SexpOpen) =
-    deeper setting.limits.depth fs (goes (at spot.start spot.context (frames.Sexp ss [] ∷ fs) [] nows.Ready)) (refuses reasons.Depth)
-on_ready setting spot fs ss (Mark' marks.FieldsOpen) =
-    deeper setting.limits.depth fs (goes (at spot.start spot.context (frames.Fields ss [] ∷ fs) [] nows.Name))
-    (late reasons.Depth (at spot.start spot.context (frames.Fields ss [] ∷ fs) [] nows.Name))
-on_ready setting spot fs ss (Mark' marks.ListClose) = bare_close ss (list_closed setting spot fs)
-on_ready setting spot fs ss (Mark' marks.SexpClose) = bare_close ss (sexp_closed setting spot fs)
+on_ready setting spot fs ss (Mark' marks.ListOpen) = opening brackets.List setting.limits.depth spot.start spot.context fs ss
+on_ready setting spot fs ss (Mark' marks.SexpOpen) = opening brackets.Sexp setting.limits.depth spot.start spot.context fs ss
+on_ready setting spot fs ss (Mark' marks.FieldsOpen) = opening brackets.Fields setting.limits.depth spot.start spot.context fs ss
+on_ready setting spot fs ss (Mark' marks.ListClose) = bare_close ss (closed brackets.List setting spot fs)
+on_ready setting spot fs ss (Mark' marks.SexpClose) = bare_close ss (closed brackets.Sexp setting spot fs)
 on_ready setting spot fs ss (Mark' _) = unexpected
 
 -- behind what may be an annotation
@@ -222,14 +244,14 @@ on_long spot fs ss v (Long w) = goes (at spot.start spot.context fs ss (nows.Lon
 on_long spot fs ss v _ = unexpected
 
 abbrev pub on_comma : ℕ → List Slot → List Frame → Turn
-on_comma start c (frames.List ss vs ∷ fs) = goes (at start c (frames.List ss vs ∷ fs) [] nows.Ready)
+on_comma start c (frames.Items listings.List ss vs ∷ fs) = goes (at start c (frames.Items listings.List ss vs ∷ fs) [] nows.Ready)
 on_comma start c (frames.Fields ss ms ∷ fs) = goes (at start c (frames.Fields ss ms ∷ fs) [] nows.Name)
 on_comma start c _ = unexpected
 
 abbrev pub on_after : Setting → Spot → List Frame → Content → Turn
 on_after setting spot fs (Mark' marks.Comma) = on_comma spot.start spot.context fs
-on_after setting spot fs (Mark' marks.ListClose) = list_closed setting spot fs
-on_after setting spot fs (Mark' marks.FieldsClose) = struct_closed setting spot fs
+on_after setting spot fs (Mark' marks.ListClose) = closed brackets.List setting spot fs
+on_after setting spot fs (Mark' marks.FieldsClose) = closed brackets.Fields setting spot fs
 on_after setting spot fs _ = unexpected
 
 abbrev pub keyed : ℕ → List Slot → List Frame → Option (List ℕ) → Reading
@@ -244,7 +266,7 @@ on_name setting spot fs (Id id) = resolved (resolve spot.context id) (λ s. goes
 on_name setting spot fs (Quoted w) = goes (keyed spot.start spot.context fs (Some w))
 on_name setting spot fs (Short w) = goes (keyed spot.start spot.context fs (Some w))
 on_name setting spot fs (Long w) = goes (at spot.start spot.context fs [] (nows.LongName w))
-on_name setting spot fs (Mark' marks.FieldsClose) = struct_closed setting spot fs
+on_name setting spot fs (Mark' marks.FieldsClose) = closed brackets.Fields setting spot fs
 on_name setting spot fs _ = unexpected
 
 abbrev pub on_long_name : ℕ → List Slot → List Frame → List ℕ → Content → Turn

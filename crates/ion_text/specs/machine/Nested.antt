@@ -1,4 +1,4 @@
--- The marks that open a container and those that close one.
+-- The marks that open a container and those that close one, and where they stand at the front of octets.
 use Rattle.std.specs.Prelude.{◌≡◌, ◌≢◌, ◌<◌, ℕ, Bool, true, false, List, [], ◌∷◌, length, slice_index}
 use Rattle.ion_tokens.specs.declared.plain_tokens.Rest.{Rest}
 use Rattle.ion_tokens.specs.machine.Rests.{resting}
@@ -7,18 +7,37 @@ use Rattle.ion_text.specs.declared.reader.TextReader.{TextReader}
 use Rattle.ion_text.specs.machine.Views.{open_frames, IsFine}
 use Rattle.ion_tokens.specs.declared.mode.Mark.{Mark}
 use Rattle.ion_tokens.specs.declared.mode.Mark.TheVariants as marks
+use Rattle.ion_visiting.specs.declared.bracket.Bracket.{Bracket}
+use Rattle.ion_visiting.specs.declared.bracket.Bracket.TheVariants as brackets
 use Rattle.ion_text.specs.declared.state.Frame.{Frame}
 use Rattle.ion_text.specs.declared.state.Frame.TheVariants as frames
+use Rattle.ion_text.specs.declared.state.Listing.{Listing}
+use Rattle.ion_text.specs.declared.state.Listing.TheVariants as listings
 use Rattle.ion_text.specs.declared.state.Now.{Now}
 use Rattle.ion_text.specs.declared.state.Now.TheVariants as nows
-use Rattle.ion_text.specs.machine.EachToken.{Setting, Spot, Reading, Turn, list_closed, sexp_closed, struct_closed}
+use Rattle.ion_text.specs.machine.EachToken.{Reading}
 
--- octets begin with the mark of an open, and `{` is none of a lob's `{{`
-abbrev pub OpensAt : List ℕ → Mark → Type 0
-OpensAt octets marks.ListOpen = slice_index octets 0 ≡ 91
-OpensAt octets marks.SexpOpen = slice_index octets 0 ≡ 40
-OpensAt octets marks.FieldsOpen = (slice_index octets 0 ≡ 123) × (slice_index octets 1 ≢ 123)
-OpensAt octets _ = ⊥
+-- what stands around items
+abbrev pub bracket_in : Listing → Bracket
+bracket_in listings.List = brackets.List
+bracket_in listings.Sexp = brackets.Sexp
+
+-- the marks of a container
+abbrev pub open_mark : Bracket → Mark
+open_mark brackets.List = marks.ListOpen
+open_mark brackets.Sexp = marks.SexpOpen
+open_mark brackets.Fields = marks.FieldsOpen
+
+abbrev pub close_mark : Bracket → Mark
+close_mark brackets.List = marks.ListClose
+close_mark brackets.Sexp = marks.SexpClose
+close_mark brackets.Fields = marks.FieldsClose
+
+-- octets begin with what opens such a container, and `{` is none of a lob's `{{`
+abbrev pub OpensAt : List ℕ → Bracket → Type 0
+OpensAt octets brackets.List = slice_index octets 0 ≡ 91
+OpensAt octets brackets.Sexp = slice_index octets 0 ≡ 40
+OpensAt octets brackets.Fields = (slice_index octets 0 ≡ 123) × (slice_index octets 1 ≢ 123)
 
 -- no item is open, the scanner rests there, and the octets begin with the open of a struct
 pub record OpensStruct (r : TextReader) (octets : List ℕ) (rest : Rest) : Type 0 where
@@ -28,32 +47,26 @@ pub record OpensStruct (r : TextReader) (octets : List ℕ) (rest : Rest) : Type
   pub bare : r.notes ≡ []
   pub ready : r.stage ≡ nows.Ready
   pub more : 1 < length octets
-  pub opens : OpensAt octets marks.FieldsOpen
+  pub opens : OpensAt octets brackets.Fields
 
 -- the octet of a close
-abbrev pub close_octet : Mark → ℕ
-close_octet marks.ListClose = 93
-close_octet marks.SexpClose = 41
-close_octet _ = 125
+abbrev pub close_octet : Bracket → ℕ
+close_octet brackets.List = 93
+close_octet brackets.Sexp = 41
+close_octet brackets.Fields = 125
 
--- the mark closes the innermost container, and may come now
-abbrev pub closes : Mark → List Frame → Now → Bool
-closes marks.ListClose (frames.List ss vs ∷ fs) nows.Ready = true
-closes marks.ListClose (frames.List ss vs ∷ fs) nows.After = true
-closes marks.SexpClose (frames.Sexp ss vs ∷ fs) nows.Ready = true
-closes marks.FieldsClose (frames.Fields ss ms ∷ fs) nows.Name = true
-closes marks.FieldsClose (frames.Fields ss ms ∷ fs) nows.After = true
+-- the close of such a container is that of the innermost one, and may come now
+abbrev pub closes : Bracket → List Frame → Now → Bool
+closes brackets.List (frames.Items listings.List ss vs ∷ fs) nows.Ready = true
+closes brackets.List (frames.Items listings.List ss vs ∷ fs) nows.After = true
+closes brackets.Sexp (frames.Items listings.Sexp ss vs ∷ fs) nows.Ready = true
+closes brackets.Fields (frames.Fields ss ms ∷ fs) nows.Name = true
+closes brackets.Fields (frames.Fields ss ms ∷ fs) nows.After = true
 closes _ _ _ = false
 
 -- so the octet does, and another container stands around that
-pub record ClosesAt (r : Reading) (o : ℕ) (mark : Mark) : Type 0 where
-  pub octet : o ≡ close_octet mark
-  pub fits : closes mark r.frames r.now ≡ true
+pub record ClosesAt (r : Reading) (o : ℕ) (bracket : Bracket) : Type 0 where
+  pub octet : o ≡ close_octet bracket
+  pub fits : closes bracket r.frames r.now ≡ true
   pub bare : r.notes ≡ []
   pub nested : 1 < length r.frames
-
--- what a close does
-abbrev pub closed : Mark → Setting → Spot → List Frame → Turn
-closed marks.ListClose setting spot fs = list_closed setting spot fs
-closed marks.SexpClose setting spot fs = sexp_closed setting spot fs
-closed _ setting spot fs = struct_closed setting spot fs

@@ -17,6 +17,7 @@ use Rattle.ion_text.specs.declared.state.Now.{Now}
 use Rattle.ion_text.specs.declared.state.Now.TheVariants as nows
 use Rattle.ion_text.specs.declared.state.Frame.{Frame}
 use Rattle.ion_text.specs.declared.state.Frame.TheVariants as frames
+use Rattle.ion_text.specs.declared.state.Listing.TheVariants as listings
 use Rattle.ion_text.specs.machine.EachToken.{Spot, under, spot_at, Reading, Turn, goes, gives, refuses, late, Symbols, at, fresh, place, place_in, settle, turned, within, ended, released, paid, held_payload}
 use Rattle.ion_text.specs.machine.Run.{is_top}
 
@@ -65,22 +66,19 @@ same_is places.FieldValue places.Name h = absurd cc
 -- while a value waits, the place is that of a value
 pub pending_at : (fs : List Frame) (h : Held) (end : ℕ) → place_in fs (nows.Pending h end) ≡ place_in fs nows.Ready
 pending_at [] h end = refl
-pending_at (frames.List ss vs ∷ fs) h end = refl
-pending_at (frames.Sexp ss vs ∷ fs) h end = refl
+pending_at (frames.Items listing ss vs ∷ fs) h end = refl
 pending_at (frames.Fields ss ms ∷ fs) h end = refl
 pending_at (frames.Named ss ms s ∷ fs) h end = refl
 
 pub long_at : (fs : List Frame) (w : List ℕ) (end : ℕ) → place_in fs (nows.Long w end) ≡ place_in fs nows.Ready
 long_at [] w end = refl
-long_at (frames.List ss vs ∷ fs) w end = refl
-long_at (frames.Sexp ss vs ∷ fs) w end = refl
+long_at (frames.Items listing ss vs ∷ fs) w end = refl
 long_at (frames.Fields ss ms ∷ fs) w end = refl
 long_at (frames.Named ss ms s ∷ fs) w end = refl
 
 pub name_at : (fs : List Frame) (w : List ℕ) → place_in fs (nows.LongName w) ≡ place_in fs nows.Name
 name_at [] w = refl
-name_at (frames.List ss vs ∷ fs) w = refl
-name_at (frames.Sexp ss vs ∷ fs) w = refl
+name_at (frames.Items listing ss vs ∷ fs) w = refl
 name_at (frames.Fields ss ms ∷ fs) w = refl
 name_at (frames.Named ss ms s ∷ fs) w = refl
 
@@ -118,8 +116,7 @@ module _ (g : Catalog) (l : Limits) where
 
   ended_same : (spot : Spot) (fs : List Frame) (now : Now) (v : Value) → IsValueNow now → SamePlace fs now (ended (under g l) spot fs v)
   ended_same spot [] now v h = top_same l.item spot.start spot.end spot.context now v (next spot.context v g) (is_table v)
-  ended_same spot (frames.List ss vs ∷ fs) now v h = (refl, refl)
-  ended_same spot (frames.Sexp ss vs ∷ fs) now v h = (refl, refl)
+  ended_same spot (frames.Items listing ss vs ∷ fs) now v h = (refl, refl)
   ended_same spot (frames.Named ss ms s ∷ fs) now v h = (refl, refl)
   ended_same spot (frames.Fields ss ms ∷ fs) now v h = tt
 
@@ -140,8 +137,7 @@ module _ (g : Catalog) (l : Limits) where
 
   keyed_same : (fs : List Frame) (w : List ℕ) (s : Option (List ℕ)) → place_in fs (nows.Keyed s) ≡ place_in fs (nows.LongName w)
   keyed_same [] w s = refl
-  keyed_same (frames.List ss vs ∷ fs) w s = refl
-  keyed_same (frames.Sexp ss vs ∷ fs) w s = refl
+  keyed_same (frames.Items listing ss vs ∷ fs) w s = refl
   keyed_same (frames.Fields ss ms ∷ fs) w s = refl
   keyed_same (frames.Named ss ms x ∷ fs) w s = refl
 
@@ -174,8 +170,8 @@ module _ (g : Catalog) (l : Limits) where
 
   ended_still : (spot : Spot) (fs : List Frame) (v : Value) → SettlesStill (ended (under g l) spot fs v)
   ended_still spot [] v = top_still l.item spot.start spot.end spot.context v (next spot.context v g) (is_table v)
-  ended_still spot (frames.List ss vs ∷ fs) v = refl
-  ended_still spot (frames.Sexp ss vs ∷ fs) v = refl
+  ended_still spot (frames.Items listings.List ss vs ∷ fs) v = refl
+  ended_still spot (frames.Items listings.Sexp ss vs ∷ fs) v = refl
   ended_still spot (frames.Named ss ms s ∷ fs) v = refl
   ended_still spot (frames.Fields ss ms ∷ fs) v = tt
 

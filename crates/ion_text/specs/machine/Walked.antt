@@ -14,8 +14,9 @@ use Rattle.ion_symtab.specs.Slots.{Slot}
 use Rattle.ion_tokens.specs.declared.token_reader.FoundToken.{FoundToken}
 use Rattle.ion_tokens.specs.declared.mode.Place.{Place}
 use Rattle.ion_tokens.specs.declared.mode.Place.TheVariants as places
-use Rattle.ion_tokens.specs.declared.mode.Mark.{Mark}
 use Rattle.ion_tokens.specs.declared.mode.Mark.TheVariants as marks
+use Rattle.ion_visiting.specs.declared.bracket.Bracket.{Bracket}
+use Rattle.ion_visiting.specs.declared.bracket.Bracket.TheVariants as brackets
 use Rattle.ion_tokens.specs.declared.mode.TokenKind.TheVariants as tokens
 use Rattle.ion_tokens.specs.declared.plain_tokens.Rest.{Rest}
 use Rattle.ion_tokens.specs.Bodies.{Content}
@@ -30,9 +31,9 @@ use Rattle.ion_text.specs.declared.state.Frame.TheVariants as frames
 use Rattle.ion_text.specs.declared.state.Now.{Now}
 use Rattle.ion_text.specs.declared.state.Now.TheVariants as nows
 use Rattle.ion_text.specs.machine.FrontTokens.{held_of, Pays, BeginsName, BeginsSymbol}
-use Rattle.ion_text.specs.machine.EachToken.{Setting, Spot, Symbols, at, begun_at, place_in, on_ready, ended}
+use Rattle.ion_text.specs.machine.EachToken.{Setting, Spot, Symbols, at, begun_at, place_in, on_ready, ended, opened, first_now, closed}
 use Rattle.ion_text.specs.machine.AtOnce.{Passes}
-use Rattle.ion_text.specs.machine.Nested.{closes, closed, close_octet}
+use Rattle.ion_text.specs.machine.Nested.{open_mark, close_mark, closes, close_octet}
 use Rattle.ion_text.specs.machine.Run.{State, is_top, run, with_scan}
 use Rattle.ion_text.specs.machine.Views.{open_frames, Puts, IsFine}
 
@@ -112,72 +113,56 @@ pub record Walked (p : Place) (level : ℕ) (octets : List ℕ) (count : ℕ) (b
   pub deep : depth (bare payload) ≤ level
   pub noted : Noted level payload before after
 
--- what opens a container, what closes it, and of which kind it is
-abbrev pub close_of : Mark → Mark
-close_of marks.ListOpen = marks.ListClose
-close_of marks.SexpOpen = marks.SexpClose
-close_of _ = marks.FieldsClose
-
-abbrev pub kind_of_open : Mark → Kind
-kind_of_open marks.ListOpen = kinds.List
-kind_of_open marks.SexpOpen = kinds.Sexp
-kind_of_open _ = kinds.Fields
-
--- the container behind its open, and what may come there
-abbrev pub opened : Mark → Symbols → Frame
-opened marks.ListOpen ss = frames.List ss []
-opened marks.SexpOpen ss = frames.Sexp ss []
-opened _ ss = frames.Fields ss []
-
-abbrev pub first_now : Mark → Now
-first_now marks.ListOpen = nows.Ready
-first_now marks.SexpOpen = nows.Ready
-first_now _ = nows.Name
+-- the kind of a container
+abbrev pub kind_in : Bracket → Kind
+kind_in brackets.List = kinds.List
+kind_in brackets.Sexp = kinds.Sexp
+kind_in brackets.Fields = kinds.Fields
 
 -- behind the open of a container octets lead up to its close, where it is this value of at most so many levels more
-pub record WalkedInside (m : Mark) (level : ℕ) (octets : List ℕ) (count : ℕ) (before after : Tally) : Type 0 where
+pub record WalkedInside (bracket : Bracket) (level : ℕ) (octets : List ℕ) (count : ℕ) (before after : Tally) : Type 0 where
   pub payload : Payload
   pub whole : Symbols → Frame
   pub now : Now
-  pub leads : Leads level before.rest octets count after.rest (opened m) (first_now m) whole now
-  pub closes : (ss : Symbols) (fs : List Frame) → closes (close_of m) (whole ss ∷ fs) now ≡ true
+  pub leads : Leads level before.rest octets count after.rest (opened bracket) (first_now bracket) whole now
+  pub closes : (ss : Symbols) (fs : List Frame) → closes bracket (whole ss ∷ fs) now ≡ true
   pub closed : (setting : Setting) (spot : Spot) (ss : Symbols) (fs : List Frame)
-      → closed (close_of m) setting spot (whole ss ∷ fs) ≡ ended setting spot fs (annotated ss payload)
+      → closed bracket setting spot (whole ss ∷ fs) ≡ ended setting spot fs (annotated ss payload)
   pub within : count < length octets
-  pub close : get_or octets count 0 ≡ close_octet (close_of m)
+  pub close : get_or octets count 0 ≡ close_octet bracket
   pub used : after.rest.used ≡ before.rest.used + count
   pub some : 0 < depth (bare payload)
   pub deep : depth (bare payload) ≤ suc level
-  pub kind : kind_of (bare payload) ≡ kind_of_open m
+  pub kind : kind_of (bare payload) ≡ kind_in bracket
   pub left : after.level ≡ min before.level (suc level - depth (bare payload))
   pub counted : min (after.nodes + 1) most ≡ min (before.nodes + nodes (bare payload)) most
 
 -- behind the open of a container, and behind its close
-abbrev pub behind_open : Place → Mark → ℕ → Tally → Tally
-behind_open p m level t = record {
+abbrev pub behind_open : Place → Bracket → ℕ → Tally → Tally
+behind_open p bracket level t = record {
   kind = t.kind;
   level = min t.level (level - 1);
   nodes = t.nodes;
-  rest = past_token p t.rest (tokens.Mark m) 1;
+  rest = past_token p t.rest (tokens.Mark (open_mark bracket)) 1;
 }
 
-abbrev pub behind_close : Place → Mark → Tally → Tally
-behind_close p m t = record {
-  kind = kind_of_open m;
+abbrev pub behind_close : Place → Bracket → Tally → Tally
+behind_close p bracket t = record {
+  kind = kind_in bracket;
   level = t.level;
   nodes = min (t.nodes + 1) most;
-  rest = past_token p t.rest (tokens.Mark (close_of m)) 1;
+  rest = past_token p t.rest (tokens.Mark (close_mark bracket)) 1;
 }
 
--- octets begin with an open and end with its close, between which it is such a value
-pub record WalkedContainer (p : Place) (m : Mark) (level : ℕ) (octets : List ℕ) (count : ℕ) (before after : Tally) : Type 0 where
+-- octets begin with the open of such a container and end with its close, between which it is such a value
+pub record WalkedContainer (p : Place) (bracket : Bracket) (level : ℕ) (octets : List ℕ) (count : ℕ) (before after : Tally) : Type 0 where
   pub some : 0 < level
   pub first : Tally
   pub last : Tally
   pub behind : ℕ
-  pub inside : WalkedInside m (level - 1) (drop 1 octets) behind first last
-  pub opens : first ≡ behind_open p m level before
-  pub shuts : after ≡ behind_close p m last
+  pub inside : WalkedInside bracket (level - 1) (drop 1 octets) behind first last
+  pub opens : first ≡ behind_open p bracket level before
+  pub shuts : after ≡ behind_close p bracket last
   pub total : count ≡ behind + 2
 
 -- where a scanner rests behind a field's name, a blank of so many octets, and a colon

@@ -2,7 +2,7 @@
 use Rattle.std.specs.Prelude.{◌≡◌, ◌+◌, ◌-◌, ◌<◌, ◌≤◌, ℕ, min, List, length, take, drop, get_or, Some, Ok}
 use Rattle.ion_model.specs.declared.value.Payload.{Payload}
 use Rattle.ion_tokens.specs.declared.mode.Place.{Place}
-use Rattle.ion_tokens.specs.declared.mode.Mark.{Mark}
+use Rattle.ion_visiting.specs.declared.bracket.Bracket.{Bracket}
 use Rattle.ion_tokens.specs.declared.plain_tokens.Rest.{Rest}
 use Rattle.ion_scalar.specs.declared.number.Number.{Number}
 use Rattle.ion_tokens.specs.declared.token_reader.FoundToken.{FoundToken}
@@ -15,7 +15,6 @@ use Rattle.ion_text.specs.declared.reader.annotations.Note.{Note}
 use Rattle.ion_text.specs.declared.reader.finders.Scalar.{Scalar}
 use Rattle.ion_text.specs.declared.reader.walks.Tally.{Tally}
 use Rattle.ion_text.specs.machine.Walked.{IsFresh, FoundScalar, FoundNote, Walked, WalkedItem, WalkedContainer, WalkedInside, WalkedName, WalkedNotes, WalkedBare, WalkedTop}
-use Rattle.ion_text.specs.visiting.Parts.{bracket_of}
 
 -- in this place octets begin with this token, which is this value
 pub record FoundPart (p : Place) (r : Rest) (octets : List ℕ) (s : Scalar) (payload : Payload) : Type 0 where
@@ -62,14 +61,14 @@ module _ {S M : Type 0} (h : Visits S M) where
     pub walked : WalkedItem p level octets count before after
     pub visited : Visited h walked.value a b
 
-  pub record VisitedContainer (p : Place) (m : Mark) (level : ℕ) (octets : List ℕ) (count : ℕ) (before after : Tally) (a b : S) : Type 0 where
-    pub walked : WalkedContainer p m level octets count before after
+  pub record VisitedContainer (p : Place) (bracket : Bracket) (level : ℕ) (octets : List ℕ) (count : ℕ) (before after : Tally) (a b : S) : Type 0 where
+    pub walked : WalkedContainer p bracket level octets count before after
     pub visited : VisitedPayload h walked.inside.payload a b
 
   -- between an open and its close; with what the visitor makes of these it took the whole value
-  pub record VisitedInside (m : Mark) (level : ℕ) (octets : List ℕ) (count : ℕ) (before after : Tally) (a b : S) : Type 0 where
-    pub walked : WalkedInside m level octets count before after
-    pub visited : (k : M) (x y : S) → h.opens x (bracket_of m) k a → h.closes b (bracket_of m) k y → VisitedPayload h walked.payload x y
+  pub record VisitedInside (bracket : Bracket) (level : ℕ) (octets : List ℕ) (count : ℕ) (before after : Tally) (a b : S) : Type 0 where
+    pub walked : WalkedInside bracket level octets count before after
+    pub visited : (k : M) (x y : S) → h.opens x bracket k a → h.closes b bracket k y → VisitedPayload h walked.payload x y
 
   pub record VisitedName (octets : List ℕ) (count : ℕ) (before after : Tally) (a b : S) : Type 0 where
     pub walked : WalkedName octets count before after

@@ -3,21 +3,40 @@ ghost use Rattle.std.specs.Prelude.{◌≡◌, [], ◌∷◌, None};
 ghost use Rattle.ion_text.specs.declared.state.Frame.TheVariants as frames;
 ghost use Rattle.ion_text.specs.declared.state.Now.TheVariants as nows;
 ghost use Rattle.ion_atoms.specs.declared.refusal.Reason.TheVariants as reasons;
-ghost use Rattle.ion_text.specs.machine.EachToken.{at, goes, late, refuses, deeper, list_closed, sexp_closed, struct_closed, on_comma, named};
+ghost use Rattle.ion_text.specs.machine.EachToken.{at, goes, late, refuses, deeper, opening, closed, on_comma, named};
 ghost use Rattle.ion_text.specs.machine.Views.{setting_of, spot_of, open_frames, Does, SameSetting};
 
 use super::TextReader;
-use crate::state::{Effect, Frame, Now};
+use crate::state::{Effect, Frame, Listing, Now};
 use ion_model::{Payload, Reason, Sequence, Symbol, Value};
+use ion_visiting::Bracket;
 
 impl TextReader<'_> {
-    /// Behind `[`.
-    pub(super) fn open_list(&mut self) -> Result<Effect, Reason>
+    /// Behind what opens such a container. The octet behind `{` shows that it is no `{{`, and may be
+    /// refused for a smaller reason.
+    #[inline]
+    pub(super) fn open(&mut self, bracket: Bracket) -> Result<Effect, Reason>
+        requires { self.old.stage ≡ nows.Ready }
+        ensures does { Does
+            (opening bracket self.old.limits.depth self.old.start self.old.context
+            (open_frames self.old) self.old.notes)
+            result self.new }
+        ensures setting { SameSetting self.old self.new }
+    {
+        match bracket {
+            Bracket::List => self.open_items(Listing::List),
+            Bracket::Sexp => self.open_items(Listing::Sexp),
+            Bracket::Fields => self.open_fields(),
+        }
+    }
+
+    // Behind `[` or `(`.
+    fn open_items(&mut self, listing: Listing) -> Result<Effect, Reason>
         requires { self.old.stage ≡ nows.Ready }
         ensures does { Does
             (deeper self.old.limits.depth (open_frames self.old)
             (goes (at self.old.start self.old.context
-            (frames.List self.old.notes [] ∷ open_frames self.old) [] nows.Ready))
+            (frames.Items listing self.old.notes [] ∷ open_frames self.old) [] nows.Ready))
             (refuses reasons.Depth))
             result self.new }
         ensures setting { SameSetting self.old self.new }
@@ -27,33 +46,12 @@ impl TextReader<'_> {
         }
         let annotations = self.take_notes();
         let items = Sequence::new(self.alloc);
-        self.frames.push(Frame::List(annotations, items))?;
+        self.frames.push(Frame::Items(listing, annotations, items))?;
         Ok(Effect::Goes)
     }
 
-    /// Behind `(`.
-    pub(super) fn open_sexp(&mut self) -> Result<Effect, Reason>
-        requires { self.old.stage ≡ nows.Ready }
-        ensures does { Does
-            (deeper self.old.limits.depth (open_frames self.old)
-            (goes (at self.old.start self.old.context
-            (frames.Sexp self.old.notes [] ∷ open_frames self.old) [] nows.Ready))
-            (refuses reasons.Depth))
-            result self.new }
-        ensures setting { SameSetting self.old self.new }
-    {
-        if !self.may_deepen() {
-            return Err(Reason::Depth);
-        }
-        let annotations = self.take_notes();
-        let items = Sequence::new(self.alloc);
-        self.frames.push(Frame::Sexp(annotations, items))?;
-        Ok(Effect::Goes)
-    }
-
-    /// Behind `{`. The octet behind it shows that it is no `{{`, and may be refused for a smaller
-    /// reason.
-    pub(super) fn open_struct(&mut self) -> Result<Effect, Reason>
+    // Behind `{`.
+    fn open_fields(&mut self) -> Result<Effect, Reason>
         ensures does { Does
             (deeper self.old.limits.depth (open_frames self.old)
             (goes (at self.old.start self.old.context
@@ -74,82 +72,36 @@ impl TextReader<'_> {
         Ok(Effect::Late(Reason::Depth))
     }
 
-    /// Behind `]`.
-    pub(super) fn close_list(&mut self, end: u64) -> Result<Effect, Reason>
+    /// Behind what closes such a container.
+    pub(super) fn close(&mut self, bracket: Bracket, end: u64) -> Result<Effect, Reason>
         requires notes { self.old.notes ≡ [] }
         ensures does { Does
-            (list_closed (setting_of self.old) (spot_of self.old end) (open_frames self.old))
+            (closed bracket (setting_of self.old) (spot_of self.old end) (open_frames self.old))
             result self.new }
         ensures setting { SameSetting self.old self.new }
     {
-        match self.frames.pop() {
-            Some(Frame::List(annotations, items)) => {
-                let payload = Payload::List(items);
-                self.deliver(
-                    Value {
-                        annotations,
-                        payload,
-                    },
-                    end,
-                )
+        let (annotations, payload) = match (bracket, self.frames.pop()) {
+            (Bracket::List, Some(Frame::Items(Listing::List, annotations, items))) => {
+                (annotations, Payload::List(items))
+            }
+            (Bracket::Sexp, Some(Frame::Items(Listing::Sexp, annotations, items))) => {
+                (annotations, Payload::Sexp(items))
+            }
+            (Bracket::Fields, Some(Frame::Fields(annotations, fields))) => {
+                (annotations, Payload::Fields(fields))
             }
             other => {
                 drop(other);
-                Err(Reason::Unexpected)
+                return Err(Reason::Unexpected);
             }
-        }
-    }
-
-    /// Behind `)`.
-    pub(super) fn close_sexp(&mut self, end: u64) -> Result<Effect, Reason>
-        requires notes { self.old.notes ≡ [] }
-        ensures does { Does
-            (sexp_closed (setting_of self.old) (spot_of self.old end) (open_frames self.old))
-            result self.new }
-        ensures setting { SameSetting self.old self.new }
-    {
-        match self.frames.pop() {
-            Some(Frame::Sexp(annotations, items)) => {
-                let payload = Payload::Sexp(items);
-                self.deliver(
-                    Value {
-                        annotations,
-                        payload,
-                    },
-                    end,
-                )
-            }
-            other => {
-                drop(other);
-                Err(Reason::Unexpected)
-            }
-        }
-    }
-
-    /// Behind `}`.
-    pub(super) fn close_struct(&mut self, end: u64) -> Result<Effect, Reason>
-        requires notes { self.old.notes ≡ [] }
-        ensures does { Does
-            (struct_closed (setting_of self.old) (spot_of self.old end) (open_frames self.old))
-            result self.new }
-        ensures setting { SameSetting self.old self.new }
-    {
-        match self.frames.pop() {
-            Some(Frame::Fields(annotations, fields)) => {
-                let payload = Payload::Fields(fields);
-                self.deliver(
-                    Value {
-                        annotations,
-                        payload,
-                    },
-                    end,
-                )
-            }
-            other => {
-                drop(other);
-                Err(Reason::Unexpected)
-            }
-        }
+        };
+        self.deliver(
+            Value {
+                annotations,
+                payload,
+            },
+            end,
+        )
     }
 
     /// Behind a comma.
@@ -161,7 +113,7 @@ impl TextReader<'_> {
         ensures setting { SameSetting self.old self.new }
     {
         match self.frames.last() {
-            Some(Frame::List(_, _)) => self.set_stage(Now::Ready),
+            Some(Frame::Items(Listing::List, _, _)) => self.set_stage(Now::Ready),
             Some(Frame::Fields(_, _)) => self.set_stage(Now::Name),
             _ => return Err(Reason::Unexpected),
         }

@@ -1,31 +1,56 @@
 //! Containers that open and close inside another one, where their marks lie whole in a piece. What
 //! opens beyond the limit on depth is left to the octets.
-ghost use Rattle.std.specs.Prelude.{◌≡◌, ◌<◌, [], length, false, Ok, IfOk, IfErr, IfSome};
+ghost use Rattle.std.specs.Prelude.{◌≡◌, ◌<◌, length, false, Ok, IfOk, IfErr, IfSome};
 ghost use Rattle.ion_atoms.specs.declared.refusal.Reason.TheVariants.{Memory};
 ghost use Rattle.ion_tokens.specs.machine.Views.{scanned};
 ghost use Rattle.ion_tokens.specs.Places.{is_name};
 ghost use Rattle.ion_tokens.specs.machine.Rests.{resting};
 ghost use Rattle.ion_text.specs.declared.state.Now.TheVariants as nows;
 ghost use Rattle.ion_text.specs.machine.EachToken.{place};
-ghost use Rattle.ion_text.specs.machine.Nested.{OpensAt, ClosesAt, closed};
-ghost use Rattle.ion_text.specs.machine.Views.{setting_of, spot_of, open_frames, reading_of, Does, SameReader, SameSetting};
+ghost use Rattle.ion_text.specs.machine.Nested.{OpensAt, ClosesAt, open_mark, close_mark};
+ghost use Rattle.ion_text.specs.machine.Views.{reading_of, SameReader};
 ghost use Rattle.ion_text.specs.machine.AtOnce.{Inside, Strides};
 
 use super::TextReader;
-use crate::state::{Effect, Frame, Now};
+use crate::state::{Effect, Frame, Listing, Now};
 use ion_model::Reason;
 use ion_tokens::{Mark, Place, Rest, TokenKind};
+use ion_visiting::Bracket;
 
-// The mark of an open at the front of octets. Behind `{` an octet shows that it begins no lob.
-pub(super) fn open_mark(octets: &[u8]) -> Option<Mark>
+// What the front of octets opens. Behind `{` an octet shows that it begins no lob.
+pub(super) fn bracket_at(octets: &[u8]) -> Option<Bracket>
     requires more { 1 < length octets.now }
-    ensures { IfSome result (λ mark. OpensAt octets.now mark) }
+    ensures { IfSome result (λ bracket. OpensAt octets.now bracket) }
 {
     match octets[0] {
-        b'[' => Some(Mark::ListOpen),
-        b'(' => Some(Mark::SexpOpen),
-        b'{' if octets[1] != b'{' => Some(Mark::FieldsOpen),
+        b'[' => Some(Bracket::List),
+        b'(' => Some(Bracket::Sexp),
+        b'{' if octets[1] != b'{' => Some(Bracket::Fields),
         _ => None,
+    }
+}
+
+// The mark that opens such a container.
+#[inline]
+pub(super) fn open_mark(bracket: Bracket) -> Mark
+    ensures { result ≡ open_mark bracket }
+{
+    match bracket {
+        Bracket::List => Mark::ListOpen,
+        Bracket::Sexp => Mark::SexpOpen,
+        Bracket::Fields => Mark::FieldsOpen,
+    }
+}
+
+// The mark that closes it.
+#[inline]
+pub(super) fn close_mark(bracket: Bracket) -> Mark
+    ensures { result ≡ close_mark bracket }
+{
+    match bracket {
+        Bracket::List => Mark::ListClose,
+        Bracket::Sexp => Mark::SexpClose,
+        Bracket::Fields => Mark::FieldsClose,
     }
 }
 
@@ -50,47 +75,31 @@ impl TextReader<'_> {
         if octets.len() < 2 || !self.may_deepen() {
             return Ok(0);
         }
-        let Some(mark) = open_mark(octets) else {
+        let Some(bracket) = bracket_at(octets) else {
             return Ok(0);
         };
-        let end = rest.used + 1;
-        self.scanner
-            .move_to(rest.past_token(here, TokenKind::Mark(mark), 1));
-        match self.on_mark(end, mark) {
+        self.scanner.move_to(rest.past_token(here, TokenKind::Mark(open_mark(bracket)), 1));
+        match self.open(bracket) {
             Ok(Effect::Goes) => Ok(1),
             Ok(_) => unreachable!(),
             Err(reason) => Err(reason),
         }
     }
 
-    /// The mark that the octet is, if it closes the innermost container, and another stands around
-    /// that.
-    fn close_mark(&self, octet: u8) -> Option<Mark>
-        ensures { IfSome result (λ mark. ClosesAt (reading_of self.now) octet mark) }
+    /// What the octet closes, if that is the innermost container, and another stands around it.
+    fn closing(&self, octet: u8) -> Option<Bracket>
+        ensures { IfSome result (λ bracket. ClosesAt (reading_of self.now) octet bracket) }
     {
         if self.frames.len() < 2 || self.has_notes() {
             return None;
         }
         match (octet, self.frames.last(), &self.stage) {
-            (b']', Some(Frame::List(_, _)), Now::Ready | Now::After) => Some(Mark::ListClose),
-            (b')', Some(Frame::Sexp(_, _)), Now::Ready) => Some(Mark::SexpClose),
-            (b'}', Some(Frame::Fields(_, _)), Now::Name | Now::After) => Some(Mark::FieldsClose),
+            (b']', Some(Frame::Items(Listing::List, _, _)), Now::Ready | Now::After) => {
+                Some(Bracket::List)
+            }
+            (b')', Some(Frame::Items(Listing::Sexp, _, _)), Now::Ready) => Some(Bracket::Sexp),
+            (b'}', Some(Frame::Fields(_, _)), Now::Name | Now::After) => Some(Bracket::Fields),
             _ => None,
-        }
-    }
-
-    /// Behind the mark that closes the innermost container.
-    fn close(&mut self, mark: Mark, end: u64) -> Result<Effect, Reason>
-        requires notes { self.old.notes ≡ [] }
-        ensures does { Does
-            (closed mark (setting_of self.old) (spot_of self.old end) (open_frames self.old))
-            result self.new }
-        ensures setting { SameSetting self.old self.new }
-    {
-        match mark {
-            Mark::ListClose => self.close_list(end),
-            Mark::SexpClose => self.close_sexp(end),
-            _ => self.close_struct(end),
         }
     }
 
@@ -103,7 +112,7 @@ impl TextReader<'_> {
         ensures memory { IfErr result (λ reason. reason ≡ Memory) }
         ensures same { SameReader self.old self.new }
     {
-        let Some(mark) = self.close_mark(octets[0]) else {
+        let Some(bracket) = self.closing(octets[0]) else {
             return Ok(0);
         };
         if octets.len() < 2 {
@@ -111,9 +120,8 @@ impl TextReader<'_> {
         }
         let here = self.place();
         let end = rest.used + 1;
-        self.scanner
-            .move_to(rest.past_token(here, TokenKind::Mark(mark), 1));
-        match self.close(mark, end) {
+        self.scanner.move_to(rest.past_token(here, TokenKind::Mark(close_mark(bracket)), 1));
+        match self.close(bracket, end) {
             Ok(Effect::Goes) => Ok(1),
             _ => Err(Reason::Memory),
         }

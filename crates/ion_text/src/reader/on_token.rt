@@ -13,6 +13,7 @@ use crate::words::{held_word, is_keyword};
 use ion_model::{Payload, Reason, Symbol, Text};
 use ion_scalar::Number;
 use ion_tokens::{Body, Mark, Token};
+use ion_visiting::Bracket;
 use std::mem;
 
 pub(super) fn number_payload(number: Number) -> Payload
@@ -110,11 +111,11 @@ impl TextReader<'_> {
         ensures setting { SameSetting self.old self.new }
     {
         match (mark, self.notes.as_slice().first()) {
-            (Mark::ListOpen, _) => self.open_list(),
-            (Mark::SexpOpen, _) => self.open_sexp(),
-            (Mark::FieldsOpen, _) => self.open_struct(),
-            (Mark::ListClose, None) => self.close_list(end),
-            (Mark::SexpClose, None) => self.close_sexp(end),
+            (Mark::ListOpen, _) => self.open(Bracket::List),
+            (Mark::SexpOpen, _) => self.open(Bracket::Sexp),
+            (Mark::FieldsOpen, _) => self.open(Bracket::Fields),
+            (Mark::ListClose, None) => self.close(Bracket::List, end),
+            (Mark::SexpClose, None) => self.close(Bracket::Sexp, end),
             _ => Err(Reason::Unexpected),
         }
     }
@@ -230,7 +231,7 @@ impl TextReader<'_> {
                 self.set_stage(Now::LongName(text));
                 Ok(Effect::Goes)
             }
-            Body::Mark(Mark::FieldsClose) => self.close_struct(end),
+            Body::Mark(Mark::FieldsClose) => self.close(Bracket::Fields, end),
             other => {
                 drop(other);
                 Err(Reason::Unexpected)
@@ -299,8 +300,8 @@ impl TextReader<'_> {
     {
         match mark {
             Mark::Comma => self.on_comma(),
-            Mark::ListClose => self.close_list(end),
-            Mark::FieldsClose => self.close_struct(end),
+            Mark::ListClose => self.close(Bracket::List, end),
+            Mark::FieldsClose => self.close(Bracket::Fields, end),
             _ => Err(Reason::Unexpected),
         }
     }

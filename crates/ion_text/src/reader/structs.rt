@@ -12,6 +12,7 @@ use super::TextReader;
 use crate::state::{Effect, Now, Taken};
 use ion_model::{Reason, Refusal};
 use ion_tokens::{Mark, Place, Rest, TokenKind};
+use ion_visiting::Bracket;
 
 impl TextReader<'_> {
     /// Where the scanner rests, if no item is open and octets begin with the open of a struct.
@@ -38,7 +39,7 @@ impl TextReader<'_> {
     {
         self.start = rest.used;
         self.scanner.move_to(rest.past_token(Place::Top, TokenKind::Mark(Mark::FieldsOpen), 1));
-        match self.open_struct() {
+        match self.open(Bracket::Fields) {
             Ok(Effect::Goes) => Ok(()),
             Ok(_) => unreachable!(),
             Err(reason) => Err(reason),

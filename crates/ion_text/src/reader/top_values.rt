@@ -6,7 +6,7 @@ ghost use Rattle.ion_text.specs.visiting.Walks.{VisitedBare, VisitedTop};
 
 use super::annotations::walk_notes;
 use super::finders::string_at;
-use super::nested_containers::open_mark;
+use super::nested_containers::bracket_at;
 use super::walks::{Tally, walk_container};
 use ion_tokens::{Place, TokenReader};
 use ion_visiting::TextVisitor;
@@ -46,9 +46,11 @@ fn walk_bare<T: TextVisitor>(
     if octets.len() < 2 {
         return None;
     }
-    match open_mark(octets) {
+    match bracket_at(octets) {
         None => walk_string(octets, level, tally, visitor),
-        Some(mark) => walk_container(beside, Place::Top, mark, octets, level, tally, visitor),
+        Some(bracket) => {
+            walk_container(beside, Place::Top, bracket, octets, level, tally, visitor)
+        }
     }
 }
 

@@ -11,8 +11,8 @@ ghost use Rattle.ion_tokens.specs.declared.mode.TokenKind.TheVariants as tokens;
 ghost use Rattle.ion_tokens.specs.machine.Rests.{past_blank, past_token, IsPassed};
 ghost use Rattle.ion_text.specs.machine.FrontTokens.{BeginsName};
 ghost use Rattle.ion_text.specs.machine.Nested.{OpensAt};
-ghost use Rattle.ion_text.specs.machine.Walked.{close_of, kind_of_open, behind_key};
-ghost use Rattle.ion_text.specs.visiting.Parts.{bracket_of};
+ghost use Rattle.ion_text.specs.machine.Walked.{kind_in, behind_key};
+ghost use Rattle.ion_visiting.specs.declared.bracket.Bracket.TheVariants as brackets;
 ghost use Rattle.ion_visiting.specs.Parts.{payload_of};
 ghost use Rattle.ion_text.specs.visiting.Walks.{FoundPart, FoundNumber, VisitedValue, VisitedItem, VisitedContainer, VisitedInside, VisitedName};
 
@@ -21,7 +21,7 @@ use super::escaped_tokens::may_be_rare;
 use super::finders::{
     Scalar, begins_number, number_at, number_kind, plain_at, rare_part, text_name, word_name,
 };
-use super::nested_containers::open_mark;
+use super::nested_containers::{bracket_at, close_mark, open_mark};
 use super::symbols::{behind_name, behind_symbol};
 use ion_model::{Kind, Outline};
 use ion_scalar::Number;
@@ -165,36 +165,14 @@ impl Tally {
     }
 }
 
-// The mark that closes what this mark opens.
-fn close_of(mark: Mark) -> Mark
-    ensures { result ≡ close_of mark }
+// The kind of such a container.
+fn kind_in(bracket: Bracket) -> Kind
+    ensures { result ≡ kind_in bracket }
 {
-    match mark {
-        Mark::ListOpen => Mark::ListClose,
-        Mark::SexpOpen => Mark::SexpClose,
-        _ => Mark::FieldsClose,
-    }
-}
-
-// The kind of what it opens.
-fn kind_of_open(mark: Mark) -> Kind
-    ensures { result ≡ kind_of_open mark }
-{
-    match mark {
-        Mark::ListOpen => Kind::List,
-        Mark::SexpOpen => Kind::Sexp,
-        _ => Kind::Fields,
-    }
-}
-
-// What it opens, as a visitor takes it.
-fn bracket_of(mark: Mark) -> Bracket
-    ensures { result ≡ bracket_of mark }
-{
-    match mark {
-        Mark::ListOpen => Bracket::List,
-        Mark::SexpOpen => Bracket::Sexp,
-        _ => Bracket::Fields,
+    match bracket {
+        Bracket::List => Kind::List,
+        Bracket::Sexp => Kind::Sexp,
+        Bracket::Fields => Kind::Fields,
     }
 }
 
@@ -451,9 +429,9 @@ fn walk_value<T: TextVisitor>(
     if octets.len() < 2 {
         return None;
     }
-    match open_mark(octets) {
+    match bracket_at(octets) {
         None => walk_scalar(beside, here, octets, level, tally, visitor),
-        Some(mark) => walk_container(beside, here, mark, octets, level, tally, visitor),
+        Some(bracket) => walk_container(beside, here, bracket, octets, level, tally, visitor),
     }
 }
 
@@ -513,30 +491,30 @@ fn walk_item<T: TextVisitor>(
 pub(super) fn walk_container<T: TextVisitor>(
     beside: &mut TokenReader,
     here: Place,
-    mark: Mark,
+    bracket: Bracket,
     octets: &[u8],
     level: u32,
     tally: &mut Tally,
     visitor: &mut T,
 ) -> Option<usize>
     requires more { 1 < length octets.now }
-    requires opens { OpensAt octets.now mark }
+    requires opens { OpensAt octets.now bracket }
     requires room { tally.old.rest.used + length octets.now < 2 ^ 63 }
-    ensures { IfSome result (λ count. VisitedContainer T.visits here mark level octets.now count
+    ensures { IfSome result (λ count. VisitedContainer T.visits here bracket level octets.now count
         tally.old tally.new visitor.old visitor.new) }
 {
     if level == 0 {
         return None;
     }
-    let kept = visitor.open(bracket_of(mark))?;
+    let kept = visitor.open(bracket)?;
     tally.level = tally.level.min(level - 1);
-    tally.pass_token(here, TokenKind::Mark(mark), 1);
-    let count = walk_inside(beside, mark, &octets[1..], level - 1, tally, visitor)?;
-    if !visitor.close(bracket_of(mark), kept) {
+    tally.pass_token(here, TokenKind::Mark(open_mark(bracket)), 1);
+    let count = walk_inside(beside, bracket, &octets[1..], level - 1, tally, visitor)?;
+    if !visitor.close(bracket, kept) {
         return None;
     }
-    tally.pass_token(here, TokenKind::Mark(close_of(mark)), 1);
-    tally.count_node(kind_of_open(mark));
+    tally.pass_token(here, TokenKind::Mark(close_mark(bracket)), 1);
+    tally.count_node(kind_in(bracket));
     Some(count + 2)
 }
 
@@ -544,7 +522,7 @@ pub(super) fn walk_container<T: TextVisitor>(
 #[cycle(walk)]
 fn walk_inside<T: TextVisitor>(
     beside: &mut TokenReader,
-    mark: Mark,
+    bracket: Bracket,
     octets: &[u8],
     level: u32,
     tally: &mut Tally,
@@ -552,14 +530,13 @@ fn walk_inside<T: TextVisitor>(
 ) -> Option<usize>
     requires low { tally.old.level ≤ level }
     requires room { tally.old.rest.used + length octets.now < 2 ^ 63 }
-    ensures { IfSome result (λ count. VisitedInside T.visits mark level octets.now count
+    ensures { IfSome result (λ count. VisitedInside T.visits bracket level octets.now count
         tally.old tally.new visitor.old visitor.new) }
 {
-    match mark {
-        Mark::ListOpen => walk_list(beside, octets, level, tally, visitor),
-        Mark::SexpOpen => walk_sexp(beside, octets, level, tally, visitor),
-        Mark::FieldsOpen => walk_struct(beside, octets, level, tally, visitor),
-        _ => None,
+    match bracket {
+        Bracket::List => walk_list(beside, octets, level, tally, visitor),
+        Bracket::Sexp => walk_sexp(beside, octets, level, tally, visitor),
+        Bracket::Fields => walk_struct(beside, octets, level, tally, visitor),
     }
 }
 
@@ -575,7 +552,7 @@ fn walk_list<T: TextVisitor>(
 ) -> Option<usize>
     requires low { tally.old.level ≤ level }
     requires room { tally.old.rest.used + length octets.now < 2 ^ 63 }
-    ensures { IfSome result (λ count. VisitedInside T.visits marks.ListOpen level octets.now count
+    ensures { IfSome result (λ count. VisitedInside T.visits brackets.List level octets.now count
         tally.old tally.new visitor.old visitor.new) }
 {
     let mut at = 0;
@@ -610,7 +587,7 @@ fn walk_sexp<T: TextVisitor>(
 ) -> Option<usize>
     requires low { tally.old.level ≤ level }
     requires room { tally.old.rest.used + length octets.now < 2 ^ 63 }
-    ensures { IfSome result (λ count. VisitedInside T.visits marks.SexpOpen level octets.now count
+    ensures { IfSome result (λ count. VisitedInside T.visits brackets.Sexp level octets.now count
         tally.old tally.new visitor.old visitor.new) }
 {
     let mut at = 0;
@@ -637,7 +614,7 @@ fn walk_struct<T: TextVisitor>(
 ) -> Option<usize>
     requires low { tally.old.level ≤ level }
     requires room { tally.old.rest.used + length octets.now < 2 ^ 63 }
-    ensures { IfSome result (λ count. VisitedInside T.visits marks.FieldsOpen level octets.now count
+    ensures { IfSome result (λ count. VisitedInside T.visits brackets.Fields level octets.now count
         tally.old tally.new visitor.old visitor.new) }
 {
     let mut at = 0;

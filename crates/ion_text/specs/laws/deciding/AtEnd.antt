@@ -39,7 +39,7 @@ use Rattle.ion_text.specs.laws.reading.sound.Held.{Behind, NoLongText, Reads, Sc
 use Rattle.ion_text.specs.laws.reading.complete.Meets.{end_spans}
 use Rattle.ion_text.specs.laws.reading.sound.Quotes.{left_none}
 use Rattle.ion_text.specs.laws.reading.complete.Segments.{never}
-use Rattle.ion_text.specs.laws.reading.sound.Sound.{NowStands, PendingFor}
+use Rattle.ion_text.specs.laws.reading.sound.StandsOpen.{NowStands, PendingFor}
 use Rattle.ion_text.specs.laws.reading.sound.Steps.{StoodBehind, run_ran, begun_stood}
 use Rattle.ion_text.specs.laws.reading.Stops.{stood_used}
 use Rattle.ion_text.specs.laws.showing.tokens.Cuts.{lexed_front}

@@ -11,8 +11,9 @@ use Rattle.ion_tokens.specs.Bodies.{Content, Quoted, Long, Mark'}
 use Rattle.ion_tokens.specs.Lexed.{Placed}
 use Rattle.ion_text.specs.declared.state.Frame.{Frame}
 use Rattle.ion_text.specs.declared.state.Frame.TheVariants as frames
+use Rattle.ion_text.specs.declared.state.Listing.TheVariants as listings
 use Rattle.ion_text.specs.declared.state.Now.TheVariants as nows
-use Rattle.ion_text.specs.Grammar.{Says, IsName, Annotations, ends_long, begins_as_long}
+use Rattle.ion_text.specs.Grammar.{Says, IsName, Annotations, Members, ends_long, begins_as_long}
 use Rattle.ion_text.specs.Deciding.{Container, InList, InSexp, InStruct, InField, place_of, TakesValue, Open, none_open, list_open, sexp_open, struct_open, named, Comes}
 use Rattle.ion_text.specs.machine.EachToken.{Symbols, at, fresh}
 use Rattle.ion_text.specs.machine.TokenLists.{adds_values, reads}
@@ -20,11 +21,15 @@ use Rattle.ion_text.specs.laws.reading.complete.Complete.{Begins, notes_begin, s
 use Rattle.ion_text.specs.laws.reading.sound.Depths.{Deep}
 use Rattle.ion_text.specs.laws.reading.sound.MarkerWords.{both_not}
 use Rattle.ion_text.specs.laws.reading.complete.Pieces.{pieces_read, more_read}
-use Rattle.ion_text.specs.laws.reading.sound.Sound.{Opened, Receives, ReadyFor, value_place}
+use Rattle.ion_text.specs.laws.reading.sound.StandsOpen.{Around, Items, Opened, Receives, ReadyFor, value_place}
 use Rattle.ion_text.specs.laws.reading.complete.Tokens.{neither}
 use Rattle.ion_text.specs.laws.showing.tokens.Stays.{ready_outer, token_behind, name_there}
 use Rattle.ion_text.specs.laws.deciding.Openings.{containers, place_same, levels_same}
 use Rattle.ion_text.specs.laws.deciding.Fronts.{origin, Came, SettlesTo, stands_read, ready_settles, struct_settles}
+use Rattle.ion_visiting.specs.declared.bracket.Bracket.{Bracket}
+use Rattle.ion_visiting.specs.declared.bracket.Bracket.TheVariants as brackets
+use Rattle.ion_text.specs.machine.Nested.{bracket_in, open_mark}
+use Rattle.ion_text.specs.laws.reading.Brackets.{no_colons}
 
 -- What stands open is what the reader would hold.
 pub record Framed (l : Limits) (c : List Slot) (ks : List Container) (ts : List Placed) : Type 0 where
@@ -35,8 +40,7 @@ pub record Framed (l : Limits) (c : List Slot) (ks : List Container) (ts : List 
 
 receives : (fs : List Frame) → TakesValue (containers fs) → Receives fs
 receives [] h = tt
-receives (frames.List ss vs ∷ fs) h = tt
-receives (frames.Sexp ss vs ∷ fs) h = tt
+receives (frames.Items listing ss vs ∷ fs) h = tt
 receives (frames.Fields ss ms ∷ fs) h = absurd h
 receives (frames.Named ss ms s ∷ fs) h = tt
 
@@ -87,69 +91,47 @@ module _ (l : Limits) (c : List Slot) where
         deep = d;
       }
   named_frames ks ts ns s colon n k [] e o d = absurd cc
-  named_frames ks ts ns s colon n k (frames.List ss vs ∷ fs) e o d = absurd cc
-  named_frames ks ts ns s colon n k (frames.Sexp ss vs ∷ fs) e o d = absurd cc
+  named_frames ks ts ns s colon n k (frames.Items listings.List ss vs ∷ fs) e o d = absurd cc
+  named_frames ks ts ns s colon n k (frames.Items listings.Sexp ss vs ∷ fs) e o d = absurd cc
   named_frames ks ts ns s colon n k (frames.Named ss ms x ∷ fs) e o d = absurd cc
+
+  -- a container stands open in what does
+  around : (bracket : Bracket) (Body : List Placed → Type 0) (ks : List Container) (ts notes us : List Placed) (ss : Symbols) (t : Placed)
+      → (f : Framed l c ks ts) → TakesValue ks → Annotations c (place_of ks) notes ss → Says (place_of ks) t (Mark' (open_mark bracket)) → Body us
+      → Around c f.held ss (ts ++ (notes ++ t ∷ us)) bracket (λ front. Opened c f.held front true) Body
+  around bracket Body ks ts notes us ss t f takes a says items = record {
+    front = ts;
+    notes = notes;
+    body = us;
+    open' = t;
+    whole = refl;
+    outer = f.opened;
+    receives = receives f.held (subst TakesValue (sym f.same) takes);
+    noted = noted_so ks f.held notes ss f.same a;
+    opens = says_so ks f.held t (Mark' (open_mark bracket)) f.same says;
+    items = items;
+  }
 
   pub framed : (ks : List Container) (ts : List Placed) → Open l c ks ts → Framed l c ks ts
   framed _ _ none_open = record { held = []; same = refl; opened = refl; deep = tt }
-  framed _ _ (list_open ks ts notes us ss t vs o takes a says items deep) =
-      let f = framed ks ts o in
-      record {
-        held = frames.List ss vs ∷ f.held;
-        same = ap (λ x. InList ∷ x) f.same;
-        opened = record {
-          front = ts;
-          notes = notes;
-          body = us;
-          open' = t;
-          whole = refl;
-          outer = f.opened;
-          receives = receives f.held (subst TakesValue (sym f.same) takes);
-          noted = noted_so ks f.held notes ss f.same a;
-          opens = says_so ks f.held t (Mark' marks.ListOpen) f.same says;
-          items = items;
-        };
-        deep = (shallow ks f.held _ f.same deep, f.deep);
-      }
-  framed _ _ (sexp_open ks ts notes us ss t vs o takes a says items deep) =
-      let f = framed ks ts o in
-      record {
-        held = frames.Sexp ss vs ∷ f.held;
-        same = ap (λ x. InSexp ∷ x) f.same;
-        opened = record {
-          front = ts;
-          notes = notes;
-          body = us;
-          open' = t;
-          whole = refl;
-          outer = f.opened;
-          receives = receives f.held (subst TakesValue (sym f.same) takes);
-          noted = noted_so ks f.held notes ss f.same a;
-          opens = says_so ks f.held t (Mark' marks.SexpOpen) f.same says;
-          items = items;
-        };
-        deep = (shallow ks f.held _ f.same deep, f.deep);
-      }
-  framed _ _ (struct_open ks ts notes us ss t ms o takes a says items deep) =
-      let f = framed ks ts o in
-      record {
-        held = frames.Fields ss ms ∷ f.held;
-        same = ap (λ x. InStruct ∷ x) f.same;
-        opened = record {
-          front = ts;
-          notes = notes;
-          body = us;
-          open' = t;
-          whole = refl;
-          outer = f.opened;
-          receives = receives f.held (subst TakesValue (sym f.same) takes);
-          noted = noted_so ks f.held notes ss f.same a;
-          opens = says_so ks f.held t (Mark' marks.FieldsOpen) f.same says;
-          items = items;
-        };
-        deep = (shallow ks f.held _ f.same deep, f.deep);
-      }
+  framed _ _ (list_open ks ts notes us ss t vs o takes a says items deep) = let f = framed ks ts o in record {
+    held = frames.Items listings.List ss vs ∷ f.held;
+    same = ap (λ x. InList ∷ x) f.same;
+    opened = around brackets.List (Items c listings.List vs true) ks ts notes us ss t f takes a says items;
+    deep = (shallow ks f.held _ f.same deep, f.deep);
+  }
+  framed _ _ (sexp_open ks ts notes us ss t vs o takes a says items deep) = let f = framed ks ts o in record {
+    held = frames.Items listings.Sexp ss vs ∷ f.held;
+    same = ap (λ x. InSexp ∷ x) f.same;
+    opened = around brackets.Sexp (Items c listings.Sexp vs true) ks ts notes us ss t f takes a says items;
+    deep = (shallow ks f.held _ f.same deep, f.deep);
+  }
+  framed _ _ (struct_open ks ts notes us ss t ms o takes a says items deep) = let f = framed ks ts o in record {
+    held = frames.Fields ss ms ∷ f.held;
+    same = ap (λ x. InStruct ∷ x) f.same;
+    opened = around brackets.Fields (λ body. Members c body ms true) ks ts notes us ss t f takes a says items;
+    deep = (shallow ks f.held _ f.same deep, f.deep);
+  }
   framed _ _ (named ks ts ns s colon o n k) =
       let f = framed (InStruct ∷ ks) ts o in
       named_frames ks ts ns s colon n k f.held f.same f.opened f.deep
@@ -175,10 +157,8 @@ module _ (g : Catalog) (l : Limits) where
   opened_begins : (c : List Slot) (fs : List Frame) (ts us : List Placed) → Opened c fs ts true → Begins g l (value_place fs) us
       → Begins g l places.Top (ts ++ us)
   opened_begins c [] ts us o b = subst (λ x. Begins g l places.Top (x ++ us)) (sym o) b
-  opened_begins c (frames.List ss vs ∷ fs) ts us o b = item_begins c fs ts us o.front o.notes o.body ss o.open' (Mark' marks.ListOpen) o.whole o.noted o.opens
-      (λ e. cc) (λ x d. opened_begins c fs o.front x o.outer d)
-  opened_begins c (frames.Sexp ss vs ∷ fs) ts us o b = item_begins c fs ts us o.front o.notes o.body ss o.open' (Mark' marks.SexpOpen) o.whole o.noted o.opens
-      (λ e. cc) (λ x d. opened_begins c fs o.front x o.outer d)
+  opened_begins c (frames.Items listing ss vs ∷ fs) ts us o b = item_begins c fs ts us o.front o.notes o.body ss o.open'
+      (Mark' (open_mark (bracket_in listing))) o.whole o.noted o.opens (no_colons (bracket_in listing)) (λ x d. opened_begins c fs o.front x o.outer d)
   opened_begins c (frames.Fields ss ms ∷ fs) ts us o b = item_begins c fs ts us o.front o.notes o.body ss o.open' (Mark' marks.FieldsOpen) o.whole o.noted
       o.opens (λ e. cc) (λ x d. opened_begins c fs o.front x o.outer d)
   opened_begins c (frames.Named ss ms s ∷ fs) ts us o b = item_begins c fs ts us o.front o.notes (o.body ++ (o.name ++ o.colon ∷ [])) ss o.open'
@@ -260,8 +240,8 @@ module _ (g : Catalog) (l : Limits) where
       → Struct c ts
   struct_of c ks ts (frames.Fields ss ms ∷ fs) e o d = record { notes = ss; fields = ms; outer = fs; opened = o; deep = d }
   struct_of c ks ts [] e o d = absurd cc
-  struct_of c ks ts (frames.List ss vs ∷ fs) e o d = absurd cc
-  struct_of c ks ts (frames.Sexp ss vs ∷ fs) e o d = absurd cc
+  struct_of c ks ts (frames.Items listings.List ss vs ∷ fs) e o d = absurd cc
+  struct_of c ks ts (frames.Items listings.Sexp ss vs ∷ fs) e o d = absurd cc
   struct_of c ks ts (frames.Named ss ms x ∷ fs) e o d = absurd cc
 
   module _ (c : List Slot) (ks : List Container) (said : Content) (ts : List Placed) (h : Comes g l c (InStruct ∷ ks) said ts) where

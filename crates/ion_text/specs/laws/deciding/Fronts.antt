@@ -33,7 +33,7 @@ use Rattle.ion_text.specs.laws.reading.complete.Found.{next_is}
 use Rattle.ion_text.specs.laws.reading.complete.Going.{says_so, mark_kind}
 use Rattle.ion_text.specs.laws.reading.sound.Held.{none_open, opened_some}
 use Rattle.ion_text.specs.laws.reading.complete.Pieces.{pieces_read, more_read, top_now, walked_now}
-use Rattle.ion_text.specs.laws.reading.sound.Sound.{NowStands, Opened}
+use Rattle.ion_text.specs.laws.reading.sound.StandsOpen.{NowStands, Opened}
 use Rattle.ion_text.specs.laws.reading.sound.Steps.{Stood}
 use Rattle.ion_text.specs.laws.reading.Stops.{stood_used}
 use Rattle.ion_text.specs.laws.showing.tokens.Compare.{Found', alone, placed_same}

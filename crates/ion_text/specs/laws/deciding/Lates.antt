@@ -33,9 +33,11 @@ use Rattle.ion_text.specs.declared.state.Now.{Now}
 use Rattle.ion_text.specs.declared.state.Now.TheVariants as nows
 use Rattle.ion_text.specs.declared.state.Frame.{Frame}
 use Rattle.ion_text.specs.declared.state.Frame.TheVariants as frames
+use Rattle.ion_visiting.specs.declared.bracket.Bracket.TheVariants as brackets
+use Rattle.ion_text.specs.declared.state.Listing.TheVariants as listings
 use Rattle.ion_text.specs.Grammar.{is_keyword}
 use Rattle.ion_text.specs.Deciding.{HasRow}
-use Rattle.ion_text.specs.machine.EachToken.{Setting, Spot, under, spot_at, Reading, Turn, goes, gives, refuses, late, Token, Symbols, at, fresh, place, settle, turn, turn_now, ended, within, turned, held_symbol, on_ready, on_pending, on_long, on_after, on_name, on_long_name, on_keyed, on_comma, resolved, noted, keyed, named, list_closed, sexp_closed, struct_closed, bare_close, begun_at, spot_in}
+use Rattle.ion_text.specs.machine.EachToken.{Setting, Spot, under, spot_at, Reading, Turn, goes, gives, refuses, late, Token, Symbols, at, fresh, place, settle, turn, turn_now, ended, within, turned, held_symbol, on_ready, on_pending, on_long, on_after, on_name, on_long_name, on_keyed, on_comma, resolved, noted, keyed, named, opened, first_now, beyond_depth, opening, closed, bare_close, deeper, begun_at, spot_in}
 use Rattle.ion_visiting.specs.Parts.{number_payload}
 use Rattle.ion_text.specs.machine.Run.{State, Effect, uses, fails, takes, unsettled, noticed, shut, reaches, on_scan, on_settled, on_said, behind_given, behind_left, with_scan, token_of}
 use Rattle.ion_text.specs.machine.Passed.{said_body}
@@ -43,6 +45,8 @@ use Rattle.ion_text.specs.laws.reading.complete.Accepts.{mark_said}
 use Rattle.ion_text.specs.laws.reading.complete.Fuel.{UsedHere}
 use Rattle.ion_text.specs.laws.reading.complete.Meets.{IdleLeft, idle_left}
 use Rattle.ion_text.specs.laws.deciding.Shows.{BareSaid}
+use Rattle.ion_text.specs.laws.reading.Brackets.{Closes, ends_list, ends_sexp, ends_struct, ends_none, closes_or_not}
+use Rattle.ion_visiting.specs.declared.bracket.Bracket.{Bracket}
 
 -- 1. Reasons of octets and tokens.
 
@@ -155,8 +159,7 @@ top_late P item start end c v d false = within_late P item start end (gives v (f
 
 pub ended_late : (P : Reading → Type 0) (setting : Setting) (spot : Spot) (fs : List Frame) (v : Value) → TurnLate P (ended setting spot fs v)
 ended_late P setting spot [] v = top_late P setting.limits.item spot.start spot.end spot.context v (next spot.context v setting.catalog) (is_table v)
-ended_late P setting spot (frames.List ss vs ∷ fs) v = tt
-ended_late P setting spot (frames.Sexp ss vs ∷ fs) v = tt
+ended_late P setting spot (frames.Items listing ss vs ∷ fs) v = tt
 ended_late P setting spot (frames.Named ss ms s ∷ fs) v = tt
 ended_late P setting spot (frames.Fields ss ms ∷ fs) v = tt
 
@@ -165,26 +168,21 @@ resolved_late : (P : Reading → Type 0) (r : Result (Option (List ℕ)) Reason)
 resolved_late P (Ok s) f h = h s
 resolved_late P (Err e) f h = tt
 
-list_late : (P : Reading → Type 0) (setting : Setting) (spot : Spot) (fs : List Frame) → TurnLate P (list_closed setting spot fs)
-list_late P setting spot (frames.List ss vs ∷ fs) = ended_late P setting spot fs _
-list_late P setting spot (frames.Sexp ss vs ∷ fs) = tt
-list_late P setting spot (frames.Fields ss vs ∷ fs) = tt
-list_late P setting spot (frames.Named ss vs s ∷ fs) = tt
-list_late P setting spot [] = tt
+closed_late : (P : Reading → Type 0) (setting : Setting) (spot : Spot) (bracket : Bracket) (fs : List Frame) → TurnLate P (closed bracket setting spot fs)
+closed_late P setting spot bracket fs = by bracket fs (closes_or_not bracket fs)
+  where
+    by : (bracket : Bracket) (fs : List Frame) → Closes bracket fs → TurnLate P (closed bracket setting spot fs)
+    by _ _ (ends_list ss vs fs) = ended_late P setting spot fs _
+    by _ _ (ends_sexp ss vs fs) = ended_late P setting spot fs _
+    by _ _ (ends_struct ss ms fs) = ended_late P setting spot fs _
+    by _ _ (ends_none bracket fs e) = subst (TurnLate P) (sym (e setting spot)) tt
 
-sexp_late : (P : Reading → Type 0) (setting : Setting) (spot : Spot) (fs : List Frame) → TurnLate P (sexp_closed setting spot fs)
-sexp_late P setting spot (frames.Sexp ss vs ∷ fs) = ended_late P setting spot fs _
-sexp_late P setting spot (frames.List ss vs ∷ fs) = tt
-sexp_late P setting spot (frames.Fields ss vs ∷ fs) = tt
-sexp_late P setting spot (frames.Named ss vs s ∷ fs) = tt
-sexp_late P setting spot [] = tt
-
-struct_late : (P : Reading → Type 0) (setting : Setting) (spot : Spot) (fs : List Frame) → TurnLate P (struct_closed setting spot fs)
-struct_late P setting spot (frames.Fields ss vs ∷ fs) = ended_late P setting spot fs _
-struct_late P setting spot (frames.List ss vs ∷ fs) = tt
-struct_late P setting spot (frames.Sexp ss vs ∷ fs) = tt
-struct_late P setting spot (frames.Named ss vs s ∷ fs) = tt
-struct_late P setting spot [] = tt
+deeper_late : (P : Reading → Type 0) (depth : ℕ) (fs : List Frame) (t deep : Turn) → TurnLate P t → TurnLate P deep → TurnLate P (deeper depth fs t deep)
+deeper_late P depth fs t deep h k = go (nat_lt (length fs) depth)
+  where
+    go : (b : Bool) → TurnLate P (if b then t else deep)
+    go true = h
+    go false = k
 
 bare_late : (P : Reading → Type 0) (ss : Symbols) (t : Turn) → TurnLate P t → TurnLate P (bare_close ss t)
 bare_late P [] t h = h
@@ -208,18 +206,8 @@ module _ (g : Catalog) (l : Limits) where
   ready_late spot fs ss (Operator w) = ended_late (LateAs (Operator w)) (under g l) spot fs _
   ready_late spot fs ss (Clob w) = ended_late (LateAs (Clob w)) (under g l) spot fs _
   ready_late spot fs ss (Blob w) = ended_late (LateAs (Blob w)) (under g l) spot fs _
-  ready_late spot fs ss (Mark' marks.ListOpen) = go (nat_lt (length fs) l.depth)
-    where
-      go : (b : Bool) → TurnLate (LateAs (Mark' marks.ListOpen))
-          (if b then goes (at spot.start spot.context (frames.List ss [] ∷ fs) [] nows.Ready) else refuses reasons.Depth)
-      go true = tt
-      go false = tt
-  ready_late spot fs ss (Mark' marks.SexpOpen) = go (nat_lt (length fs) l.depth)
-    where
-      go : (b : Bool) → TurnLate (LateAs (Mark' marks.SexpOpen))
-          (if b then goes (at spot.start spot.context (frames.Sexp ss [] ∷ fs) [] nows.Ready) else refuses reasons.Depth)
-      go true = tt
-      go false = tt
+  ready_late spot fs ss (Mark' marks.ListOpen) = deeper_late (LateAs (Mark' marks.ListOpen)) l.depth fs _ _ tt tt
+  ready_late spot fs ss (Mark' marks.SexpOpen) = deeper_late (LateAs (Mark' marks.SexpOpen)) l.depth fs _ _ tt tt
   ready_late spot fs ss (Mark' marks.FieldsOpen) = go (nat_lt (length fs) l.depth) refl
     where
       inside : (fs : List Frame) → nat_lt (length fs) l.depth ≡ false
@@ -233,9 +221,9 @@ module _ (g : Catalog) (l : Limits) where
       go true e = tt
       go false e = inside fs e
   ready_late spot fs ss (Mark' marks.ListClose) = bare_late (LateAs (Mark' marks.ListClose)) ss _
-      (list_late (LateAs (Mark' marks.ListClose)) (under g l) spot fs)
+      (closed_late (LateAs (Mark' marks.ListClose)) (under g l) spot brackets.List fs)
   ready_late spot fs ss (Mark' marks.SexpClose) = bare_late (LateAs (Mark' marks.SexpClose)) ss _
-      (sexp_late (LateAs (Mark' marks.SexpClose)) (under g l) spot fs)
+      (closed_late (LateAs (Mark' marks.SexpClose)) (under g l) spot brackets.Sexp fs)
   ready_late spot fs ss (Mark' marks.FieldsClose) = tt
   ready_late spot fs ss (Mark' marks.Comma) = tt
   ready_late spot fs ss (Mark' marks.Colon) = tt
@@ -247,16 +235,16 @@ module _ (g : Catalog) (l : Limits) where
   noted_late start c fs ss (Err e) = behind_colons (at start c fs (ss ++ None ∷ []) nows.Ready) refl
 
   comma_late : (x : Content) (start : ℕ) (c : List Slot) (fs : List Frame) → TurnLate (LateAs x) (on_comma start c fs)
-  comma_late x start c (frames.List ss vs ∷ fs) = tt
+  comma_late x start c (frames.Items listings.List ss vs ∷ fs) = tt
   comma_late x start c (frames.Fields ss ms ∷ fs) = tt
-  comma_late x start c (frames.Sexp ss vs ∷ fs) = tt
+  comma_late x start c (frames.Items listings.Sexp ss vs ∷ fs) = tt
   comma_late x start c (frames.Named ss ms s ∷ fs) = tt
   comma_late x start c [] = tt
 
   after_late : (spot : Spot) (fs : List Frame) (x : Content) → TurnLate (LateAs x) (on_after (under g l) spot fs x)
   after_late spot fs (Mark' marks.Comma) = comma_late (Mark' marks.Comma) spot.start spot.context fs
-  after_late spot fs (Mark' marks.ListClose) = list_late (LateAs (Mark' marks.ListClose)) (under g l) spot fs
-  after_late spot fs (Mark' marks.FieldsClose) = struct_late (LateAs (Mark' marks.FieldsClose)) (under g l) spot fs
+  after_late spot fs (Mark' marks.ListClose) = closed_late (LateAs (Mark' marks.ListClose)) (under g l) spot brackets.List fs
+  after_late spot fs (Mark' marks.FieldsClose) = closed_late (LateAs (Mark' marks.FieldsClose)) (under g l) spot brackets.Fields fs
   after_late spot fs _ = tt
 
   name_late : (spot : Spot) (fs : List Frame) (x : Content) → TurnLate (LateAs x) (on_name (under g l) spot fs x)
@@ -268,13 +256,12 @@ module _ (g : Catalog) (l : Limits) where
       go false = tt
   name_late spot fs (TypedNull k) = behind_name tt spot.start spot.context fs [] None
   name_late spot fs (Id id) = resolved_late (LateAs (Id id)) (resolve spot.context id) _ (λ s. tt)
-  name_late spot fs (Mark' marks.FieldsClose) = struct_late (LateAs (Mark' marks.FieldsClose)) (under g l) spot fs
+  name_late spot fs (Mark' marks.FieldsClose) = closed_late (LateAs (Mark' marks.FieldsClose)) (under g l) spot brackets.Fields fs
   name_late spot fs _ = tt
 
   named_late : (x : Content) (start : ℕ) (c : List Slot) (fs : List Frame) (s : Option (List ℕ)) → TurnLate (LateAs x) (named start c fs s)
   named_late x start c (frames.Fields ss ms ∷ fs) s = tt
-  named_late x start c (frames.List ss vs ∷ fs) s = tt
-  named_late x start c (frames.Sexp ss vs ∷ fs) s = tt
+  named_late x start c (frames.Items listing ss vs ∷ fs) s = tt
   named_late x start c (frames.Named ss ms y ∷ fs) s = tt
   named_late x start c [] s = tt
 
@@ -330,8 +317,7 @@ module _ (g : Catalog) (l : Limits) where
 
   named_quiet : (t : Known) (start : ℕ) (c : List Slot) (fs : List Frame) (s : Option (List ℕ)) → NotLate (behind_given l t (named start c fs s))
   named_quiet t start c (frames.Fields ss ms ∷ fs) s = noticed_quiet l (at start c (frames.Named ss ms s ∷ fs) [] nows.Ready) t
-  named_quiet t start c (frames.List ss vs ∷ fs) s = λ i. i
-  named_quiet t start c (frames.Sexp ss vs ∷ fs) s = λ i. i
+  named_quiet t start c (frames.Items listing ss vs ∷ fs) s = λ i. i
   named_quiet t start c (frames.Named ss ms y ∷ fs) s = λ i. i
   named_quiet t start c [] s = λ i. i
 
@@ -350,8 +336,10 @@ module _ (g : Catalog) (l : Limits) where
       (used_quiet (λ m. takes g l n m o) (place r) s o r (λ y t e x f. keyed_given t start c fs k x) (feed (place r) s o) refl (once (place r)))
 
   closed_quiet : (t : Known) (spot : Spot) (f : Frame) (fs : List Frame) (v : Value) → NotLate (behind_given l t (ended (under g l) spot (f ∷ fs) v))
-  closed_quiet t spot (frames.List ss vs) fs v = noticed_quiet l (at spot.start spot.context (frames.List ss (vs ++ v ∷ []) ∷ fs) [] nows.After) t
-  closed_quiet t spot (frames.Sexp ss vs) fs v = noticed_quiet l (at spot.start spot.context (frames.Sexp ss (vs ++ v ∷ []) ∷ fs) [] nows.Ready) t
+  closed_quiet t spot (frames.Items listings.List ss vs) fs v =
+      noticed_quiet l (at spot.start spot.context (frames.Items listings.List ss (vs ++ v ∷ []) ∷ fs) [] nows.After) t
+  closed_quiet t spot (frames.Items listings.Sexp ss vs) fs v =
+      noticed_quiet l (at spot.start spot.context (frames.Items listings.Sexp ss (vs ++ v ∷ []) ∷ fs) [] nows.Ready) t
   closed_quiet t spot (frames.Named ss ms s) fs v = noticed_quiet l (at spot.start spot.context (frames.Fields ss (ms ++ field_of s v ∷ []) ∷ fs) [] nows.After)
       t
   closed_quiet t spot (frames.Fields ss ms) fs v = λ i. i
@@ -398,6 +386,13 @@ module _ (g : Catalog) (l : Limits) where
       go true = tt
       go false = λ i. i
 
+  fresh_open : (t : Known) (start : ℕ) (c : List Slot) (bracket : Bracket) → NotLate (behind_given l t (opening bracket l.depth start c [] []))
+  fresh_open t start c bracket = subst (λ b. NotLate (behind_given l t (if b then goes inside else beyond_depth bracket inside))) (sym some_level)
+      (noticed_quiet l inside t)
+    where
+      inside : Reading
+      inside = at start c (opened bracket [] ∷ []) [] (first_now bracket)
+
   fresh_given : (t : Known) (start end : ℕ) (c : List Slot) (x : Content) → (BareSaid x → ⊥)
       → NotLate (behind_given l t (on_ready (under g l) (spot_at end start c) [] [] x))
   fresh_given t start end c (Word w) n = absurd (n tt)
@@ -410,12 +405,8 @@ module _ (g : Catalog) (l : Limits) where
   fresh_given t start end c (Operator w) n = fresh_ended t start end c (payloads.Symbol (Some w))
   fresh_given t start end c (Clob w) n = fresh_ended t start end c (payloads.Clob w)
   fresh_given t start end c (Blob w) n = fresh_ended t start end c (payloads.Blob w)
-  fresh_given t start end c (Mark' marks.ListOpen) n =
-      subst (λ b. NotLate (behind_given l t (if b then goes (at start c (frames.List [] [] ∷ []) [] nows.Ready) else refuses reasons.Depth))) (sym some_level)
-      (noticed_quiet l (at start c (frames.List [] [] ∷ []) [] nows.Ready) t)
-  fresh_given t start end c (Mark' marks.SexpOpen) n =
-      subst (λ b. NotLate (behind_given l t (if b then goes (at start c (frames.Sexp [] [] ∷ []) [] nows.Ready) else refuses reasons.Depth))) (sym some_level)
-      (noticed_quiet l (at start c (frames.Sexp [] [] ∷ []) [] nows.Ready) t)
+  fresh_given t start end c (Mark' marks.ListOpen) n = fresh_open t start c brackets.List
+  fresh_given t start end c (Mark' marks.SexpOpen) n = fresh_open t start c brackets.Sexp
   fresh_given t start end c (Mark' marks.FieldsOpen) n = absurd (n tt)
   fresh_given t start end c (Mark' _) n = λ i. i
 

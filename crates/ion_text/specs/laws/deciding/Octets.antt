@@ -40,7 +40,7 @@ use Rattle.ion_text.specs.laws.reading.complete.Meets.{finely_as}
 use Rattle.ion_text.specs.machine.Places.{Leading, settle_same}
 use Rattle.ion_text.specs.laws.reading.sound.Quotes.{Finely}
 use Rattle.ion_text.specs.laws.reading.complete.Segments.{never}
-use Rattle.ion_text.specs.laws.reading.sound.Sound.{NowStands, PendingFor}
+use Rattle.ion_text.specs.laws.reading.sound.StandsOpen.{NowStands, PendingFor}
 use Rattle.ion_text.specs.laws.reading.sound.Steps.{Stood, StoodBehind, After, eats_after, left_reads, open_at, run_ran, begun_stood}
 use Rattle.ion_text.specs.laws.reading.Stops.{behind_run, refused_run, stop_of, stop_taken}
 use Rattle.ion_text.specs.laws.reading.complete.Tokens.{left_colons}

@@ -30,6 +30,7 @@ use Rattle.ion_text.specs.laws.deciding.Fronts.{origin, Came, Either, HasEnded, 
 use Rattle.ion_text.specs.laws.deciding.Shows.{IsBare, BareSaid, said_bare}
 use Rattle.ion_text.specs.laws.deciding.Tokens.{Refusing, one_refusing, Why, by_itself, as_colons, why_once, Stops, ended_by_rest, bare_ended, mark_ended, id_stops, keyword_stops, keyword_note_stops, open_stops, table_stops}
 use Rattle.ion_text.specs.laws.deciding.Waiting.{Pends, pend, settling_stops, colons_next, colons_shown, version_pends, null_pends}
+use Rattle.ion_visiting.specs.declared.bracket.Bracket.TheVariants as brackets
 
 -- 1. What octets show, where a row stands.
 
@@ -89,12 +90,12 @@ module _ (g : Catalog) (l : Limits) (u : List ℕ) where
   seen _ (null_table ts c ss k e shown h table fails) = unfollowed ts (null_pends g l ts c ss k e h table fails) shown
   seen _ (too_deep ts c ks said shown h takes (inl i) deep) =
       mark_seen ts h.token (place_of ks) marks.ListOpen Depth shown (subst (Says (place_of ks) h.token) i h.says) refl (λ e. cc) refl
-      (open_stops g l c ks said ts h takes marks.ListOpen i tt deep)
+      (open_stops g l c ks said ts h takes brackets.List i deep)
   seen _ (too_deep ts c ks said shown h takes (inr i) deep) =
       mark_seen ts h.token (place_of ks) marks.SexpOpen Depth shown (subst (Says (place_of ks) h.token) i h.says) refl (λ e. cc) refl
-      (open_stops g l c ks said ts h takes marks.SexpOpen i tt deep)
+      (open_stops g l c ks said ts h takes brackets.Sexp i deep)
   seen _ (struct_too_deep ts c ks shown h takes deep) = bare_seen ts c ks (Mark' marks.FieldsOpen) Depth shown h tt
-      (open_stops g l c ks (Mark' marks.FieldsOpen) ts h takes marks.FieldsOpen refl tt deep)
+      (open_stops g l c ks (Mark' marks.FieldsOpen) ts h takes brackets.Fields refl deep)
   seen _ (bad_table ts c ss ms e shown h table fails) =
       let s = table_stops g l ts c ss ms e h table fails in
       mark_seen ts s.close (close_place s.more) marks.FieldsClose e shown s.closes refl (λ e. cc) refl s.at_close

@@ -13,17 +13,18 @@ use Rattle.ion_tokens.specs.Bodies.{Content, Mark'}
 use Rattle.ion_tokens.specs.Lexed.{Placed}
 use Rattle.ion_text.specs.declared.state.Frame.{Frame}
 use Rattle.ion_text.specs.declared.state.Frame.TheVariants as frames
+use Rattle.ion_text.specs.declared.state.Listing.TheVariants as listings
 use Rattle.ion_text.specs.Grammar.{Says, Annotations, no_annotation, means, Pieces, is_struct, Means, close_place, ends_long, begins_as_long}
 use Rattle.ion_text.specs.Deciding.{Container, InList, InSexp, InStruct, InField, place_of, TakesValue, Open, none_open, list_open, sexp_open, struct_open, named, MayNote, Comes, Ends}
 use Rattle.ion_text.specs.machine.EachToken.{Symbols}
 use Rattle.ion_text.specs.laws.reading.complete.Complete.{depth-struct}
 use Rattle.ion_text.specs.laws.reading.sound.Depths.{Deep}
 use Rattle.ion_text.specs.laws.reading.sound.Held.{IsSome, some_more}
-use Rattle.ion_text.specs.laws.reading.sound.Sound.{Opened, Receives, ReadyFor, value_place}
+use Rattle.ion_text.specs.laws.reading.sound.StandsOpen.{Opened, Receives, ReadyFor, value_place}
 
 abbrev pub container : Frame → Container
-container (frames.List ss vs) = InList
-container (frames.Sexp ss vs) = InSexp
+container (frames.Items listings.List ss vs) = InList
+container (frames.Items listings.Sexp ss vs) = InSexp
 container (frames.Fields ss ms) = InStruct
 container (frames.Named ss ms s) = InField
 
@@ -33,8 +34,8 @@ containers (f ∷ fs) = container f ∷ containers fs
 
 pub place_same : (fs : List Frame) → value_place fs ≡ place_of (containers fs)
 place_same [] = refl
-place_same (frames.List ss vs ∷ fs) = refl
-place_same (frames.Sexp ss vs ∷ fs) = refl
+place_same (frames.Items listings.List ss vs ∷ fs) = refl
+place_same (frames.Items listings.Sexp ss vs ∷ fs) = refl
 place_same (frames.Fields ss ms ∷ fs) = refl
 place_same (frames.Named ss ms s ∷ fs) = refl
 
@@ -44,15 +45,15 @@ levels_same (f ∷ fs) = ap suc (levels_same fs)
 
 pub takes_value : (fs : List Frame) → Receives fs → TakesValue (containers fs)
 takes_value [] h = tt
-takes_value (frames.List ss vs ∷ fs) h = tt
-takes_value (frames.Sexp ss vs ∷ fs) h = tt
+takes_value (frames.Items listings.List ss vs ∷ fs) h = tt
+takes_value (frames.Items listings.Sexp ss vs ∷ fs) h = tt
 takes_value (frames.Fields ss ms ∷ fs) h = absurd h
 takes_value (frames.Named ss ms s ∷ fs) h = tt
 
 pub may_note : (fs : List Frame) (notes : List Placed) → Receives fs → MayNote (containers fs) notes
 may_note [] notes h = tt
-may_note (frames.List ss vs ∷ fs) notes h = tt
-may_note (frames.Sexp ss vs ∷ fs) notes h = tt
+may_note (frames.Items listings.List ss vs ∷ fs) notes h = tt
+may_note (frames.Items listings.Sexp ss vs ∷ fs) notes h = tt
 may_note (frames.Fields ss ms ∷ fs) notes h = absurd h
 may_note (frames.Named ss ms s ∷ fs) notes h = tt
 
@@ -71,11 +72,11 @@ module _ (l : Limits) (c : List Slot) where
   -- The open containers of the reader stand open.
   pub opened_open : (fs : List Frame) (ts : List Placed) → Deep l.depth fs → Opened c fs ts true → Open l c (containers fs) ts
   opened_open [] ts d o = subst (Open l c []) (sym o) none_open
-  opened_open (frames.List ss vs ∷ fs) ts d o =
+  opened_open (frames.Items listings.List ss vs ∷ fs) ts d o =
       subst (Open l c (InList ∷ containers fs)) (sym o.whole)
       (list_open (containers fs) o.front o.notes o.body ss o.open' vs (opened_open fs o.front d.1 o.outer) (takes_value fs o.receives)
       (noted_there c fs o.notes ss o.noted) (says_there fs o.open' (Mark' marks.ListOpen) o.opens) o.items (deeper fs _ d.0))
-  opened_open (frames.Sexp ss vs ∷ fs) ts d o =
+  opened_open (frames.Items listings.Sexp ss vs ∷ fs) ts d o =
       subst (Open l c (InSexp ∷ containers fs)) (sym o.whole)
       (sexp_open (containers fs) o.front o.notes o.body ss o.open' vs (opened_open fs o.front d.1 o.outer) (takes_value fs o.receives)
       (noted_there c fs o.notes ss o.noted) (says_there fs o.open' (Mark' marks.SexpOpen) o.opens) o.items (deeper fs _ d.0))

@@ -42,20 +42,24 @@ use Rattle.ion_text.specs.machine.EachToken.{under, spot_at, Reading, Turn, goes
 use Rattle.ion_text.specs.machine.Run.{token_of}
 use Rattle.ion_text.specs.machine.TokenLists.{Walk, walked, stopped, adds_values, done, on_turn, reads, said_ok, first_token}
 use Rattle.ion_text.specs.laws.reading.sound.Admits.{at_end_fine}
-use Rattle.ion_text.specs.laws.reading.complete.Complete.{depth-struct, starts, notes_read, read_behind, opened_struct, members_read, struct_ends, means_begins}
+use Rattle.ion_text.specs.laws.reading.complete.Complete.{depth-struct, starts, notes_read, read_behind, open_read, members_read, struct_ends, means_begins}
 use Rattle.ion_text.specs.laws.reading.sound.Depths.{Deep}
 use Rattle.ion_text.specs.laws.reading.complete.Going.{mark_kind}
 use Rattle.ion_text.specs.laws.reading.complete.Meets.{end_spans}
 use Rattle.ion_text.specs.laws.reading.complete.Pieces.{pieces_read, more_read, walked_now}
 use Rattle.ion_text.specs.machine.Places.{pending_at}
 use Rattle.ion_text.specs.laws.reading.complete.Segments.{never}
-use Rattle.ion_text.specs.laws.reading.sound.Sound.{Opened}
+use Rattle.ion_text.specs.laws.reading.sound.StandsOpen.{Opened}
 use Rattle.ion_text.specs.laws.showing.tokens.Cuts.{lexed_front}
 use Rattle.ion_text.specs.laws.deciding.AtEnd.{last_ends}
 use Rattle.ion_text.specs.laws.deciding.Openings.{begins_so}
 use Rattle.ion_text.specs.laws.deciding.Shows.{IsBare, BareSaid, said_bare}
 use Rattle.ion_text.specs.laws.deciding.Fronts.{origin, Came, HasEnded, SettlesTo, struct_now, struct_settles, stands_read}
 use Rattle.ion_text.specs.laws.deciding.Comings.{JoinsNothing, same_levels, before, cut, f, here, came, settles, go_on, struct, up_to, cut_name, came_name, settles_name, go_on_name}
+use Rattle.ion_visiting.specs.declared.bracket.Bracket.TheVariants as brackets
+use Rattle.ion_visiting.specs.declared.bracket.Bracket.{Bracket}
+use Rattle.ion_text.specs.machine.Nested.{open_mark}
+use Rattle.ion_text.specs.laws.reading.Brackets.{no_colons}
 
 -- 1. Tokens that have ended.
 
@@ -131,16 +135,6 @@ null_apart k = record { long = λ v e. cc; quoted = λ v e. cc; colons = λ e. c
 
 mark_apart : (m : Mark) → (m ≡ marks.Colons → ⊥) → JoinsNothing (Mark' m)
 mark_apart m n = record { long = λ v e. cc; quoted = λ v e. cc; colons = λ e. n (let h : m ≡ marks.Colons = cc in h) }
-
--- a mark that opens a container
-abbrev pub OpensOne : Mark → Type 0
-OpensOne marks.ListOpen = Unit {0}
-OpensOne marks.SexpOpen = Unit {0}
-OpensOne marks.FieldsOpen = Unit {0}
-OpensOne _ = ⊥
-
-opens_apart : (m : Mark) → OpensOne m → m ≡ marks.Colons → ⊥
-opens_apart m o e = subst OpensOne e o
 
 too_many : (a b depth : ℕ) → depth ≤ b → a ≡ b → nat_lt a depth ≡ false
 too_many a b depth h e = grind (arith, nat_tests)
@@ -270,16 +264,16 @@ module _ (g : Catalog) (l : Limits) where
     levels : l.depth ≤ length ks → nat_lt (length held) l.depth ≡ false
     levels deep = too_many (length held) (length ks) l.depth deep (same_levels l c ks held (f g l c ks said ts h).same)
 
-    pub open_stops : (m : Mark) → said ≡ Mark' m → OpensOne m → l.depth ≤ length ks → Stops g l ts h.token reasons.Depth
-    open_stops m e opens deep =
-        value_stops reasons.Depth (subst JoinsNothing (sym e) (mark_apart m (opens_apart m opens)))
-        (λ s. subst (λ d. Refusing reasons.Depth (turn g l (at s c held h.symbols nows.Ready) (token_of h.token.lexeme d))) (sym e) (by m opens s))
+    pub open_stops : (bracket : Bracket) → said ≡ Mark' (open_mark bracket) → l.depth ≤ length ks → Stops g l ts h.token reasons.Depth
+    open_stops bracket e deep =
+        value_stops reasons.Depth (subst JoinsNothing (sym e) (mark_apart (open_mark bracket) (λ k. no_colons bracket (ap Mark' k))))
+        (λ s. subst (λ d. Refusing reasons.Depth (turn g l (at s c held h.symbols nows.Ready) (token_of h.token.lexeme d))) (sym e) (by bracket s))
       where
-        by : (m : Mark) → OpensOne m → (s : ℕ) → Refusing reasons.Depth (turn g l (at s c held h.symbols nows.Ready) (token_of h.token.lexeme (Mark' m)))
-        by marks.ListOpen o s = refusing_else reasons.Depth (nat_lt (length held) l.depth) _ (refuses reasons.Depth) (levels deep) refl
-        by marks.SexpOpen o s = refusing_else reasons.Depth (nat_lt (length held) l.depth) _ (refuses reasons.Depth) (levels deep) refl
-        by marks.FieldsOpen o s = refusing_else reasons.Depth (nat_lt (length held) l.depth) _ (late reasons.Depth _) (levels deep) refl
-        by _ o s = absurd o
+        by : (bracket : Bracket) (s : ℕ)
+            → Refusing reasons.Depth (turn g l (at s c held h.symbols nows.Ready) (token_of h.token.lexeme (Mark' (open_mark bracket))))
+        by brackets.List s = refusing_else reasons.Depth (nat_lt (length held) l.depth) _ (refuses reasons.Depth) (levels deep) refl
+        by brackets.Sexp s = refusing_else reasons.Depth (nat_lt (length held) l.depth) _ (refuses reasons.Depth) (levels deep) refl
+        by brackets.Fields s = refusing_else reasons.Depth (nat_lt (length held) l.depth) _ (late reasons.Depth _) (levels deep) refl
 
     -- one that waits for `::`
     module _ (word : Held) (waits : (start end : ℕ) → on_ready (under g l) (spot_at end start c) held h.symbols said
@@ -481,7 +475,7 @@ module _ (g : Catalog) (l : Limits) where
               (ap (reads g l (fresh c)) cut
               ∙ (read_behind g l (fresh c) (at (starts g l 0 [] notes) c [] rs nows.Ready) notes (open' ∷ (body ++ close ∷ []))
               (notes_read g l c places.Top 0 [] notes rs refl a)
-              ∙ (opened_struct g l c places.Top (starts g l 0 [] notes) s [] rs open' (body ++ close ∷ []) refl (omega (arith, deep.0)) opens refl
+              ∙ (open_read g l brackets.Fields c places.Top (starts g l 0 [] notes) s [] rs open' (body ++ close ∷ []) refl (omega (arith, deep.0)) opens refl
               ∙ (struct_ends g l c s [] rs body ms more close (members_read g l c s [] rs body ms more members deep.0) closes
               ∙ ap (λ x. on_turn x done) (refused s))))))
 

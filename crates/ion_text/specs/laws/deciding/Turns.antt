@@ -30,17 +30,23 @@ use Rattle.ion_text.specs.declared.state.Now.{Now}
 use Rattle.ion_text.specs.declared.state.Now.TheVariants as nows
 use Rattle.ion_text.specs.declared.state.Frame.{Frame}
 use Rattle.ion_text.specs.declared.state.Frame.TheVariants as frames
+use Rattle.ion_visiting.specs.declared.bracket.Bracket.TheVariants as brackets
+use Rattle.ion_text.specs.declared.state.Listing.TheVariants as listings
 use Rattle.ion_text.specs.Grammar.{Says, Means, means, one_token, Pieces, close_place, ends_long, begins_as_long, is_keyword, is_version, the_marker}
 use Rattle.ion_text.specs.Deciding.{Ends, IsKeyword, InStruct, Sight, Gives, HasRow, no_symbol, keyword_as_name, keyword_as_annotation, other_version, null_table, too_deep, struct_too_deep, bad_table}
-use Rattle.ion_text.specs.machine.EachToken.{under, spot_at, token_at, Turn, goes, gives, refuses, late, Symbols, at, fresh, place_in, settle, turn_now, ended, within, turned, held_word, held_symbol, released, begun_at, on_ready, on_pending, on_after, on_name, on_comma, on_long, on_long_name, on_keyed, resolved, noted, keyed, named, list_closed, sexp_closed}
+use Rattle.ion_text.specs.machine.EachToken.{under, spot_at, token_at, Turn, goes, gives, refuses, late, Symbols, at, fresh, place_in, settle, turn_now, ended, within, turned, held_word, held_symbol, released, begun_at, on_ready, on_pending, on_after, on_name, on_comma, on_long, on_long_name, on_keyed, resolved, noted, keyed, named, deeper, closed}
 use Rattle.ion_visiting.specs.Parts.{number_payload}
 use Rattle.ion_text.specs.laws.reading.sound.Depths.{Deep, flat_null}
 use Rattle.ion_text.specs.laws.reading.sound.Held.{none_noted}
 use Rattle.ion_text.specs.machine.Places.{pending_at}
 use Rattle.ion_text.specs.laws.reading.complete.Segments.{never}
-use Rattle.ion_text.specs.laws.reading.sound.Sound.{Opened, ReadyFor, PendingFor, NowStands, IsHeld, symbol_said, value_place}
+use Rattle.ion_text.specs.laws.reading.sound.StandsOpen.{Opened, ReadyFor, PendingFor, NowStands, IsHeld, symbol_said, value_place}
 use Rattle.ion_text.specs.laws.deciding.Openings.{containers, levels_same, takes_value, says_there, value_comes, name_comes, struct_ends, begins_so}
 use Rattle.ion_text.specs.laws.deciding.Shows.{Shown}
+use Rattle.ion_text.specs.laws.reading.Brackets.{Closes, ends_list, ends_sexp, ends_struct, ends_none, closes_or_not}
+use Rattle.ion_visiting.specs.declared.bracket.Bracket.{Bracket}
+use Rattle.ion_text.specs.declared.state.Listing.{Listing}
+use Rattle.ion_text.specs.machine.Nested.{bracket_in}
 
 -- 1. Of what is no local symbol table, and of words.
 
@@ -149,8 +155,7 @@ module _ (g : Catalog) (l : Limits) (sight : Sight) where
   ended_decided : (start end : ℕ) (c : List Slot) (fs : List Frame) (v : Value) → ((e : Reason) → fs ≡ [] → is_table v ≡ true → next c v g ≡ Err e → Decided e)
       → TurnDecided (ended (under g l) (spot_at end start c) fs v)
   ended_decided start end c [] v f = top_decided l.item start end c v (next c v g) (is_table v) (λ e i j. f e refl i j)
-  ended_decided start end c (frames.List ss vs ∷ fs) v f = tt
-  ended_decided start end c (frames.Sexp ss vs ∷ fs) v f = tt
+  ended_decided start end c (frames.Items listing ss vs ∷ fs) v f = tt
   ended_decided start end c (frames.Named ss ms s ∷ fs) v f = tt
   ended_decided start end c (frames.Fields ss ms ∷ fs) v f = λ i. absurd i
 
@@ -161,21 +166,29 @@ module _ (g : Catalog) (l : Limits) (sight : Sight) where
   inside_decided : (start end : ℕ) (c : List Slot) (f : Frame) (fs : List Frame) (v : Value) → TurnDecided (ended (under g l) (spot_at end start c) (f ∷ fs) v)
   inside_decided start end c f fs v = ended_decided start end c (f ∷ fs) v (λ e i j k. absurd (let n : f ∷ fs ≡ [] = i in cc))
 
-  list_decided : (start end : ℕ) (c : List Slot) (fs : List Frame) → TurnDecided (list_closed (under g l) (spot_at end start c) fs)
-  list_decided start end c (frames.List ss vs ∷ fs) = flat_decided start end c fs ss (payloads.List vs)
-      (ap (λ y. is_fields (layer_kind y)) (views.outs-List vs))
-  list_decided start end c (frames.Sexp ss vs ∷ fs) = λ i. absurd i
-  list_decided start end c (frames.Fields ss ms ∷ fs) = λ i. absurd i
-  list_decided start end c (frames.Named ss ms s ∷ fs) = λ i. absurd i
-  list_decided start end c [] = λ i. absurd i
+  deeper_decided : (fs : List Frame) (t deep : Turn) → TurnDecided t → (l.depth ≤ length (containers fs) → TurnDecided deep)
+      → TurnDecided (deeper l.depth fs t deep)
+  deeper_decided fs t deep h k = go (nat_lt (length fs) l.depth) refl
+    where
+      go : (b : Bool) → nat_lt (length fs) l.depth ≡ b → TurnDecided (if b then t else deep)
+      go true e = h
+      go false e = k (omega (arith, not_less (length fs) l.depth e, levels_same fs))
 
-  sexp_decided : (start end : ℕ) (c : List Slot) (fs : List Frame) → TurnDecided (sexp_closed (under g l) (spot_at end start c) fs)
-  sexp_decided start end c (frames.Sexp ss vs ∷ fs) = flat_decided start end c fs ss (payloads.Sexp vs)
-      (ap (λ y. is_fields (layer_kind y)) (views.outs-Sexp vs))
-  sexp_decided start end c (frames.List ss vs ∷ fs) = λ i. absurd i
-  sexp_decided start end c (frames.Fields ss ms ∷ fs) = λ i. absurd i
-  sexp_decided start end c (frames.Named ss ms s ∷ fs) = λ i. absurd i
-  sexp_decided start end c [] = λ i. absurd i
+  -- a list or an s-expression is closed
+  items_decided : (start end : ℕ) (c : List Slot) (listing : Listing) (fs : List Frame)
+      → TurnDecided (closed (bracket_in listing) (under g l) (spot_at end start c) fs)
+  items_decided start end c listing fs = by (bracket_in listing) fs (closes_or_not (bracket_in listing) fs) (no_struct listing)
+    where
+      no_struct : (listing : Listing) → bracket_in listing ≡ brackets.Fields → ⊥
+      no_struct listings.List e = cc
+      no_struct listings.Sexp e = cc
+
+      by : (bracket : Bracket) (fs : List Frame) → Closes bracket fs → (bracket ≡ brackets.Fields → ⊥)
+          → TurnDecided (closed bracket (under g l) (spot_at end start c) fs)
+      by _ _ (ends_list ss vs fs) n = flat_decided start end c fs ss (payloads.List vs) (ap (λ y. is_fields (layer_kind y)) (views.outs-List vs))
+      by _ _ (ends_sexp ss vs fs) n = flat_decided start end c fs ss (payloads.Sexp vs) (ap (λ y. is_fields (layer_kind y)) (views.outs-Sexp vs))
+      by _ _ (ends_struct ss ms fs) n = absurd (n refl)
+      by _ _ (ends_none bracket fs e) n = subst TurnDecided (sym (e (under g l) (spot_at end start c))) (λ i. absurd i)
 
   module _ (c : List Slot) (front : List Placed) (vs : List Value) (pieces : Pieces g l front vs c) where
     -- a struct is closed
@@ -212,33 +225,18 @@ module _ (g : Catalog) (l : Limits) (sight : Sight) where
           (ap (λ y. is_fields (layer_kind y)) (views.outs-Symbol (Some x)))
       ready_decided fs ss (Clob x) deep d says shown = flat_decided start end c fs ss (payloads.Clob x) (ap (λ y. is_fields (layer_kind y)) (views.outs-Clob x))
       ready_decided fs ss (Blob x) deep d says shown = flat_decided start end c fs ss (payloads.Blob x) (ap (λ y. is_fields (layer_kind y)) (views.outs-Blob x))
-      ready_decided fs ss (Mark' marks.ListOpen) deep d says shown = go (nat_lt (length fs) l.depth) refl
-        where
-          go : (b : Bool) → nat_lt (length fs) l.depth ≡ b → TurnDecided
-              (if b then goes (at start c (frames.List ss [] ∷ fs) [] nows.Ready) else refuses reasons.Depth)
-          go true e = tt
-          go false e = λ i. too_deep ts c (containers fs) (Mark' marks.ListOpen) shown
-              (value_comes g l c front vs pieces t (Mark' marks.ListOpen) fs ss item deep apart d says) (takes_value fs d.receives) (inl refl)
-              (omega (arith, not_less (length fs) l.depth e, levels_same fs))
-      ready_decided fs ss (Mark' marks.SexpOpen) deep d says shown = go (nat_lt (length fs) l.depth) refl
-        where
-          go : (b : Bool) → nat_lt (length fs) l.depth ≡ b → TurnDecided
-              (if b then goes (at start c (frames.Sexp ss [] ∷ fs) [] nows.Ready) else refuses reasons.Depth)
-          go true e = tt
-          go false e = λ i. too_deep ts c (containers fs) (Mark' marks.SexpOpen) shown
-              (value_comes g l c front vs pieces t (Mark' marks.SexpOpen) fs ss item deep apart d says) (takes_value fs d.receives) (inr refl)
-              (omega (arith, not_less (length fs) l.depth e, levels_same fs))
-      ready_decided fs ss (Mark' marks.FieldsOpen) deep d says shown = go (nat_lt (length fs) l.depth) refl
-        where
-          go : (b : Bool) → nat_lt (length fs) l.depth ≡ b → TurnDecided
-              (if b then goes (at start c (frames.Fields ss [] ∷ fs) [] nows.Name) else late reasons.Depth (at start c (frames.Fields ss [] ∷ fs) [] nows.Name))
-          go true e = tt
-          go false e = λ i. struct_too_deep ts c (containers fs) shown
-              (value_comes g l c front vs pieces t (Mark' marks.FieldsOpen) fs ss item deep apart d says) (takes_value fs d.receives)
-              (omega (arith, not_less (length fs) l.depth e, levels_same fs))
-      ready_decided fs [] (Mark' marks.ListClose) deep d says shown = list_decided start end c fs
+      ready_decided fs ss (Mark' marks.ListOpen) deep d says shown =
+          deeper_decided fs _ _ tt (λ k i. too_deep ts c (containers fs) (Mark' marks.ListOpen) shown
+          (value_comes g l c front vs pieces t (Mark' marks.ListOpen) fs ss item deep apart d says) (takes_value fs d.receives) (inl refl) k)
+      ready_decided fs ss (Mark' marks.SexpOpen) deep d says shown =
+          deeper_decided fs _ _ tt (λ k i. too_deep ts c (containers fs) (Mark' marks.SexpOpen) shown
+          (value_comes g l c front vs pieces t (Mark' marks.SexpOpen) fs ss item deep apart d says) (takes_value fs d.receives) (inr refl) k)
+      ready_decided fs ss (Mark' marks.FieldsOpen) deep d says shown =
+          deeper_decided fs _ _ tt (λ k i. struct_too_deep ts c (containers fs) shown
+          (value_comes g l c front vs pieces t (Mark' marks.FieldsOpen) fs ss item deep apart d says) (takes_value fs d.receives) k)
+      ready_decided fs [] (Mark' marks.ListClose) deep d says shown = items_decided start end c listings.List fs
       ready_decided fs (s ∷ ss) (Mark' marks.ListClose) deep d says shown = λ i. absurd i
-      ready_decided fs [] (Mark' marks.SexpClose) deep d says shown = sexp_decided start end c fs
+      ready_decided fs [] (Mark' marks.SexpClose) deep d says shown = items_decided start end c listings.Sexp fs
       ready_decided fs (s ∷ ss) (Mark' marks.SexpClose) deep d says shown = λ i. absurd i
       ready_decided fs ss (Mark' marks.FieldsClose) deep d says shown = λ i. absurd i
       ready_decided fs ss (Mark' marks.Comma) deep d says shown = λ i. absurd i
@@ -267,9 +265,9 @@ module _ (g : Catalog) (l : Limits) (sight : Sight) where
       pending_decided fs ss h _ deep d says shown = λ i. absurd i
 
       comma_decided : (fs : List Frame) → TurnDecided (on_comma start c fs)
-      comma_decided (frames.List ss vs ∷ fs) = tt
+      comma_decided (frames.Items listings.List ss vs ∷ fs) = tt
       comma_decided (frames.Fields ss ms ∷ fs) = tt
-      comma_decided (frames.Sexp ss vs ∷ fs) = λ i. absurd i
+      comma_decided (frames.Items listings.Sexp ss vs ∷ fs) = λ i. absurd i
       comma_decided (frames.Named ss ms s ∷ fs) = λ i. absurd i
       comma_decided [] = λ i. absurd i
 
@@ -277,11 +275,10 @@ module _ (g : Catalog) (l : Limits) (sight : Sight) where
       after_decided : (fs : List Frame) (said : Content) → Deep l.depth fs → Opened c fs item false → Says (place_in fs nows.After) t said → Shown sight ts said
           → TurnDecided (on_after (under g l) (spot_at end start c) fs said)
       after_decided fs (Mark' marks.Comma) deep o says shown = comma_decided fs
-      after_decided fs (Mark' marks.ListClose) deep o says shown = list_decided start end c fs
+      after_decided fs (Mark' marks.ListClose) deep o says shown = items_decided start end c listings.List fs
       after_decided (frames.Fields ss ms ∷ fs) (Mark' marks.FieldsClose) deep o says shown =
           closed_decided start end ss ms fs item false t deep apart o says shown
-      after_decided (frames.List ss vs ∷ fs) (Mark' marks.FieldsClose) deep o says shown = λ i. absurd i
-      after_decided (frames.Sexp ss vs ∷ fs) (Mark' marks.FieldsClose) deep o says shown = λ i. absurd i
+      after_decided (frames.Items listing ss vs ∷ fs) (Mark' marks.FieldsClose) deep o says shown = λ i. absurd i
       after_decided (frames.Named ss ms s ∷ fs) (Mark' marks.FieldsClose) deep o says shown = λ i. absurd i
       after_decided [] (Mark' marks.FieldsClose) deep o says shown = λ i. absurd i
       after_decided fs _ deep o says shown = λ i. absurd i
@@ -317,8 +314,7 @@ module _ (g : Catalog) (l : Limits) (sight : Sight) where
 
       named_decided : (fs : List Frame) (s : Option (List ℕ)) → TurnDecided (named start c fs s)
       named_decided (frames.Fields ss ms ∷ fs) s = tt
-      named_decided (frames.List ss vs ∷ fs) s = λ i. absurd i
-      named_decided (frames.Sexp ss vs ∷ fs) s = λ i. absurd i
+      named_decided (frames.Items listing ss vs ∷ fs) s = λ i. absurd i
       named_decided (frames.Named ss ms x ∷ fs) s = λ i. absurd i
       named_decided [] s = λ i. absurd i
 
@@ -343,8 +339,7 @@ module _ (g : Catalog) (l : Limits) (sight : Sight) where
     token_decided t begin end start item (frames.Fields rs ms ∷ fs) ss said nows.Name deep apart d says shown =
         name_decided t start end item apart rs ms fs said deep d.0 says shown
     token_decided t begin end start item [] ss said nows.Name deep apart d says shown = absurd d.1
-    token_decided t begin end start item (frames.List rs xs ∷ fs) ss said nows.Name deep apart d says shown = absurd d.1
-    token_decided t begin end start item (frames.Sexp rs xs ∷ fs) ss said nows.Name deep apart d says shown = absurd d.1
+    token_decided t begin end start item (frames.Items listing rs xs ∷ fs) ss said nows.Name deep apart d says shown = absurd d.1
     token_decided t begin end start item (frames.Named rs ms x ∷ fs) ss said nows.Name deep apart d says shown = absurd d.1
     token_decided t begin end start item fs ss said (nows.LongName v) deep apart d says shown = long_name_decided t start end item apart fs v said
     token_decided t begin end start item fs ss said (nows.Keyed x) deep apart d says shown = keyed_decided t start end item apart fs x said

@@ -41,7 +41,7 @@ use Rattle.ion_text.specs.laws.reading.complete.Going.{mark_kind}
 use Rattle.ion_text.specs.laws.reading.sound.Held.{no_notes}
 use Rattle.ion_text.specs.laws.reading.complete.Pieces.{pieces_read, walked_now}
 use Rattle.ion_text.specs.laws.reading.complete.Segments.{never}
-use Rattle.ion_text.specs.laws.reading.sound.Sound.{NowStands, EndsAt, symbol_said}
+use Rattle.ion_text.specs.laws.reading.sound.StandsOpen.{NowStands, EndsAt, symbol_said}
 use Rattle.ion_text.specs.laws.reading.sound.Spans.{IsWaiting}
 use Rattle.ion_text.specs.laws.reading.sound.Steps.{Stood}
 use Rattle.ion_text.specs.laws.showing.tokens.Compare.{lexes_once}

@@ -40,9 +40,13 @@ use Rattle.ion_text.specs.declared.state.Now.{Now}
 use Rattle.ion_text.specs.declared.state.Now.TheVariants as nows
 use Rattle.ion_text.specs.declared.state.Frame.{Frame}
 use Rattle.ion_text.specs.declared.state.Frame.TheVariants as frames
+use Rattle.ion_visiting.specs.declared.bracket.Bracket.TheVariants as brackets
+use Rattle.ion_text.specs.declared.state.Listing.TheVariants as listings
 use Rattle.ion_text.specs.Grammar.{is_keyword}
-use Rattle.ion_text.specs.machine.EachToken.{Setting, Spot, under, spot_at, spot_in, token_at, Reading, Turn, goes, gives, refuses, late, Token, Symbols, at, fresh, place, settle, turn, turn_now, ended, within, turned, held_symbol, held_payload, released, begun_at, on_ready, on_after, on_name, on_pending, on_long, on_long_name, on_keyed, on_comma, struct_closed, list_closed, sexp_closed, bare_close, deeper, paid, noted, resolved, keyed, named}
+use Rattle.ion_text.specs.machine.EachToken.{Setting, Spot, under, spot_at, spot_in, token_at, Reading, Turn, goes, gives, refuses, late, Token, Symbols, at, fresh, place, settle, turn, turn_now, ended, within, turned, held_symbol, held_payload, released, begun_at, on_ready, on_after, on_name, on_pending, on_long, on_long_name, on_keyed, on_comma, closed, bare_close, deeper, paid, noted, resolved, keyed, named}
 use Rattle.ion_text.specs.machine.Run.{State, Effect, uses, tells, leaves, fails, begun, eats, takes, unsettled, noticed, shut, reaches, lesser, or_worse, on_scan, on_settled, on_said, behind_given, behind_left, with_scan, token_of, Run, run, run_on, once_more, trace, ends_of, refused_of, cut_short, end_late, end_settled, end_turned, end_said, end_waiting, end_ready, end_now, is_fresh}
+use Rattle.ion_text.specs.laws.reading.Brackets.{Closes, ends_list, ends_sexp, ends_struct, ends_none, closes_or_not}
+use Rattle.ion_visiting.specs.declared.bracket.Bracket.{Bracket}
 
 abbrev pub TurnDecides : Turn → Type 0
 TurnDecides (goes r) = Unit {0}
@@ -66,8 +70,7 @@ top_decides item start end c v d false h = within_decides item start end (gives 
 ended_decides : (setting : Setting) (spot : Spot) (fs : List Frame) (v : Value) → TurnDecides (ended setting spot fs v)
 ended_decides setting spot [] v = top_decides setting.limits.item spot.start spot.end spot.context v (next spot.context v setting.catalog) (is_table v)
     (next_decides spot.context v setting.catalog)
-ended_decides setting spot (frames.List ss vs ∷ fs) v = tt
-ended_decides setting spot (frames.Sexp ss vs ∷ fs) v = tt
+ended_decides setting spot (frames.Items listing ss vs ∷ fs) v = tt
 ended_decides setting spot (frames.Named ss ms s ∷ fs) v = tt
 ended_decides setting spot (frames.Fields ss ms ∷ fs) v = tt
 
@@ -112,26 +115,14 @@ deeper_decides depth fs t deep h k = go (nat_lt (length fs) depth)
     go true = h
     go false = k
 
-list_decides : (setting : Setting) (spot : Spot) (fs : List Frame) → TurnDecides (list_closed setting spot fs)
-list_decides setting spot (frames.List ss vs ∷ fs) = ended_decides setting spot fs _
-list_decides setting spot (frames.Sexp ss vs ∷ fs) = tt
-list_decides setting spot (frames.Fields ss vs ∷ fs) = tt
-list_decides setting spot (frames.Named ss vs s ∷ fs) = tt
-list_decides setting spot [] = tt
-
-sexp_decides : (setting : Setting) (spot : Spot) (fs : List Frame) → TurnDecides (sexp_closed setting spot fs)
-sexp_decides setting spot (frames.Sexp ss vs ∷ fs) = ended_decides setting spot fs _
-sexp_decides setting spot (frames.List ss vs ∷ fs) = tt
-sexp_decides setting spot (frames.Fields ss vs ∷ fs) = tt
-sexp_decides setting spot (frames.Named ss vs s ∷ fs) = tt
-sexp_decides setting spot [] = tt
-
-struct_decides : (setting : Setting) (spot : Spot) (fs : List Frame) → TurnDecides (struct_closed setting spot fs)
-struct_decides setting spot (frames.Fields ss vs ∷ fs) = ended_decides setting spot fs _
-struct_decides setting spot (frames.List ss vs ∷ fs) = tt
-struct_decides setting spot (frames.Sexp ss vs ∷ fs) = tt
-struct_decides setting spot (frames.Named ss vs s ∷ fs) = tt
-struct_decides setting spot [] = tt
+closed_decides : (setting : Setting) (spot : Spot) (bracket : Bracket) (fs : List Frame) → TurnDecides (closed bracket setting spot fs)
+closed_decides setting spot bracket fs = by bracket fs (closes_or_not bracket fs)
+  where
+    by : (bracket : Bracket) (fs : List Frame) → Closes bracket fs → TurnDecides (closed bracket setting spot fs)
+    by _ _ (ends_list ss vs fs) = ended_decides setting spot fs _
+    by _ _ (ends_sexp ss vs fs) = ended_decides setting spot fs _
+    by _ _ (ends_struct ss ms fs) = ended_decides setting spot fs _
+    by _ _ (ends_none bracket fs e) = subst TurnDecides (sym (e setting spot)) tt
 
 bare_decides : (ss : Symbols) (t : Turn) → TurnDecides t → TurnDecides (bare_close ss t)
 bare_decides [] t h = h
@@ -152,8 +143,8 @@ module _ (g : Catalog) (l : Limits) where
   ready_decides spot fs ss (Mark' marks.ListOpen) = deeper_decides l.depth fs _ _ tt tt
   ready_decides spot fs ss (Mark' marks.SexpOpen) = deeper_decides l.depth fs _ _ tt tt
   ready_decides spot fs ss (Mark' marks.FieldsOpen) = deeper_decides l.depth fs _ _ tt tt
-  ready_decides spot fs ss (Mark' marks.ListClose) = bare_decides ss _ (list_decides (under g l) spot fs)
-  ready_decides spot fs ss (Mark' marks.SexpClose) = bare_decides ss _ (sexp_decides (under g l) spot fs)
+  ready_decides spot fs ss (Mark' marks.ListClose) = bare_decides ss _ (closed_decides (under g l) spot brackets.List fs)
+  ready_decides spot fs ss (Mark' marks.SexpClose) = bare_decides ss _ (closed_decides (under g l) spot brackets.Sexp fs)
   ready_decides spot fs ss (Mark' marks.FieldsClose) = tt
   ready_decides spot fs ss (Mark' marks.Comma) = tt
   ready_decides spot fs ss (Mark' marks.Colon) = tt
@@ -173,16 +164,16 @@ module _ (g : Catalog) (l : Limits) where
   long_decides spot fs ss v _ = tt
 
   comma_decides : (start : ℕ) (c : List Slot) (fs : List Frame) → TurnDecides (on_comma start c fs)
-  comma_decides start c (frames.List ss vs ∷ fs) = tt
+  comma_decides start c (frames.Items listings.List ss vs ∷ fs) = tt
   comma_decides start c (frames.Fields ss ms ∷ fs) = tt
-  comma_decides start c (frames.Sexp ss vs ∷ fs) = tt
+  comma_decides start c (frames.Items listings.Sexp ss vs ∷ fs) = tt
   comma_decides start c (frames.Named ss ms s ∷ fs) = tt
   comma_decides start c [] = tt
 
   after_decides : (spot : Spot) (fs : List Frame) (x : Content) → TurnDecides (on_after (under g l) spot fs x)
   after_decides spot fs (Mark' marks.Comma) = comma_decides spot.start spot.context fs
-  after_decides spot fs (Mark' marks.ListClose) = list_decides (under g l) spot fs
-  after_decides spot fs (Mark' marks.FieldsClose) = struct_decides (under g l) spot fs
+  after_decides spot fs (Mark' marks.ListClose) = closed_decides (under g l) spot brackets.List fs
+  after_decides spot fs (Mark' marks.FieldsClose) = closed_decides (under g l) spot brackets.Fields fs
   after_decides spot fs _ = tt
 
   name_decides : (spot : Spot) (fs : List Frame) (x : Content) → TurnDecides (on_name (under g l) spot fs x)
@@ -197,7 +188,7 @@ module _ (g : Catalog) (l : Limits) where
   name_decides spot fs (Quoted w) = tt
   name_decides spot fs (Short w) = tt
   name_decides spot fs (Long w) = tt
-  name_decides spot fs (Mark' marks.FieldsClose) = struct_decides (under g l) spot fs
+  name_decides spot fs (Mark' marks.FieldsClose) = closed_decides (under g l) spot brackets.Fields fs
   name_decides spot fs _ = tt
 
   long_name_decides : (start : ℕ) (c : List Slot) (fs : List Frame) (v : List ℕ) (x : Content) → TurnDecides (on_long_name start c fs v x)
@@ -206,8 +197,7 @@ module _ (g : Catalog) (l : Limits) where
 
   named_decides : (start : ℕ) (c : List Slot) (fs : List Frame) (s : Option (List ℕ)) → TurnDecides (named start c fs s)
   named_decides start c (frames.Fields ss ms ∷ fs) s = tt
-  named_decides start c (frames.List ss vs ∷ fs) s = tt
-  named_decides start c (frames.Sexp ss vs ∷ fs) s = tt
+  named_decides start c (frames.Items listing ss vs ∷ fs) s = tt
   named_decides start c (frames.Named ss ms x ∷ fs) s = tt
   named_decides start c [] s = tt
 

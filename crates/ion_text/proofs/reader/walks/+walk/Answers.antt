@@ -2,18 +2,19 @@ use Rattle.std.proofs.Common.{rules, ◌<◌, ◌+◌, ◌-◌, [], ◌∷◌, �
 use Rattle.std.proofs.lemmas.List.{take_rest}
 use Rattle.ion_model.specs.Measures.{nodes, field_of}
 use Rattle.ion_visiting.specs.Visits.{no_items, one_item, no_fields, one_field}
-use Rattle.ion_tokens.specs.declared.mode.Mark.TheVariants as marks
+use Rattle.ion_visiting.specs.declared.bracket.Bracket.TheVariants as brackets
 use Rattle.ion_text.specs.declared.state.Frame.TheVariants as frames
+use Rattle.ion_text.specs.declared.state.Listing.TheVariants as listings
 use Rattle.ion_text.specs.declared.state.Now.TheVariants as nows
 use Rattle.ion_text.specs.laws.reading.complete.Complete.{depths, field_depths}
-use Rattle.ion_text.proofs.Walking.{gone_none, gone_blank, element_now, element_still, field_now, field_still, field_nodes, ListGone, FieldsGone, list_value_on, sexp_value_on, list_comma_on, field_comma_on, name_on, field_value_on}
+use Rattle.ion_text.proofs.Walking.{gone_none, gone_blank, element_now, element_still, field_now, field_still, field_nodes, ListGone, FieldsGone, item_value_on, list_comma_on, field_comma_on, name_on, field_value_on}
 use Rattle.ion_text.proofs.Visited.{containers_visited, item_annotated_visited, item_bare_visited, container_visited, list_visited, sexp_visited, fields_visited}
 use Rattle.ion_text.proofs.reader.walks.+walk.Goals as goal
 
 pub walk_value-returns-in-Some : goal.walk_value-returns-in-Some
 walk_value-returns-in-Some g t c =
     let more : 1 < length c.args.octets.now = omega (arith, c.if-octets-lt2.false) in
-    containers_visited g.T.TextVisitor.visits c.args.here c.in-Some.mark c.args.level c.args.octets.now c.args.tally.now c.walk_container.new.tally _ _
+    containers_visited g.T.TextVisitor.visits c.args.here c.in-Some.bracket c.args.level c.args.octets.now c.args.tally.now c.walk_container.new.tally _ _
     c.walk_container.result c.walk_container.ensures more c.in-Some.ensures c.requires.value c.requires.low
 
 pub walk_annotated_value-returns : goal.walk_annotated_value-returns
@@ -33,13 +34,11 @@ walk_item-returns g t c =
 pub walk_container-returns : goal.walk_container-returns
 walk_container-returns g t c =
     let octets = c.args.octets.now in
-    container_visited g.T.TextVisitor.visits c.args.here c.args.mark c.args.level octets (take (length octets - 1) (drop 1 octets)) c.in_ok-count.count
+    container_visited g.T.TextVisitor.visits c.args.here c.args.bracket c.args.level octets (take (length octets - 1) (drop 1 octets)) c.in_ok-count.count
     c.args.tally.now c.pass_token.new.self c.walk_inside.new.tally _ c.in_ok-kept.kept _ _ _ _ (omega (arith, c.if-level-eq0.false)) (take_rest octets 1)
     c.in_ok-count.ensures
     (search rules) (search rules)
-    (subst (λ x. g.T.TextVisitor.visits.opens c.args.visitor.now x c.in_ok-kept.kept c.open.new.self) c.bracket_of.ensures c.in_ok-kept.ensures)
-    (subst (λ x. g.T.TextVisitor.visits.closes c.walk_inside.new.visitor x c.in_ok-kept.kept c.close.new.self) c.bracket_of-2.ensures
-    (c.close.ensures c.if-not-close.false))
+    c.in_ok-kept.ensures (c.close.ensures c.if-not-close.false)
 
 pub walk_list-returns-then-begins_with : goal.walk_list-returns-then-begins_with
 walk_list-returns-then-begins_with g t c =
@@ -50,7 +49,8 @@ walk_list-returns-then-begins_with g t c =
     let close = c.begins_with.ensures c.if-begins_with.true in
     list_visited g.T.TextVisitor.visits c.args.level octets (take (length octets - (at + j)) (drop (at + j) octets)) (at + j) c.args.tally.now
     c.walk_blank-at.new.tally (take_rest octets (at + j)) close.0 _ _ vs c.loop.behind
-    (gone_blank marks.ListOpen c.args.level octets (take (length octets - at) (drop at octets)) at c.args.tally.now c.loop.tally (λ ss. frames.List ss vs)
+    (gone_blank brackets.List c.args.level octets (take (length octets - at) (drop at octets)) at c.args.tally.now c.loop.tally
+    (λ ss. frames.Items listings.List ss vs)
     (element_now c.loop.behind) (depths vs) (sum (map nodes vs)) c.loop.invariant.gone (take_rest octets at)
     c.walk_blank-at.new.tally j c.walk_blank-at.ensures.passed c.walk_blank-at.ensures.within (element_still c.loop.behind) c.walk_blank-at.ensures.noted)
     close.1 c.loop.invariant.visited
@@ -58,7 +58,7 @@ walk_list-returns-then-begins_with g t c =
 pub walk_list-loop-init : goal.walk_list-loop-init
 walk_list-loop-init g t c = record {
   values = [];
-  gone = gone_none marks.ListOpen c.args.level c.args.octets.now c.args.tally.now c.requires.low;
+  gone = gone_none brackets.List c.args.level c.args.octets.now c.args.tally.now c.requires.low;
   visited = no_items c.args.visitor.now;
 }
 
@@ -68,8 +68,8 @@ walk_list-loop-preserved-then-behind g t c =
     let at = c.loop.at in
     let j = c.walk_blank-at.result in
     let vs = c.loop.invariant.values in
-    let gone = gone_blank marks.ListOpen c.args.level octets (take (length octets - at) (drop at octets)) at c.args.tally.now c.loop.tally
-    (λ ss. frames.List ss vs) (element_now c.loop.behind) (depths vs) (sum (map nodes vs)) c.loop.invariant.gone (take_rest octets at)
+    let gone = gone_blank brackets.List c.args.level octets (take (length octets - at) (drop at octets)) at c.args.tally.now c.loop.tally
+    (λ ss. frames.Items listings.List ss vs) (element_now c.loop.behind) (depths vs) (sum (map nodes vs)) c.loop.invariant.gone (take_rest octets at)
     c.walk_blank-at.new.tally j c.walk_blank-at.ensures.passed c.walk_blank-at.ensures.within (element_still c.loop.behind) c.walk_blank-at.ensures.noted in
     record {
       values = vs;
@@ -87,13 +87,13 @@ walk_list-loop-preserved g t c =
     let at = c.loop.at in
     let j = c.walk_blank-at.result in
     let vs = c.loop.invariant.values in
-    let gone = gone_blank marks.ListOpen c.args.level octets (take (length octets - at) (drop at octets)) at c.args.tally.now c.loop.tally
-    (λ ss. frames.List ss vs) (element_now c.loop.behind) (depths vs) (sum (map nodes vs)) c.loop.invariant.gone (take_rest octets at)
+    let gone = gone_blank brackets.List c.args.level octets (take (length octets - at) (drop at octets)) at c.args.tally.now c.loop.tally
+    (λ ss. frames.Items listings.List ss vs) (element_now c.loop.behind) (depths vs) (sum (map nodes vs)) c.loop.invariant.gone (take_rest octets at)
     c.walk_blank-at.new.tally j c.walk_blank-at.ensures.passed c.walk_blank-at.ensures.within (element_still c.loop.behind) c.walk_blank-at.ensures.noted in
     record {
       values = vs ++ c.in_ok-value.ensures.walked.value ∷ [];
-      gone = list_value_on c.args.level octets (take (length octets - (at + j)) (drop (at + j) octets)) (at + j) c.args.tally.now c.walk_blank-at.new.tally
-          c.walk_item.new.tally (take_rest octets (at + j)) vs
+      gone = item_value_on c.args.level octets (take (length octets - (at + j)) (drop (at + j) octets)) (at + j) c.args.tally.now c.walk_blank-at.new.tally
+          c.walk_item.new.tally (take_rest octets (at + j)) listings.List vs
           (subst (λ b. ListGone c.args.level octets (at + j) c.args.tally.now c.walk_blank-at.new.tally vs b) c.if-behind.false gone) c.in_ok-value.value
           c.in_ok-value.ensures.walked;
       visited = one_item vs c.in_ok-value.ensures.walked.value _ _ _ c.loop.invariant.visited
@@ -109,14 +109,15 @@ walk_sexp-returns-then-begins_with g t c =
     let close = c.begins_with.ensures c.if-begins_with.true in
     sexp_visited g.T.TextVisitor.visits c.args.level octets (take (length octets - (at + j)) (drop (at + j) octets)) (at + j) c.args.tally.now
     c.walk_blank-at.new.tally (take_rest octets (at + j)) close.0 _ _ vs
-    (gone_blank marks.SexpOpen c.args.level octets (take (length octets - at) (drop at octets)) at c.args.tally.now c.loop.tally (λ ss. frames.Sexp ss vs)
+    (gone_blank brackets.Sexp c.args.level octets (take (length octets - at) (drop at octets)) at c.args.tally.now c.loop.tally
+    (λ ss. frames.Items listings.Sexp ss vs)
     nows.Ready (depths vs) (sum (map nodes vs)) c.loop.invariant.gone (take_rest octets at)
     c.walk_blank-at.new.tally j c.walk_blank-at.ensures.passed c.walk_blank-at.ensures.within tt c.walk_blank-at.ensures.noted) close.1 c.loop.invariant.visited
 
 pub walk_sexp-loop-init : goal.walk_sexp-loop-init
 walk_sexp-loop-init g t c = record {
   values = [];
-  gone = gone_none marks.SexpOpen c.args.level c.args.octets.now c.args.tally.now c.requires.low;
+  gone = gone_none brackets.Sexp c.args.level c.args.octets.now c.args.tally.now c.requires.low;
   visited = no_items c.args.visitor.now;
 }
 
@@ -126,13 +127,13 @@ walk_sexp-loop-preserved g t c =
     let at = c.loop.at in
     let j = c.walk_blank-at.result in
     let vs = c.loop.invariant.values in
-    let gone = gone_blank marks.SexpOpen c.args.level octets (take (length octets - at) (drop at octets)) at c.args.tally.now c.loop.tally
-    (λ ss. frames.Sexp ss vs) nows.Ready (depths vs) (sum (map nodes vs)) c.loop.invariant.gone (take_rest octets at)
+    let gone = gone_blank brackets.Sexp c.args.level octets (take (length octets - at) (drop at octets)) at c.args.tally.now c.loop.tally
+    (λ ss. frames.Items listings.Sexp ss vs) nows.Ready (depths vs) (sum (map nodes vs)) c.loop.invariant.gone (take_rest octets at)
     c.walk_blank-at.new.tally j c.walk_blank-at.ensures.passed c.walk_blank-at.ensures.within tt c.walk_blank-at.ensures.noted in
     record {
       values = vs ++ c.in_ok-value.ensures.walked.value ∷ [];
-      gone = sexp_value_on c.args.level octets (take (length octets - (at + j)) (drop (at + j) octets)) (at + j) c.args.tally.now c.walk_blank-at.new.tally
-          c.walk_item.new.tally (take_rest octets (at + j)) vs gone c.in_ok-value.value c.in_ok-value.ensures.walked;
+      gone = item_value_on c.args.level octets (take (length octets - (at + j)) (drop (at + j) octets)) (at + j) c.args.tally.now c.walk_blank-at.new.tally
+          c.walk_item.new.tally (take_rest octets (at + j)) listings.Sexp vs gone c.in_ok-value.value c.in_ok-value.ensures.walked;
       visited = one_item vs c.in_ok-value.ensures.walked.value _ _ _ c.loop.invariant.visited
           c.in_ok-value.ensures.visited;
     }
@@ -146,7 +147,7 @@ walk_struct-returns-then-begins_with g t c =
     let close = c.begins_with.ensures c.if-begins_with.true in
     fields_visited g.T.TextVisitor.visits c.args.level octets (take (length octets - (at + j)) (drop (at + j) octets)) (at + j) c.args.tally.now
     c.walk_blank-at.new.tally (take_rest octets (at + j)) close.0 _ _ ms c.loop.behind
-    (gone_blank marks.FieldsOpen c.args.level octets (take (length octets - at) (drop at octets)) at c.args.tally.now c.loop.tally (λ ss. frames.Fields ss ms)
+    (gone_blank brackets.Fields c.args.level octets (take (length octets - at) (drop at octets)) at c.args.tally.now c.loop.tally (λ ss. frames.Fields ss ms)
     (field_now c.loop.behind) (field_depths ms) (sum (map field_nodes ms)) c.loop.invariant.gone (take_rest octets at)
     c.walk_blank-at.new.tally j c.walk_blank-at.ensures.passed c.walk_blank-at.ensures.within (field_still c.loop.behind) c.walk_blank-at.ensures.noted) close.1
     c.loop.invariant.visited
@@ -154,7 +155,7 @@ walk_struct-returns-then-begins_with g t c =
 pub walk_struct-loop-init : goal.walk_struct-loop-init
 walk_struct-loop-init g t c = record {
   fields = [];
-  gone = gone_none marks.FieldsOpen c.args.level c.args.octets.now c.args.tally.now c.requires.low;
+  gone = gone_none brackets.Fields c.args.level c.args.octets.now c.args.tally.now c.requires.low;
   visited = no_fields c.args.visitor.now;
 }
 
@@ -164,7 +165,7 @@ walk_struct-loop-preserved-then-behind g t c =
     let at = c.loop.at in
     let j = c.walk_blank-at.result in
     let ms = c.loop.invariant.fields in
-    let gone = gone_blank marks.FieldsOpen c.args.level octets (take (length octets - at) (drop at octets)) at c.args.tally.now c.loop.tally
+    let gone = gone_blank brackets.Fields c.args.level octets (take (length octets - at) (drop at octets)) at c.args.tally.now c.loop.tally
     (λ ss. frames.Fields ss ms) (field_now c.loop.behind) (field_depths ms) (sum (map field_nodes ms)) c.loop.invariant.gone (take_rest octets at)
     c.walk_blank-at.new.tally j c.walk_blank-at.ensures.passed c.walk_blank-at.ensures.within (field_still c.loop.behind) c.walk_blank-at.ensures.noted in
     record {
@@ -185,7 +186,7 @@ walk_struct-loop-preserved g t c =
     let i = c.in_ok-name.name in
     let name = c.in_ok-name.ensures.walked.name in
     let ms = c.loop.invariant.fields in
-    let gone = gone_blank marks.FieldsOpen c.args.level octets (take (length octets - at) (drop at octets)) at c.args.tally.now c.loop.tally
+    let gone = gone_blank brackets.Fields c.args.level octets (take (length octets - at) (drop at octets)) at c.args.tally.now c.loop.tally
     (λ ss. frames.Fields ss ms) (field_now c.loop.behind) (field_depths ms) (sum (map field_nodes ms)) c.loop.invariant.gone (take_rest octets at)
     c.walk_blank-at.new.tally j c.walk_blank-at.ensures.passed c.walk_blank-at.ensures.within (field_still c.loop.behind) c.walk_blank-at.ensures.noted in
     let key = name_on c.args.level octets (take (length octets - (at + j)) (drop (at + j) octets)) (at + j) c.args.tally.now c.walk_blank-at.new.tally

@@ -38,7 +38,7 @@ use Rattle.ion_tokens.specs.machine.Ahead.{is_quoting, is_sane, is_colons, is_qu
 use Rattle.ion_text.specs.laws.reading.sound.Quotes.{Fine, Finely, given_far}
 use Rattle.ion_text.specs.laws.reading.complete.Exact.{Exact, Exactly, feed_exact}
 use Rattle.ion_text.specs.machine.Passed.{said_body}
-use Rattle.ion_text.specs.laws.reading.sound.Sound.{start_now}
+use Rattle.ion_text.specs.laws.reading.sound.StandsOpen.{start_now}
 use Rattle.ion_text.specs.laws.reading.sound.Spans.{IsClose, Spans, IsTopNow, turn_spans}
 use Rattle.ion_text.specs.laws.reading.complete.Meets.{Meets, at_blank, at_token, in_blank, goes_on, is_given, is_left, finely_as, follows_as, IdleLeft, idle_left, end_spans}
 use Rattle.ion_text.specs.laws.reading.complete.Going.{Operators, Going, TurnGoes, TurnEnds, TopOk, Direct, going_said, going_turn, going_settle, going_ends, inside_end, inside_token, InsideNext, stays, closed, top_place, no_operator, closes_kind, gives_top}
@@ -106,8 +106,7 @@ module _ (g : Catalog) (l : Limits) where
 
   ended_settled : (spot : Spot) (fs : List Frame) (v : Value) → SettledCalm (ended (under g l) spot fs v)
   ended_settled spot [] v = top_settled l.item spot.start spot.end spot.context v (next_slots spot.context v g) (is_table v)
-  ended_settled spot (frames.List ss vs ∷ fs) v = λ m h. absurd cc
-  ended_settled spot (frames.Sexp ss vs ∷ fs) v = λ m h. absurd cc
+  ended_settled spot (frames.Items listing ss vs ∷ fs) v = λ m h. absurd cc
   ended_settled spot (frames.Named ss ms s ∷ fs) v = λ m h. absurd cc
   ended_settled spot (frames.Fields ss ms ∷ fs) v = tt
 

@@ -28,8 +28,13 @@ use Rattle.ion_text.specs.declared.state.Now.{Now}
 use Rattle.ion_text.specs.declared.state.Now.TheVariants as nows
 use Rattle.ion_text.specs.declared.state.Frame.{Frame}
 use Rattle.ion_text.specs.declared.state.Frame.TheVariants as frames
+use Rattle.ion_text.specs.declared.state.Listing.TheVariants as listings
+use Rattle.ion_visiting.specs.declared.bracket.Bracket.{Bracket}
+use Rattle.ion_visiting.specs.declared.bracket.Bracket.TheVariants as brackets
+use Rattle.ion_text.specs.machine.Nested.{open_mark}
+use Rattle.ion_text.specs.laws.reading.Brackets.{open_turns}
 use Rattle.ion_text.specs.Grammar.{Says, IsSymbol, is_word, is_id, is_quoted, IsScalar, is_null, is_typed_null, is_true, is_false, is_int, is_decimal, is_timestamp, is_symbol, is_operator, is_short, is_clob, is_blob, Annotations, no_annotation, one_annotation, Segments, segment, joined, Plain, one_token, long_string, is_list, is_sexp, is_struct, Means, means, Elements, no_element, element, comma, Row, no_item, item, Members, no_field, field, field_comma, IsName, by_symbol, by_short, by_long, close_place, is_keyword, is_version, the_marker, is_version_word, ends_long, begins_long, end_of}
-use Rattle.ion_text.specs.machine.EachToken.{under, spot_at, Reading, Turn, goes, Token, Symbols, at, place, place_in, settle, turn, ended, held_word, held_symbol, held_payload, released, begun_at, on_ready, on_name, resolved, noted, paid}
+use Rattle.ion_text.specs.machine.EachToken.{under, spot_at, Reading, Turn, goes, Token, Symbols, at, place, place_in, settle, turn, ended, held_word, held_symbol, held_payload, released, begun_at, on_ready, on_name, resolved, noted, paid, opened, first_now}
 use Rattle.ion_text.specs.machine.Run.{token_of, is_top}
 use Rattle.ion_text.specs.machine.Places.{pending_at, long_at, name_at}
 use Rattle.ion_text.specs.machine.TokenLists.{done, on_turn, then_walk, continues, continues_now, reads, reads-append, first_token, behind_waiting, adds_none}
@@ -574,43 +579,31 @@ module _ (g : Catalog) (l : Limits) where
 
   -- in a list: where another element may come, or behind one
   abbrev pub InList : List Slot → ℕ → List Frame → Symbols → List Placed → List Value → Bool → Type 0
-  InList c start fs ss ts vs true = reads g l (at start c (frames.List ss [] ∷ fs) [] nows.Ready) ts ≡ done (at start c (frames.List ss vs ∷ fs) [] nows.Ready)
-  InList c start fs ss ts vs false = Reached c (at start c (frames.List ss [] ∷ fs) [] nows.Ready) ts (at start c (frames.List ss vs ∷ fs) [] nows.After)
+  InList c start fs ss ts vs true = reads g l (at start c (opened brackets.List ss ∷ fs) [] nows.Ready) ts
+      ≡ done (at start c (frames.Items listings.List ss vs ∷ fs) [] nows.Ready)
+  InList c start fs ss ts vs false = Reached c (at start c (opened brackets.List ss ∷ fs) [] nows.Ready) ts
+      (at start c (frames.Items listings.List ss vs ∷ fs) [] nows.After)
 
   list_ends : (c : List Slot) (start : ℕ) (fs : List Frame) (ss : Symbols) (ts : List Placed) (vs : List Value) (more : Bool) (t : Placed)
       → InList c start fs ss ts vs more → Says places.List t (Mark' marks.ListClose)
-      → reads g l (at start c (frames.List ss [] ∷ fs) [] nows.Ready) (ts ++ t ∷ [])
+      → reads g l (at start c (opened brackets.List ss ∷ fs) [] nows.Ready) (ts ++ t ∷ [])
       ≡ on_turn (ended (under g l) (spot_at t.lexeme.end start c) fs (annotated ss (payloads.List vs))) done
-  list_ends c start fs ss ts vs true t h i = closed_by c places.List (at start c (frames.List ss [] ∷ fs) [] nows.Ready)
-      (at start c (frames.List ss vs ∷ fs) [] nows.Ready) ts t marks.ListClose _ refl
-      (ready_reached c (at start c (frames.List ss [] ∷ fs) [] nows.Ready) (at start c (frames.List ss vs ∷ fs) [] nows.Ready) ts refl (λ t. refl) h) i
-      (λ e. cc) refl
-  list_ends c start fs ss ts vs false t h i = closed_by c places.List (at start c (frames.List ss [] ∷ fs) [] nows.Ready)
-      (at start c (frames.List ss vs ∷ fs) [] nows.After) ts t marks.ListClose _ refl h i (λ e. cc) refl
+  list_ends c start fs ss ts vs true t h i = closed_by c places.List (at start c (opened brackets.List ss ∷ fs) [] nows.Ready)
+      (at start c (frames.Items listings.List ss vs ∷ fs) [] nows.Ready) ts t marks.ListClose _ refl
+      (ready_reached c (at start c (opened brackets.List ss ∷ fs) [] nows.Ready) (at start c (frames.Items listings.List ss vs ∷ fs) [] nows.Ready) ts refl
+      (λ t. refl) h) i (λ e. cc) refl
+  list_ends c start fs ss ts vs false t h i = closed_by c places.List (at start c (opened brackets.List ss ∷ fs) [] nows.Ready)
+      (at start c (frames.Items listings.List ss vs ∷ fs) [] nows.After) ts t marks.ListClose _ refl h i (λ e. cc) refl
 
-  pub opened : (c : List Slot) (p : Place) (start s : ℕ) (fs : List Frame) (ss : Symbols) (o : Placed) (us : List Placed) → p ≡ place_in fs nows.Ready
-      → length fs < l.depth → Says p o (Mark' marks.ListOpen) → begun_at start o.lexeme.start fs ss ≡ s
-      → reads g l (at start c fs ss nows.Ready) (o ∷ us) ≡ reads g l (at s c (frames.List ss [] ∷ fs) [] nows.Ready) us
-  opened c p start s fs ss o us here deep h e =
-      first_token g l p (at start c fs ss nows.Ready) o (Mark' marks.ListOpen) us h here (inr refl)
-      ∙ (ap (λ x. on_turn x (λ k. reads g l k us)) (cond-true _ _ _ (lt-ltb (length fs) l.depth deep))
-      ∙ ap (λ x. reads g l (at x c (frames.List ss [] ∷ fs) [] nows.Ready) us) e)
-
-  pub opened_sexp : (c : List Slot) (p : Place) (start s : ℕ) (fs : List Frame) (ss : Symbols) (o : Placed) (us : List Placed) → p ≡ place_in fs nows.Ready
-      → length fs < l.depth → Says p o (Mark' marks.SexpOpen) → begun_at start o.lexeme.start fs ss ≡ s
-      → reads g l (at start c fs ss nows.Ready) (o ∷ us) ≡ reads g l (at s c (frames.Sexp ss [] ∷ fs) [] nows.Ready) us
-  opened_sexp c p start s fs ss o us here deep h e =
-      first_token g l p (at start c fs ss nows.Ready) o (Mark' marks.SexpOpen) us h here (inr refl)
-      ∙ (ap (λ x. on_turn x (λ k. reads g l k us)) (cond-true _ _ _ (lt-ltb (length fs) l.depth deep))
-      ∙ ap (λ x. reads g l (at x c (frames.Sexp ss [] ∷ fs) [] nows.Ready) us) e)
-
-  pub opened_struct : (c : List Slot) (p : Place) (start s : ℕ) (fs : List Frame) (ss : Symbols) (o : Placed) (us : List Placed) → p ≡ place_in fs nows.Ready
-      → length fs < l.depth → Says p o (Mark' marks.FieldsOpen) → begun_at start o.lexeme.start fs ss ≡ s
-      → reads g l (at start c fs ss nows.Ready) (o ∷ us) ≡ reads g l (at s c (frames.Fields ss [] ∷ fs) [] nows.Name) us
-  opened_struct c p start s fs ss o us here deep h e =
-      first_token g l p (at start c fs ss nows.Ready) o (Mark' marks.FieldsOpen) us h here (inr refl)
-      ∙ (ap (λ x. on_turn x (λ k. reads g l k us)) (cond-true _ _ _ (lt-ltb (length fs) l.depth deep))
-      ∙ ap (λ x. reads g l (at x c (frames.Fields ss [] ∷ fs) [] nows.Name) us) e)
+  -- the open of a container is read
+  pub open_read : (bracket : Bracket) (c : List Slot) (p : Place) (start s : ℕ) (fs : List Frame) (ss : Symbols) (o : Placed) (us : List Placed)
+      → p ≡ place_in fs nows.Ready → length fs < l.depth → Says p o (Mark' (open_mark bracket)) → begun_at start o.lexeme.start fs ss ≡ s
+      → reads g l (at start c fs ss nows.Ready) (o ∷ us) ≡ reads g l (at s c (opened bracket ss ∷ fs) [] (first_now bracket)) us
+  open_read bracket c p start s fs ss o us here deep h e =
+      first_token g l p (at start c fs ss nows.Ready) o (Mark' (open_mark bracket)) us h here (inr refl)
+      ∙ (ap (λ x. on_turn x (λ k. reads g l k us)) (open_turns bracket (under g l) (spot_at o.lexeme.end (begun_at start o.lexeme.start fs ss) c) fs ss
+      ∙ cond-true _ _ _ (lt-ltb (length fs) l.depth deep))
+      ∙ ap (λ x. reads g l (at x c (opened bracket ss ∷ fs) [] (first_now bracket)) us) e)
 
   -- in a struct: where a name may come, or behind a field
   abbrev pub InStruct : List Slot → ℕ → List Frame → Symbols → List Placed → List Field → Bool → Type 0
@@ -672,20 +665,20 @@ module _ (g : Catalog) (l : Limits) where
     plain_read c p start fs ss _ _ here (is_list p' o e ts vs more h d i) v deep =
         let s = begun_at start o.lexeme.start fs ss in
         let dl = depth-list ss vs in
-        at_once (opened c p start s fs ss o (ts ++ e ∷ []) here (omega arith) h refl
+        at_once (open_read brackets.List c p start s fs ss o (ts ++ e ∷ []) here (omega arith) h refl
         ∙ (list_ends c s fs ss ts vs more e (elements_read c s fs ss ts vs more d (omega arith)) i
         ∙ ap (λ (n : ℕ). on_turn (ended (under g l) (spot_at n s c) fs (annotated ss (payloads.List vs))) done) (sym (end_of_front (o ∷ ts) [] e 0))))
     plain_read c p start fs ss _ _ here (is_sexp p' o e ts vs h d i) v deep =
         let s = begun_at start o.lexeme.start fs ss in
         let dl = depth-sexp ss vs in
-        at_once (opened_sexp c p start s fs ss o (ts ++ e ∷ []) here (omega arith) h refl
-        ∙ (closed_by c places.Sexp (at s c (frames.Sexp ss [] ∷ fs) [] nows.Ready) (at s c (frames.Sexp ss vs ∷ fs) [] nows.Ready) ts e marks.SexpClose _ refl
-        (row_read c s fs ss ts vs d (omega arith)) i (λ e. cc) refl
+        at_once (open_read brackets.Sexp c p start s fs ss o (ts ++ e ∷ []) here (omega arith) h refl
+        ∙ (closed_by c places.Sexp (at s c (opened brackets.Sexp ss ∷ fs) [] nows.Ready) (at s c (frames.Items listings.Sexp ss vs ∷ fs) [] nows.Ready) ts e
+        marks.SexpClose _ refl (row_read c s fs ss ts vs d (omega arith)) i (λ e. cc) refl
         ∙ ap (λ (n : ℕ). on_turn (ended (under g l) (spot_at n s c) fs (annotated ss (payloads.Sexp vs))) done) (sym (end_of_front (o ∷ ts) [] e 0))))
     plain_read c p start fs ss _ _ here (is_struct p' o e ts ms more h d i) v deep =
         let s = begun_at start o.lexeme.start fs ss in
         let dl = depth-struct ss ms in
-        at_once (opened_struct c p start s fs ss o (ts ++ e ∷ []) here (omega arith) h refl
+        at_once (open_read brackets.Fields c p start s fs ss o (ts ++ e ∷ []) here (omega arith) h refl
         ∙ (struct_ends c s fs ss ts ms more e (members_read c s fs ss ts ms more d (omega arith)) i
         ∙ ap (λ (n : ℕ). on_turn (ended (under g l) (spot_at n s c) fs (annotated ss (payloads.Fields ms))) done) (sym (end_of_front (o ∷ ts) [] e 0))))
 
@@ -707,33 +700,35 @@ module _ (g : Catalog) (l : Limits) where
     elements_read c start fs ss _ _ _ no_element deep = refl
     elements_read c start fs ss _ _ _ (element ts us vs v d m) deep =
         let k = deepest-more vs v in
-        let n = at start c (frames.List ss (vs ++ v ∷ []) ∷ fs) [] nows.After in
-        reached c (frames.List ss vs) fs (at start c (frames.List ss [] ∷ fs) [] nows.Ready) n (ts ++ us) refl (λ t. refl)
-        (leads_behind c (frames.List ss vs ∷ fs) (at start c (frames.List ss [] ∷ fs) [] nows.Ready) (at start c (frames.List ss vs ∷ fs) [] nows.Ready) ts us
-        (goes n) (elements_read c start fs ss ts vs true d (omega arith))
-        (subst (λ (x : ℕ). LeadsToTurn c (frames.List ss vs ∷ fs) (at start c (frames.List ss vs ∷ fs) [] nows.Ready) us
-        (goes (at x c (frames.List ss (vs ++ v ∷ []) ∷ fs) [] nows.After))) (starts_in start (frames.List ss vs) fs us)
-        (means_read c places.List start (frames.List ss vs ∷ fs) us v refl m (λ e. absurd cc) (omega arith))))
+        let f = frames.Items listings.List ss vs in
+        let r = at start c (opened brackets.List ss ∷ fs) [] nows.Ready in
+        let before = at start c (f ∷ fs) [] nows.Ready in
+        let n = at start c (frames.Items listings.List ss (vs ++ v ∷ []) ∷ fs) [] nows.After in
+        reached c f fs r n (ts ++ us) refl (λ t. refl)
+        (leads_behind c (f ∷ fs) r before ts us (goes n) (elements_read c start fs ss ts vs true d (omega arith))
+        (subst (λ (x : ℕ). LeadsToTurn c (f ∷ fs) before us (goes (at x c (frames.Items listings.List ss (vs ++ v ∷ []) ∷ fs) [] nows.After)))
+        (starts_in start f fs us) (means_read c places.List start (f ∷ fs) us v refl m (λ e. absurd cc) (omega arith))))
     elements_read c start fs ss _ _ _ (comma ts vs t d h) deep =
-        mark_behind c places.List (at start c (frames.List ss [] ∷ fs) [] nows.Ready) (at start c (frames.List ss vs ∷ fs) [] nows.After) ts t marks.Comma refl
-        (elements_read c start fs ss ts vs false d deep) h (λ e. cc)
+        mark_behind c places.List (at start c (opened brackets.List ss ∷ fs) [] nows.Ready)
+        (at start c (frames.Items listings.List ss vs ∷ fs) [] nows.After) ts t
+        marks.Comma refl (elements_read c start fs ss ts vs false d deep) h (λ e. cc)
 
     pub row_read : (c : List Slot) (start : ℕ) (fs : List Frame) (ss : Symbols) (ts : List Placed) (vs : List Value) → Row c ts vs
         → depths vs + suc (length fs) ≤ l.depth
-        → Reached c (at start c (frames.Sexp ss [] ∷ fs) [] nows.Ready) ts (at start c (frames.Sexp ss vs ∷ fs) [] nows.Ready)
-    row_read c start fs ss _ _ no_item deep = ready_reached c (at start c (frames.Sexp ss [] ∷ fs) [] nows.Ready)
-        (at start c (frames.Sexp ss [] ∷ fs) [] nows.Ready) [] refl (λ t. refl) refl
+        → Reached c (at start c (opened brackets.Sexp ss ∷ fs) [] nows.Ready) ts (at start c (frames.Items listings.Sexp ss vs ∷ fs) [] nows.Ready)
+    row_read c start fs ss _ _ no_item deep = ready_reached c (at start c (opened brackets.Sexp ss ∷ fs) [] nows.Ready)
+        (at start c (opened brackets.Sexp ss ∷ fs) [] nows.Ready) [] refl (λ t. refl) refl
     row_read c start fs ss _ _ (item ts us vs v d m apart) deep =
         let k = deepest-more vs v in
-        let n = at start c (frames.Sexp ss (vs ++ v ∷ []) ∷ fs) [] nows.Ready in
-        let before = at start c (frames.Sexp ss vs ∷ fs) [] nows.Ready in
-        reached c (frames.Sexp ss vs) fs (at start c (frames.Sexp ss [] ∷ fs) [] nows.Ready) n (ts ++ us) refl (λ t. refl)
-        (leads_as c (frames.Sexp ss vs ∷ fs) (at start c (frames.Sexp ss [] ∷ fs) [] nows.Ready) before ts us (goes n)
-        (item_behind c places.Sexp (at start c (frames.Sexp ss [] ∷ fs) [] nows.Ready) before ts us refl refl (row_read c start fs ss ts vs d (omega arith))
-        (means_begins c places.Sexp us v m) apart)
-        (subst (λ (x : ℕ). LeadsToTurn c (frames.Sexp ss vs ∷ fs) before us (goes (at x c (frames.Sexp ss (vs ++ v ∷ []) ∷ fs) [] nows.Ready)))
-        (starts_in start (frames.Sexp ss vs) fs us)
-        (means_read c places.Sexp start (frames.Sexp ss vs ∷ fs) us v refl m (λ e. absurd cc) (omega arith))))
+        let f = frames.Items listings.Sexp ss vs in
+        let r = at start c (opened brackets.Sexp ss ∷ fs) [] nows.Ready in
+        let before = at start c (f ∷ fs) [] nows.Ready in
+        let n = at start c (frames.Items listings.Sexp ss (vs ++ v ∷ []) ∷ fs) [] nows.Ready in
+        reached c f fs r n (ts ++ us) refl (λ t. refl)
+        (leads_as c (f ∷ fs) r before ts us (goes n)
+        (item_behind c places.Sexp r before ts us refl refl (row_read c start fs ss ts vs d (omega arith)) (means_begins c places.Sexp us v m) apart)
+        (subst (λ (x : ℕ). LeadsToTurn c (f ∷ fs) before us (goes (at x c (frames.Items listings.Sexp ss (vs ++ v ∷ []) ∷ fs) [] nows.Ready)))
+        (starts_in start f fs us) (means_read c places.Sexp start (f ∷ fs) us v refl m (λ e. absurd cc) (omega arith))))
 
     pub members_read : (c : List Slot) (start : ℕ) (fs : List Frame) (ss : Symbols) (ts : List Placed) (ms : List Field) (more : Bool) → Members c ts ms more
         → field_depths ms + suc (length fs) ≤ l.depth → InStruct c start fs ss ts ms more

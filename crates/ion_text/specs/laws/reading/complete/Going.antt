@@ -30,7 +30,7 @@ use Rattle.ion_text.specs.machine.TokenLists.{Walk, walked, stopped, adds_values
 use Rattle.ion_text.specs.machine.Places.{Leading, settle_same, settle_still, same_place, same_is}
 use Rattle.ion_text.specs.laws.reading.sound.Quotes.{Fine, is_close}
 use Rattle.ion_text.specs.machine.Passed.{said_body}
-use Rattle.ion_text.specs.laws.reading.sound.Sound.{EndsAt, start_now, end_of_now}
+use Rattle.ion_text.specs.laws.reading.sound.StandsOpen.{EndsAt, start_now, end_of_now}
 use Rattle.ion_text.specs.laws.reading.sound.Spans.{IsClose, Spans, OpenAs, IsTopNow, IsWaiting, SettlesWithin, turn_spans, settle_spans}
 use Rattle.ion_text.specs.laws.reading.complete.Meets.{Meets, at_blank, at_token, in_blank, goes_on, is_given, is_left, idle_span, end_spans, finely_as, one_given}
 

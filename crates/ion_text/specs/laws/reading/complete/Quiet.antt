@@ -29,7 +29,7 @@ use Rattle.ion_tokens.specs.machine.Ahead.{is_quoting, is_sane, is_closing, is_l
 use Rattle.ion_text.specs.laws.reading.sound.Quotes.{Fine, le_to}
 use Rattle.ion_text.specs.machine.Passed.{said_body}
 use Rattle.ion_text.specs.laws.reading.sound.Held.{segment_says}
-use Rattle.ion_text.specs.laws.reading.sound.Sound.{EndsAt, start_now}
+use Rattle.ion_text.specs.laws.reading.sound.StandsOpen.{EndsAt, start_now}
 use Rattle.ion_text.specs.laws.reading.sound.Spans.{IsTopNow, IsWaiting}
 use Rattle.ion_text.specs.laws.reading.complete.Meets.{Meets, at_blank, in_blank, begun_closing, begun_span, idle_span, long_segment, is_long_text, follows_as}
 use Rattle.ion_text.specs.laws.reading.complete.Going.{Operators, Going, TurnGoes, TurnEnds, TopOk, Direct, EndsPast, going_said, going_turn, going_ends, limit, top_limit, idle_past, used_inside, mark_kind, no_operator}

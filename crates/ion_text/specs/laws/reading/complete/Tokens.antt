@@ -34,7 +34,7 @@ use Rattle.ion_tokens.specs.machine.Ahead.{is_quoting, is_sane, is_closing, is_c
 use Rattle.ion_text.specs.laws.reading.sound.Quotes.{Fine, left_none}
 use Rattle.ion_text.specs.laws.reading.complete.Exact.{Exact, exact}
 use Rattle.ion_text.specs.laws.reading.sound.Held.{or_parts}
-use Rattle.ion_text.specs.laws.reading.sound.Sound.{no_segment}
+use Rattle.ion_text.specs.laws.reading.sound.StandsOpen.{no_segment}
 use Rattle.ion_text.specs.laws.reading.complete.Meets.{Meets, begun_closing, begun_apart, finely_as, follows_as, IdleLeft, idle_left, text, raw_text, text_text}
 use Rattle.ion_text.specs.laws.reading.complete.Going.{mark_kind}
 

@@ -42,7 +42,7 @@ use Rattle.ion_text.specs.machine.Progress.{Ran, Stands, octets_kept}
 use Rattle.ion_text.specs.laws.reading.complete.Quiet.{CalmNow}
 use Rattle.ion_text.specs.laws.reading.sound.Quotes.{Fine, Finely, feed_fine}
 use Rattle.ion_text.specs.machine.Run.{State, Effect, uses, tells, leaves, fails, begun, run, takes, unsettled, noticed, on_octet, on_scan, on_settled, on_said, behind_given, behind_left, or_worse, with_scan, token_of, shut, is_top, reaches, longest_top, is_long_begun, Run}
-use Rattle.ion_text.specs.laws.reading.sound.Sound.{NowStands}
+use Rattle.ion_text.specs.laws.reading.sound.StandsOpen.{NowStands}
 use Rattle.ion_text.specs.laws.reading.sound.Steps.{Stood, run_ran, begun_stood, StoodBehind}
 use Rattle.ion_text.specs.machine.Views.{state_of}
 use Rattle.ion_text.specs.laws.showing.tokens.Cuts.{OpenBehind, behind_tokens}
@@ -184,8 +184,7 @@ module _ (g : Catalog) (l : Limits) where
 
   ended_top : (spot : Spot) (fs : List Frame) (v : Value) → TopGives fs (ended (under g l) spot fs v)
   ended_top spot [] v = at_top (ended (under g l) spot [] v)
-  ended_top spot (frames.List ss vs ∷ fs) v = tt
-  ended_top spot (frames.Sexp ss vs ∷ fs) v = tt
+  ended_top spot (frames.Items listing ss vs ∷ fs) v = tt
   ended_top spot (frames.Named ss ms x ∷ fs) v = tt
   ended_top spot (frames.Fields ss ms ∷ fs) v = tt
 
@@ -214,8 +213,7 @@ module _ (g : Catalog) (l : Limits) where
 
   ended_inside : (spot : Spot) (fs : List Frame) (v : Value) → is_top fs ≡ false → StaysInside (ended (under g l) spot fs v)
   ended_inside spot [] v h = absurd cc
-  ended_inside spot (frames.List ss vs ∷ fs) v h = refl
-  ended_inside spot (frames.Sexp ss vs ∷ fs) v h = refl
+  ended_inside spot (frames.Items listing ss vs ∷ fs) v h = refl
   ended_inside spot (frames.Named ss ms x ∷ fs) v h = refl
   ended_inside spot (frames.Fields ss ms ∷ fs) v h = tt
 

@@ -1,5 +1,5 @@
 -- A value has at most as many nodes as tokens: each token adds one at most to what is open.
-use Rattle.std.proofs.Common.{◌≡◌, ℕ, suc, ◌+◌, ◌≤◌, nat_le, nat_lt, List, [], ◌∷◌, ◌++◌, length, map, sum, Bool, true, false, Result, Ok, Err, Option, Some, refl, ap, arith, length-append, if◌then◌else◌}
+use Rattle.std.proofs.Common.{◌≡◌, ℕ, suc, ◌+◌, ◌≤◌, nat_le, nat_lt, List, [], ◌∷◌, ◌++◌, length, map, sum, Bool, true, false, Result, Ok, Err, Option, Some, refl, sym, ap, subst, arith, length-append, if◌then◌else◌}
 use Rattle.std.proofs.lemmas.Bool.Decides.{nat_tests}
 use Rattle.std.specs.List.{sum_by}
 use Rattle.std.proofs.lemmas.List.Sums.{sum-map, sum_by-append, sum_by-cons}
@@ -27,11 +27,15 @@ use Rattle.ion_text.specs.declared.state.Now.{Now}
 use Rattle.ion_text.specs.declared.state.Now.TheVariants as nows
 use Rattle.ion_text.specs.declared.state.Frame.{Frame}
 use Rattle.ion_text.specs.declared.state.Frame.TheVariants as frames
+use Rattle.ion_visiting.specs.declared.bracket.Bracket.TheVariants as brackets
+use Rattle.ion_text.specs.declared.state.Listing.TheVariants as listings
 use Rattle.ion_text.specs.Grammar.{is_keyword}
-use Rattle.ion_text.specs.machine.EachToken.{Setting, Spot, under, spot_at, token_at, Reading, Turn, goes, gives, refuses, late, Token, Symbols, at, fresh, settle, turn, turn_now, ended, within, turned, held_symbol, held_payload, released, begun_at, on_ready, on_after, on_name, on_pending, on_long, on_long_name, on_keyed, on_comma, struct_closed, list_closed, sexp_closed, bare_close, deeper, paid, noted, resolved, keyed, named}
+use Rattle.ion_text.specs.machine.EachToken.{Setting, Spot, under, spot_at, token_at, Reading, Turn, goes, gives, refuses, late, Token, Symbols, at, fresh, settle, turn, turn_now, ended, within, turned, held_symbol, held_payload, released, begun_at, on_ready, on_after, on_name, on_pending, on_long, on_long_name, on_keyed, on_comma, closed, bare_close, deeper, paid, noted, resolved, keyed, named}
 use Rattle.ion_visiting.specs.Parts.{number_payload}
 use Rattle.ion_text.specs.machine.Run.{is_top}
-use Rattle.ion_text.specs.laws.reading.sound.Sound.{start_now}
+use Rattle.ion_text.specs.laws.reading.sound.StandsOpen.{start_now}
+use Rattle.ion_text.specs.laws.reading.Brackets.{Closes, ends_list, ends_sexp, ends_struct, ends_none, closes_or_not}
+use Rattle.ion_visiting.specs.declared.bracket.Bracket.{Bracket}
 
 -- the nodes of what is open so far: of the containers, of the annotations that wait, and of what waits itself
 
@@ -42,8 +46,7 @@ abbrev pub many_fields : List Field → ℕ
 many_fields ms = sum (map (λ f. suc (nodes f.value)) ms)
 
 abbrev pub frame_nodes : Frame → ℕ
-frame_nodes (frames.List ss vs) = length ss + suc (many vs)
-frame_nodes (frames.Sexp ss vs) = length ss + suc (many vs)
+frame_nodes (frames.Items listing ss vs) = length ss + suc (many vs)
 frame_nodes (frames.Fields ss ms) = length ss + suc (many_fields ms)
 frame_nodes (frames.Named ss ms s) = suc (length ss + suc (many_fields ms))
 
@@ -140,8 +143,8 @@ ended_weighs : (setting : Setting) (spot : Spot) (fs : List Frame) (v : Value) (
     → Weighs n setting.limits.item spot.start spot.end top (ended setting spot fs v)
 ended_weighs setting spot [] v n top h = let k : 0 + nodes v ≤ n = h in
     top_weighs n setting.limits.item spot.start spot.end top spot.context v (next spot.context v setting.catalog) (is_table v) (omega (arith, k))
-ended_weighs setting spot (frames.List ss vs ∷ fs) v n top h = (omega (arith, h, nodes-more vs v), omega arith, tt)
-ended_weighs setting spot (frames.Sexp ss vs ∷ fs) v n top h = (omega (arith, h, nodes-more vs v), omega arith, tt)
+ended_weighs setting spot (frames.Items listings.List ss vs ∷ fs) v n top h = (omega (arith, h, nodes-more vs v), omega arith, tt)
+ended_weighs setting spot (frames.Items listings.Sexp ss vs ∷ fs) v n top h = (omega (arith, h, nodes-more vs v), omega arith, tt)
 ended_weighs setting spot (frames.Named ss ms s ∷ fs) v n top h = (omega (arith, h, fields_more ms (field_of s v)), omega arith, tt)
 ended_weighs setting spot (frames.Fields ss ms ∷ fs) v n top h = tt
 
@@ -183,32 +186,16 @@ deeper_weighs n item start end top depth fs t deep h k = go (nat_lt (length fs) 
     go true = h
     go false = k
 
-list_weighs : (setting : Setting) (spot : Spot) (fs : List Frame) (n : ℕ) (top : Bool) → frames_nodes fs ≤ n
-    → Weighs n setting.limits.item spot.start spot.end top (list_closed setting spot fs)
-list_weighs setting spot (frames.List ss vs ∷ fs) n top h =
-    ended_weighs setting spot fs _ n top (omega (arith, h, nodes-at-List (annotated ss (payloads.List vs)) vs refl))
-list_weighs setting spot (frames.Sexp ss vs ∷ fs) n top h = tt
-list_weighs setting spot (frames.Fields ss vs ∷ fs) n top h = tt
-list_weighs setting spot (frames.Named ss vs s ∷ fs) n top h = tt
-list_weighs setting spot [] n top h = tt
-
-sexp_weighs : (setting : Setting) (spot : Spot) (fs : List Frame) (n : ℕ) (top : Bool) → frames_nodes fs ≤ n
-    → Weighs n setting.limits.item spot.start spot.end top (sexp_closed setting spot fs)
-sexp_weighs setting spot (frames.Sexp ss vs ∷ fs) n top h =
-    ended_weighs setting spot fs _ n top (omega (arith, h, nodes-at-Sexp (annotated ss (payloads.Sexp vs)) vs refl))
-sexp_weighs setting spot (frames.List ss vs ∷ fs) n top h = tt
-sexp_weighs setting spot (frames.Fields ss vs ∷ fs) n top h = tt
-sexp_weighs setting spot (frames.Named ss vs s ∷ fs) n top h = tt
-sexp_weighs setting spot [] n top h = tt
-
-struct_weighs : (setting : Setting) (spot : Spot) (fs : List Frame) (n : ℕ) (top : Bool) → frames_nodes fs ≤ n
-    → Weighs n setting.limits.item spot.start spot.end top (struct_closed setting spot fs)
-struct_weighs setting spot (frames.Fields ss ms ∷ fs) n top h =
-    ended_weighs setting spot fs _ n top (omega (arith, h, nodes-at-Fields (annotated ss (payloads.Fields ms)) ms refl))
-struct_weighs setting spot (frames.List ss vs ∷ fs) n top h = tt
-struct_weighs setting spot (frames.Sexp ss vs ∷ fs) n top h = tt
-struct_weighs setting spot (frames.Named ss vs s ∷ fs) n top h = tt
-struct_weighs setting spot [] n top h = tt
+closed_weighs : (setting : Setting) (spot : Spot) (bracket : Bracket) (fs : List Frame) (n : ℕ) (top : Bool) → frames_nodes fs ≤ n
+    → Weighs n setting.limits.item spot.start spot.end top (closed bracket setting spot fs)
+closed_weighs setting spot bracket fs n top = by bracket fs (closes_or_not bracket fs)
+  where
+    by : (bracket : Bracket) (fs : List Frame) → Closes bracket fs → frames_nodes fs ≤ n
+        → Weighs n setting.limits.item spot.start spot.end top (closed bracket setting spot fs)
+    by _ _ (ends_list ss vs fs) h = ended_weighs setting spot fs _ n top (omega (arith, h, nodes-at-List (annotated ss (payloads.List vs)) vs refl))
+    by _ _ (ends_sexp ss vs fs) h = ended_weighs setting spot fs _ n top (omega (arith, h, nodes-at-Sexp (annotated ss (payloads.Sexp vs)) vs refl))
+    by _ _ (ends_struct ss ms fs) h = ended_weighs setting spot fs _ n top (omega (arith, h, nodes-at-Fields (annotated ss (payloads.Fields ms)) ms refl))
+    by _ _ (ends_none bracket fs e) h = subst (Weighs n setting.limits.item spot.start spot.end top) (sym (e setting spot)) tt
 
 bare_weighs : (n item start end : ℕ) (top : Bool) (ss : Symbols) (t : Turn) → Weighs n item start end top t → Weighs n item start end top (bare_close ss t)
 bare_weighs n item start end top [] t h = h
@@ -249,9 +236,9 @@ module _ (g : Catalog) (l : Limits) where
     ready_weighs ss (Mark' marks.SexpOpen) h = deeper_weighs n l.item spot.start spot.end (is_top fs) l.depth fs _ _ (omega (arith, h), omega arith, tt) tt
     ready_weighs ss (Mark' marks.FieldsOpen) h = deeper_weighs n l.item spot.start spot.end (is_top fs) l.depth fs _ _ (omega (arith, h), omega arith, tt) tt
     ready_weighs ss (Mark' marks.ListClose) h = bare_weighs n l.item spot.start spot.end (is_top fs) ss _
-        (list_weighs (under g l) spot fs n (is_top fs) (omega (arith, h)))
+        (closed_weighs (under g l) spot brackets.List fs n (is_top fs) (omega (arith, h)))
     ready_weighs ss (Mark' marks.SexpClose) h = bare_weighs n l.item spot.start spot.end (is_top fs) ss _
-        (sexp_weighs (under g l) spot fs n (is_top fs) (omega (arith, h)))
+        (closed_weighs (under g l) spot brackets.Sexp fs n (is_top fs) (omega (arith, h)))
     ready_weighs ss (Mark' marks.FieldsClose) h = tt
     ready_weighs ss (Mark' marks.Comma) h = tt
     ready_weighs ss (Mark' marks.Colon) h = tt
@@ -272,16 +259,16 @@ module _ (g : Catalog) (l : Limits) where
 
   module _ (spot : Spot) (n : ℕ) where
     comma_weighs : (fs : List Frame) (top : Bool) → frames_nodes fs ≤ n → Weighs n l.item spot.start spot.end top (on_comma spot.start spot.context fs)
-    comma_weighs (frames.List ss vs ∷ fs) top h = (omega (arith, h), omega arith, tt)
+    comma_weighs (frames.Items listings.List ss vs ∷ fs) top h = (omega (arith, h), omega arith, tt)
     comma_weighs (frames.Fields ss ms ∷ fs) top h = (omega (arith, h), omega arith, tt)
-    comma_weighs (frames.Sexp ss vs ∷ fs) top h = tt
+    comma_weighs (frames.Items listings.Sexp ss vs ∷ fs) top h = tt
     comma_weighs (frames.Named ss ms s ∷ fs) top h = tt
     comma_weighs [] top h = tt
 
     after_weighs : (fs : List Frame) (top : Bool) (x : Content) → frames_nodes fs ≤ n → Weighs n l.item spot.start spot.end top (on_after (under g l) spot fs x)
     after_weighs fs top (Mark' marks.Comma) h = comma_weighs fs top h
-    after_weighs fs top (Mark' marks.ListClose) h = list_weighs (under g l) spot fs n top h
-    after_weighs fs top (Mark' marks.FieldsClose) h = struct_weighs (under g l) spot fs n top h
+    after_weighs fs top (Mark' marks.ListClose) h = closed_weighs (under g l) spot brackets.List fs n top h
+    after_weighs fs top (Mark' marks.FieldsClose) h = closed_weighs (under g l) spot brackets.Fields fs n top h
     after_weighs fs top _ h = tt
 
     -- what doesn't wait as a value
@@ -307,7 +294,7 @@ module _ (g : Catalog) (l : Limits) where
     name_weighs fs top (Quoted w) h = (omega (arith, h), omega arith, name_top fs top (Some w))
     name_weighs fs top (Short w) h = (omega (arith, h), omega arith, name_top fs top (Some w))
     name_weighs fs top (Long w) h = (omega (arith, h), omega arith, text_top fs top w)
-    name_weighs fs top (Mark' marks.FieldsClose) h = struct_weighs (under g l) spot fs n top (omega (arith, h))
+    name_weighs fs top (Mark' marks.FieldsClose) h = closed_weighs (under g l) spot brackets.Fields fs n top (omega (arith, h))
     name_weighs fs top _ h = tt
 
     long_name_weighs : (fs : List Frame) (top : Bool) (v : List ℕ) (x : Content) → frames_nodes fs + 1 ≤ n
@@ -318,8 +305,7 @@ module _ (g : Catalog) (l : Limits) where
     named_weighs : (fs : List Frame) (top : Bool) (s : Option (List ℕ)) → frames_nodes fs + 1 ≤ n
         → Weighs n l.item spot.start spot.end top (named spot.start spot.context fs s)
     named_weighs (frames.Fields ss ms ∷ fs) top s h = (omega (arith, h), omega arith, tt)
-    named_weighs (frames.List ss vs ∷ fs) top s h = tt
-    named_weighs (frames.Sexp ss vs ∷ fs) top s h = tt
+    named_weighs (frames.Items listing ss vs ∷ fs) top s h = tt
     named_weighs (frames.Named ss ms x ∷ fs) top s h = tt
     named_weighs [] top s h = tt
 

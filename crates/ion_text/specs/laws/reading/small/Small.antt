@@ -30,7 +30,7 @@ use Rattle.ion_text.specs.machine.EachToken.{under, token_at, Reading, Turn, goe
 use Rattle.ion_text.specs.machine.Run.{State, Effect, uses, tells, leaves, fails, begun, eats, takes, waits, waits_now, in_segment, unsettled, noticed, shut, reaches, or_worse, on_scan, on_settled, on_said, behind_given, behind_left, with_scan, token_of, is_top, Run, run, run_on, once_more, trace, ends_of, cut_short, end_late, end_settled, end_turned, end_said, end_waiting, end_ready, end_now, is_fresh}
 use Rattle.ion_text.specs.laws.reading.sound.Held.{or_parts}
 use Rattle.ion_text.specs.laws.reading.complete.Segments.{NotRefused, unsettled_waits}
-use Rattle.ion_text.specs.laws.reading.sound.Sound.{start_now}
+use Rattle.ion_text.specs.laws.reading.sound.StandsOpen.{start_now}
 use Rattle.ion_text.specs.machine.Passed.{said_body}
 use Rattle.ion_text.specs.machine.Places.{Leading, settle_same}
 use Rattle.ion_text.specs.laws.reading.complete.Meets.{IdleLeft, idle_left, end_spans}
@@ -415,8 +415,7 @@ module _ (g : Catalog) (l : Limits) where
     operator_gives : (begin end start : ℕ) (c : List Slot) (fs : List Frame) (ss : Symbols) (now : Now) (w : List ℕ) → is_top fs ≡ false
         → GivesNone (turn_now (under g l) (at start c fs ss now) (token_at begin end (Operator w)) now)
     operator_gives begin end start c [] ss now w h = absurd cc
-    operator_gives begin end start c (frames.List xs vs ∷ fs) ss nows.Ready w h = tt
-    operator_gives begin end start c (frames.Sexp xs vs ∷ fs) ss nows.Ready w h = tt
+    operator_gives begin end start c (frames.Items listing xs vs ∷ fs) ss nows.Ready w h = tt
     operator_gives begin end start c (frames.Fields xs vs ∷ fs) ss nows.Ready w h = tt
     operator_gives begin end start c (frames.Named xs vs s ∷ fs) ss nows.Ready w h = tt
     operator_gives begin end start c (f ∷ fs) ss (nows.Pending k e) w h = tt

@@ -40,7 +40,7 @@ use Rattle.ion_tokens.specs.declared.mode.Mark.TheVariants as marks
 use Rattle.ion_text.specs.laws.reading.sound.Quotes.{is_close, left_none}
 use Rattle.ion_tokens.proofs.runs.Scans.{placed}
 use Rattle.ion_text.specs.machine.Passed.{said_passes}
-use Rattle.ion_text.specs.laws.reading.sound.Sound.{NowStands}
+use Rattle.ion_text.specs.laws.reading.sound.StandsOpen.{NowStands}
 use Rattle.ion_text.specs.laws.reading.sound.Held.{Scans, Behind, Reads, NoLongText, token_read, settled_end, none_noted}
 use Rattle.ion_text.specs.laws.reading.sound.Steps.{Stood, StoodBehind, run_ran, begun_stood}
 

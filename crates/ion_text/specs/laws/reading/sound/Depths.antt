@@ -1,5 +1,5 @@
 -- What the reader gives is no deeper than the limit.
-use Rattle.std.proofs.Common.{◌≡◌, ℕ, suc, ◌+◌, ◌≤◌, nat_le, nat_lt, List, [], ◌∷◌, length, Bool, true, false, Result, Ok, Err, Option, Some, refl, ap, ◌∙◌, subst, arith, if◌then◌else◌}
+use Rattle.std.proofs.Common.{◌≡◌, ℕ, suc, ◌+◌, ◌≤◌, nat_le, nat_lt, List, [], ◌∷◌, length, Bool, true, false, Result, Ok, Err, Option, Some, refl, sym, ap, ◌∙◌, subst, arith, if◌then◌else◌}
 use Rattle.std.proofs.lemmas.Bool.Decides.{nat_tests}
 use Rattle.ion_model.specs.declared.value.Value.{Value}
 use Rattle.ion_model.specs.declared.value.Payload.{Payload}
@@ -24,23 +24,25 @@ use Rattle.ion_text.specs.declared.state.Now.{Now}
 use Rattle.ion_text.specs.declared.state.Now.TheVariants as nows
 use Rattle.ion_text.specs.declared.state.Frame.{Frame}
 use Rattle.ion_text.specs.declared.state.Frame.TheVariants as frames
+use Rattle.ion_visiting.specs.declared.bracket.Bracket.TheVariants as brackets
+use Rattle.ion_text.specs.declared.state.Listing.TheVariants as listings
 use Rattle.ion_text.specs.Grammar.{is_keyword}
-use Rattle.ion_text.specs.machine.EachToken.{Setting, Spot, under, spot_at, token_at, Reading, Turn, goes, gives, refuses, late, Token, Symbols, at, fresh, settle, turn, turn_now, ended, within, turned, held_symbol, held_payload, released, begun_at, on_ready, on_after, on_name, on_pending, on_long, on_long_name, on_keyed, on_comma, struct_closed, list_closed, sexp_closed, bare_close, paid, noted, resolved, keyed, named}
+use Rattle.ion_text.specs.machine.EachToken.{Setting, Spot, under, spot_at, token_at, Reading, Turn, goes, gives, refuses, late, Token, Symbols, at, fresh, settle, turn, turn_now, ended, within, turned, held_symbol, held_payload, released, begun_at, on_ready, on_after, on_name, on_pending, on_long, on_long_name, on_keyed, on_comma, closed, bare_close, deeper, paid, noted, resolved, keyed, named}
 use Rattle.ion_visiting.specs.Parts.{number_payload}
 use Rattle.ion_text.specs.laws.reading.complete.Complete.{depths, field_depths, field_deepest-more, depth-list, depth-sexp, depth-struct}
+use Rattle.ion_text.specs.laws.reading.Brackets.{Closes, ends_list, ends_sexp, ends_struct, ends_none, closes_or_not}
+use Rattle.ion_visiting.specs.declared.bracket.Bracket.{Bracket}
 
 -- what has come of the open containers stays within so many levels
 abbrev pub Deep : ℕ → List Frame → Type 0
 Deep n [] = Unit {0}
-Deep n (frames.List ss vs ∷ fs) = (depths vs + suc (length fs) ≤ n) × Deep n fs
-Deep n (frames.Sexp ss vs ∷ fs) = (depths vs + suc (length fs) ≤ n) × Deep n fs
+Deep n (frames.Items listing ss vs ∷ fs) = (depths vs + suc (length fs) ≤ n) × Deep n fs
 Deep n (frames.Fields ss ms ∷ fs) = (field_depths ms + suc (length fs) ≤ n) × Deep n fs
 Deep n (frames.Named ss ms s ∷ fs) = (field_depths ms + suc (length fs) ≤ n) × Deep n fs
 
 length_deep : (n : ℕ) (fs : List Frame) → Deep n fs → length fs ≤ n
 length_deep n [] h = omega arith
-length_deep n (frames.List ss vs ∷ fs) h = let k = h.0 in omega arith
-length_deep n (frames.Sexp ss vs ∷ fs) h = let k = h.0 in omega arith
+length_deep n (frames.Items listing ss vs ∷ fs) h = let k = h.0 in omega arith
 length_deep n (frames.Fields ss ms ∷ fs) h = let k = h.0 in omega arith
 length_deep n (frames.Named ss ms s ∷ fs) h = let k = h.0 in omega arith
 
@@ -107,8 +109,7 @@ ended_deep : (n : ℕ) (setting : Setting) (spot : Spot) (fs : List Frame) (v : 
     → GoesDeep n (ended setting spot fs v)
 ended_deep n setting spot [] v d h = top_deep n setting.limits.item spot.start spot.end spot.context v (next spot.context v setting.catalog) (is_table v)
     (omega arith)
-ended_deep n setting spot (frames.List ss vs ∷ fs) v d h = let k = d.0 in let m = deepest-more vs v in (omega arith, d.1)
-ended_deep n setting spot (frames.Sexp ss vs ∷ fs) v d h = let k = d.0 in let m = deepest-more vs v in (omega arith, d.1)
+ended_deep n setting spot (frames.Items listing ss vs ∷ fs) v d h = let k = d.0 in let m = deepest-more vs v in (omega arith, d.1)
 ended_deep n setting spot (frames.Named ss ms s ∷ fs) v d h = let k = d.0 in let m = field_deepest-more ms (field_of s v) in (omega arith, d.1)
 ended_deep n setting spot (frames.Fields ss ms ∷ fs) v d h = tt
 
@@ -139,42 +140,21 @@ resolved_deep n (Err e) f h = tt
 lt_of : (a b : ℕ) → nat_lt a b ≡ true → suc a ≤ b
 lt_of a b h = grind (arith, nat_tests)
 
-list_opens : (n start : ℕ) (c : List Slot) (fs : List Frame) (ss : Symbols) (b : Bool) → nat_lt (length fs) n ≡ b → Deep n fs
-    → GoesDeep n (if b then goes (at start c (frames.List ss [] ∷ fs) [] nows.Ready) else refuses reasons.Depth)
-list_opens n start c fs ss true e d = let k = lt_of (length fs) n e in (omega arith, d)
-list_opens n start c fs ss false e d = tt
+deeper_deep : (n : ℕ) (fs : List Frame) (t deep : Turn) → (suc (length fs) ≤ n → GoesDeep n t) → GoesDeep n deep → GoesDeep n (deeper n fs t deep)
+deeper_deep n fs t deep h k = go (nat_lt (length fs) n) refl
+  where
+    go : (b : Bool) → nat_lt (length fs) n ≡ b → GoesDeep n (if b then t else deep)
+    go true e = h (lt_of (length fs) n e)
+    go false e = k
 
-sexp_opens : (n start : ℕ) (c : List Slot) (fs : List Frame) (ss : Symbols) (b : Bool) → nat_lt (length fs) n ≡ b → Deep n fs
-    → GoesDeep n (if b then goes (at start c (frames.Sexp ss [] ∷ fs) [] nows.Ready) else refuses reasons.Depth)
-sexp_opens n start c fs ss true e d = let k = lt_of (length fs) n e in (omega arith, d)
-sexp_opens n start c fs ss false e d = tt
-
-struct_opens : (n start : ℕ) (c : List Slot) (fs : List Frame) (ss : Symbols) (b : Bool) → nat_lt (length fs) n ≡ b → Deep n fs
-    → GoesDeep n (if b then goes (at start c (frames.Fields ss [] ∷ fs) [] nows.Name) else late reasons.Depth
-    (at start c (frames.Fields ss [] ∷ fs) [] nows.Name))
-struct_opens n start c fs ss true e d = let k = lt_of (length fs) n e in (omega arith, d)
-struct_opens n start c fs ss false e d = tt
-
-list_closes : (n : ℕ) (setting : Setting) (spot : Spot) (fs : List Frame) → Deep n fs → GoesDeep n (list_closed setting spot fs)
-list_closes n setting spot (frames.List ss vs ∷ fs) d = let k = d.0 in let m = depth-list ss vs in ended_deep n setting spot fs _ d.1 (omega arith)
-list_closes n setting spot (frames.Sexp ss vs ∷ fs) d = tt
-list_closes n setting spot (frames.Fields ss ms ∷ fs) d = tt
-list_closes n setting spot (frames.Named ss ms s ∷ fs) d = tt
-list_closes n setting spot [] d = tt
-
-sexp_closes : (n : ℕ) (setting : Setting) (spot : Spot) (fs : List Frame) → Deep n fs → GoesDeep n (sexp_closed setting spot fs)
-sexp_closes n setting spot (frames.Sexp ss vs ∷ fs) d = let k = d.0 in let m = depth-sexp ss vs in ended_deep n setting spot fs _ d.1 (omega arith)
-sexp_closes n setting spot (frames.List ss vs ∷ fs) d = tt
-sexp_closes n setting spot (frames.Fields ss ms ∷ fs) d = tt
-sexp_closes n setting spot (frames.Named ss ms s ∷ fs) d = tt
-sexp_closes n setting spot [] d = tt
-
-struct_closes : (n : ℕ) (setting : Setting) (spot : Spot) (fs : List Frame) → Deep n fs → GoesDeep n (struct_closed setting spot fs)
-struct_closes n setting spot (frames.Fields ss ms ∷ fs) d = let k = d.0 in let m = depth-struct ss ms in ended_deep n setting spot fs _ d.1 (omega arith)
-struct_closes n setting spot (frames.List ss vs ∷ fs) d = tt
-struct_closes n setting spot (frames.Sexp ss vs ∷ fs) d = tt
-struct_closes n setting spot (frames.Named ss ms s ∷ fs) d = tt
-struct_closes n setting spot [] d = tt
+closed_deep : (n : ℕ) (setting : Setting) (spot : Spot) (bracket : Bracket) (fs : List Frame) → Deep n fs → GoesDeep n (closed bracket setting spot fs)
+closed_deep n setting spot bracket fs = by bracket fs (closes_or_not bracket fs)
+  where
+    by : (bracket : Bracket) (fs : List Frame) → Closes bracket fs → Deep n fs → GoesDeep n (closed bracket setting spot fs)
+    by _ _ (ends_list ss vs fs) d = let k = d.0 in let m = depth-list ss vs in ended_deep n setting spot fs _ d.1 (omega arith)
+    by _ _ (ends_sexp ss vs fs) d = let k = d.0 in let m = depth-sexp ss vs in ended_deep n setting spot fs _ d.1 (omega arith)
+    by _ _ (ends_struct ss ms fs) d = let k = d.0 in let m = depth-struct ss ms in ended_deep n setting spot fs _ d.1 (omega arith)
+    by _ _ (ends_none bracket fs e) d = subst (GoesDeep n) (sym (e setting spot)) tt
 
 bare_deep : (n : ℕ) (ss : Symbols) (t : Turn) → GoesDeep n t → GoesDeep n (bare_close ss t)
 bare_deep n [] t h = h
@@ -192,14 +172,11 @@ ready_deep setting spot fs ss (Number' m) d = flat_deep setting.limits.depth set
 ready_deep setting spot fs ss (Operator w) d = flat_deep setting.limits.depth setting spot fs ss _ d (flat_symbol ss (Some w))
 ready_deep setting spot fs ss (Clob w) d = flat_deep setting.limits.depth setting spot fs ss _ d (flat_clob ss w)
 ready_deep setting spot fs ss (Blob w) d = flat_deep setting.limits.depth setting spot fs ss _ d (flat_blob ss w)
-ready_deep setting spot fs ss (Mark' marks.ListOpen) d =
-    list_opens setting.limits.depth spot.start spot.context fs ss (nat_lt (length fs) setting.limits.depth) refl d
-ready_deep setting spot fs ss (Mark' marks.SexpOpen) d =
-    sexp_opens setting.limits.depth spot.start spot.context fs ss (nat_lt (length fs) setting.limits.depth) refl d
-ready_deep setting spot fs ss (Mark' marks.FieldsOpen) d =
-    struct_opens setting.limits.depth spot.start spot.context fs ss (nat_lt (length fs) setting.limits.depth) refl d
-ready_deep setting spot fs ss (Mark' marks.ListClose) d = bare_deep setting.limits.depth ss _ (list_closes setting.limits.depth setting spot fs d)
-ready_deep setting spot fs ss (Mark' marks.SexpClose) d = bare_deep setting.limits.depth ss _ (sexp_closes setting.limits.depth setting spot fs d)
+ready_deep setting spot fs ss (Mark' marks.ListOpen) d = deeper_deep setting.limits.depth fs _ _ (λ k. (omega arith, d)) tt
+ready_deep setting spot fs ss (Mark' marks.SexpOpen) d = deeper_deep setting.limits.depth fs _ _ (λ k. (omega arith, d)) tt
+ready_deep setting spot fs ss (Mark' marks.FieldsOpen) d = deeper_deep setting.limits.depth fs _ _ (λ k. (omega arith, d)) tt
+ready_deep setting spot fs ss (Mark' marks.ListClose) d = bare_deep setting.limits.depth ss _ (closed_deep setting.limits.depth setting spot brackets.List fs d)
+ready_deep setting spot fs ss (Mark' marks.SexpClose) d = bare_deep setting.limits.depth ss _ (closed_deep setting.limits.depth setting spot brackets.Sexp fs d)
 ready_deep setting spot fs ss (Mark' marks.FieldsClose) d = tt
 ready_deep setting spot fs ss (Mark' marks.Comma) d = tt
 ready_deep setting spot fs ss (Mark' marks.Colon) d = tt
@@ -220,16 +197,16 @@ long_deep n spot fs ss v (Long w) d = d
 long_deep n spot fs ss v _ d = tt
 
 comma_deep : (n start : ℕ) (c : List Slot) (fs : List Frame) → Deep n fs → GoesDeep n (on_comma start c fs)
-comma_deep n start c (frames.List ss vs ∷ fs) d = d
+comma_deep n start c (frames.Items listings.List ss vs ∷ fs) d = d
 comma_deep n start c (frames.Fields ss ms ∷ fs) d = d
-comma_deep n start c (frames.Sexp ss vs ∷ fs) d = tt
+comma_deep n start c (frames.Items listings.Sexp ss vs ∷ fs) d = tt
 comma_deep n start c (frames.Named ss ms s ∷ fs) d = tt
 comma_deep n start c [] d = tt
 
 after_deep : (n : ℕ) (setting : Setting) (spot : Spot) (fs : List Frame) (said : Content) → Deep n fs → GoesDeep n (on_after setting spot fs said)
 after_deep n setting spot fs (Mark' marks.Comma) d = comma_deep n spot.start spot.context fs d
-after_deep n setting spot fs (Mark' marks.ListClose) d = list_closes n setting spot fs d
-after_deep n setting spot fs (Mark' marks.FieldsClose) d = struct_closes n setting spot fs d
+after_deep n setting spot fs (Mark' marks.ListClose) d = closed_deep n setting spot brackets.List fs d
+after_deep n setting spot fs (Mark' marks.FieldsClose) d = closed_deep n setting spot brackets.Fields fs d
 after_deep n setting spot fs _ d = tt
 
 name_deep : (n : ℕ) (setting : Setting) (spot : Spot) (fs : List Frame) (said : Content) → Deep n fs → GoesDeep n (on_name setting spot fs said)
@@ -244,7 +221,7 @@ name_deep n setting spot fs (Id id) d = resolved_deep n (resolve spot.context id
 name_deep n setting spot fs (Quoted w) d = d
 name_deep n setting spot fs (Short w) d = d
 name_deep n setting spot fs (Long w) d = d
-name_deep n setting spot fs (Mark' marks.FieldsClose) d = struct_closes n setting spot fs d
+name_deep n setting spot fs (Mark' marks.FieldsClose) d = closed_deep n setting spot brackets.Fields fs d
 name_deep n setting spot fs _ d = tt
 
 long_name_deep : (n start : ℕ) (c : List Slot) (fs : List Frame) (v : List ℕ) (said : Content) → Deep n fs → GoesDeep n (on_long_name start c fs v said)
@@ -253,8 +230,7 @@ long_name_deep n start c fs v _ d = tt
 
 named_deep : (n start : ℕ) (c : List Slot) (fs : List Frame) (s : Option (List ℕ)) → Deep n fs → GoesDeep n (named start c fs s)
 named_deep n start c (frames.Fields ss ms ∷ fs) s d = d
-named_deep n start c (frames.List ss vs ∷ fs) s d = tt
-named_deep n start c (frames.Sexp ss vs ∷ fs) s d = tt
+named_deep n start c (frames.Items listing ss vs ∷ fs) s d = tt
 named_deep n start c (frames.Named ss ms x ∷ fs) s d = tt
 named_deep n start c [] s d = tt
 

@@ -18,6 +18,7 @@ use Rattle.ion_text.specs.declared.state.Now.{Now}
 use Rattle.ion_text.specs.declared.state.Now.TheVariants as nows
 use Rattle.ion_text.specs.declared.state.Frame.{Frame}
 use Rattle.ion_text.specs.declared.state.Frame.TheVariants as frames
+use Rattle.ion_text.specs.declared.state.Listing.TheVariants as listings
 use Rattle.ion_text.specs.Grammar.{Says, Annotations, no_annotation, one_annotation, Segments, segment, joined, Pieces, marked, turns, holds, is_long, ends_long, begins_long, begins_as_long, is_two_quotes, end_of, span}
 use Rattle.ion_tokens.specs.machine.Said.{said}
 use Rattle.ion_text.specs.machine.EachToken.{under, token_at, Reading, Turn, goes, gives, refuses, late, Symbols, at, fresh, place, place_in, settle, turn, turn_now, begun_at}
@@ -29,7 +30,8 @@ use Rattle.ion_tokens.proofs.runs.Scans.{placed}
 use Rattle.ion_text.specs.machine.Places.{Leading, settle_same}
 use Rattle.ion_text.specs.laws.reading.sound.Depths.{Deep, GoesDeep, turn_deep, settle_deep}
 use Rattle.ion_text.specs.machine.Passed.{said_body}
-use Rattle.ion_text.specs.laws.reading.sound.Sound.{Opened, IsStruct, IsInside, EndsAt, NowStands, Sounds, value_place, long_behind, notes_not_long, not_long, symbol_no_long, start_now, end_of_now, turn_sounds, settle_sounds, NoSegmentComes}
+use Rattle.ion_text.specs.laws.reading.sound.StandsOpen.{Opened, IsStruct, IsInside, EndsAt, NowStands, value_place, long_behind, notes_not_long, not_long, symbol_no_long, start_now, end_of_now, NoSegmentComes}
+use Rattle.ion_text.specs.laws.reading.sound.Sound.{Sounds, turn_sounds, settle_sounds}
 use Rattle.ion_text.specs.laws.reading.sound.MarkerWords.{both_not}
 use Rattle.ion_text.specs.laws.reading.complete.Complete.{ends_behind, end_more}
 
@@ -121,8 +123,7 @@ no_segments p _ _ (joined ts v w t d h) e = no_last ts t e
 -- where a container is open there are tokens
 pub opened_some : (c : List Slot) (fs : List Frame) (more : Bool) → Opened c fs [] more → fs ≡ []
 opened_some c [] more o = refl
-opened_some c (frames.List ss vs ∷ fs) more o = absurd (no_middle o.front o.notes o.body o.open' o.whole)
-opened_some c (frames.Sexp ss vs ∷ fs) more o = absurd (no_middle o.front o.notes o.body o.open' o.whole)
+opened_some c (frames.Items listing ss vs ∷ fs) more o = absurd (no_middle o.front o.notes o.body o.open' o.whole)
 opened_some c (frames.Fields ss ms ∷ fs) more o = absurd (no_middle o.front o.notes o.body o.open' o.whole)
 opened_some c (frames.Named ss ms s ∷ fs) more o = absurd (no_middle o.front o.notes (o.body ++ (o.name ++ o.colon ∷ [])) o.open' o.whole)
 
@@ -141,8 +142,7 @@ none_noted c p _ _ (one_annotation ts ss t u said s d h i j) e = absurd (none ss
 pub name_some : (c : List Slot) (fs : List Frame) (ts : List Placed) → Opened c fs ts true → IsStruct fs → [] ≡ ts → ⊥
 name_some c (frames.Fields ss ms ∷ fs) ts o k e = no_middle o.front o.notes o.body o.open' (e ∙ o.whole)
 name_some c [] ts o k e = k
-name_some c (frames.List ss vs ∷ fs) ts o k e = k
-name_some c (frames.Sexp ss vs ∷ fs) ts o k e = k
+name_some c (frames.Items listing ss vs ∷ fs) ts o k e = k
 name_some c (frames.Named ss ms s ∷ fs) ts o k e = k
 
 not_inside : (fs : List Frame) → IsInside fs → fs ≡ [] → ⊥
@@ -179,10 +179,10 @@ start_kept c fs ss (nows.Keyed s) t ts start begin d = refl
 
 -- an s-expression whose body ends long ends the item so
 long_tokens : (c : List Slot) (fs : List Frame) (ts : List Placed) → (o : Opened c fs ts true) → long_behind c fs ts o ≡ true → ends_long ts ≡ true
-long_tokens c (frames.Sexp ss vs ∷ fs) ts o h = ap ends_long o.whole
+long_tokens c (frames.Items listings.Sexp ss vs ∷ fs) ts o h = ap ends_long o.whole
     ∙ ends_behind o.front (o.notes ++ o.open' ∷ o.body) (ends_behind o.notes (o.open' ∷ o.body) (ends_behind (o.open' ∷ []) o.body h))
 long_tokens c [] ts o h = absurd cc
-long_tokens c (frames.List ss vs ∷ fs) ts o h = absurd cc
+long_tokens c (frames.Items listings.List ss vs ∷ fs) ts o h = absurd cc
 long_tokens c (frames.Fields ss ms ∷ fs) ts o h = absurd cc
 long_tokens c (frames.Named ss ms s ∷ fs) ts o h = absurd cc
 
@@ -353,7 +353,7 @@ module _ (g : Catalog) (l : Limits) where
     -- a segment doesn't stand where a value may come behind one
     ready_apart : (fs : List Frame) (ss : Symbols) (now : Now) (d : NowStands r.context fs ss b.item now)
         → (ends_long (b.front ++ b.item) ≡ true → IsLongNow now ⊎ (is_segment x.kind ≡ false)) → (c : Content)
-        → NoSegmentComes g l r.context fs ss b.item (placed (place_in fs now) x) c now d
+        → NoSegmentComes r.context fs ss b.item (placed (place_in fs now) x) c now d
     ready_apart fs ss nows.Ready d h c = λ w e. go (long_behind r.context fs d.front d.outer) refl
       where
         none : ends_long d.front ≡ true → d.notes ≡ [] → is_segment x.kind ≡ false

@@ -17,11 +17,16 @@ use Rattle.ion_text.specs.declared.state.Now.{Now}
 use Rattle.ion_text.specs.declared.state.Now.TheVariants as nows
 use Rattle.ion_text.specs.declared.state.Frame.{Frame}
 use Rattle.ion_text.specs.declared.state.Frame.TheVariants as frames
+use Rattle.ion_visiting.specs.declared.bracket.Bracket.TheVariants as brackets
+use Rattle.ion_text.specs.declared.state.Listing.TheVariants as listings
 use Rattle.ion_text.specs.Grammar.{is_keyword}
-use Rattle.ion_text.specs.machine.EachToken.{Setting, Spot, under, spot_at, token_at, Reading, Turn, goes, gives, refuses, late, Token, Symbols, at, fresh, settle, turn, turn_now, ended, within, turned, held_word, held_symbol, held_payload, released, begun_at, on_ready, on_after, on_name, on_pending, on_long, on_long_name, on_keyed, on_comma, struct_closed, list_closed, sexp_closed, bare_close, deeper, paid, noted, resolved, keyed, named}
+use Rattle.ion_text.specs.machine.EachToken.{Setting, Spot, under, spot_at, token_at, Reading, Turn, goes, gives, refuses, late, Token, Symbols, at, fresh, settle, turn, turn_now, ended, within, turned, held_word, held_symbol, held_payload, released, begun_at, on_ready, on_after, on_name, on_pending, on_long, on_long_name, on_keyed, on_comma, closed, bare_close, deeper, paid, noted, resolved, keyed, named}
 use Rattle.ion_text.specs.machine.Run.{is_top, is_fresh}
-use Rattle.ion_text.specs.laws.reading.sound.Sound.{EndsAt, start_now, end_of_now}
+use Rattle.ion_text.specs.laws.reading.sound.StandsOpen.{EndsAt, start_now, end_of_now}
 use Rattle.ion_text.specs.laws.reading.sound.Quotes.{le_of}
+use Rattle.ion_text.specs.laws.reading.Brackets.{Closes, ends_list, ends_sexp, ends_struct, ends_none, closes_or_not}
+use Rattle.ion_visiting.specs.declared.bracket.Bracket.{Bracket}
+use Rattle.ion_text.specs.machine.Nested.{close_mark}
 
 -- what closes a container
 abbrev pub IsClose : Bool → Content → Type 0
@@ -68,8 +73,8 @@ ended_spans : (top : Bool) (said : Content) (setting : Setting) (spot : Spot) (f
     → Spans top said setting.limits.item spot.start spot.end (ended setting spot fs v)
 ended_spans top said setting spot [] v h = top_spans top said setting.limits.item spot.start spot.end spot.context v (next spot.context v setting.catalog)
     (is_table v) (h refl)
-ended_spans top said setting spot (frames.List ss vs ∷ fs) v h = inl (inl refl, refl, tt)
-ended_spans top said setting spot (frames.Sexp ss vs ∷ fs) v h = inl (inl refl, refl, tt)
+ended_spans top said setting spot (frames.Items listings.List ss vs ∷ fs) v h = inl (inl refl, refl, tt)
+ended_spans top said setting spot (frames.Items listings.Sexp ss vs ∷ fs) v h = inl (inl refl, refl, tt)
 ended_spans top said setting spot (frames.Named ss ms s ∷ fs) v h = inl (inl refl, refl, tt)
 ended_spans top said setting spot (frames.Fields ss ms ∷ fs) v h = tt
 
@@ -97,29 +102,17 @@ deeper_spans top said item start end depth fs t deep h k = go (nat_lt (length fs
     go true = h
     go false = k
 
-list_closes : (setting : Setting) (spot : Spot) (fs : List Frame) → Spans (is_top fs) (Mark' marks.ListClose) setting.limits.item spot.start spot.end
-    (list_closed setting spot fs)
-list_closes setting spot (frames.List ss vs ∷ fs) = ended_spans false (Mark' marks.ListClose) setting spot fs _ (λ e. tt)
-list_closes setting spot (frames.Sexp ss vs ∷ fs) = tt
-list_closes setting spot (frames.Fields ss vs ∷ fs) = tt
-list_closes setting spot (frames.Named ss vs s ∷ fs) = tt
-list_closes setting spot [] = tt
-
-sexp_closes : (setting : Setting) (spot : Spot) (fs : List Frame) → Spans (is_top fs) (Mark' marks.SexpClose) setting.limits.item spot.start spot.end
-    (sexp_closed setting spot fs)
-sexp_closes setting spot (frames.Sexp ss vs ∷ fs) = ended_spans false (Mark' marks.SexpClose) setting spot fs _ (λ e. tt)
-sexp_closes setting spot (frames.List ss vs ∷ fs) = tt
-sexp_closes setting spot (frames.Fields ss vs ∷ fs) = tt
-sexp_closes setting spot (frames.Named ss vs s ∷ fs) = tt
-sexp_closes setting spot [] = tt
-
-struct_closes : (setting : Setting) (spot : Spot) (fs : List Frame) → Spans (is_top fs) (Mark' marks.FieldsClose) setting.limits.item spot.start spot.end
-    (struct_closed setting spot fs)
-struct_closes setting spot (frames.Fields ss vs ∷ fs) = ended_spans false (Mark' marks.FieldsClose) setting spot fs _ (λ e. tt)
-struct_closes setting spot (frames.List ss vs ∷ fs) = tt
-struct_closes setting spot (frames.Sexp ss vs ∷ fs) = tt
-struct_closes setting spot (frames.Named ss vs s ∷ fs) = tt
-struct_closes setting spot [] = tt
+closed_spans : (setting : Setting) (spot : Spot) (bracket : Bracket) (fs : List Frame)
+    → Spans (is_top fs) (Mark' (close_mark bracket)) setting.limits.item spot.start spot.end (closed bracket setting spot fs)
+closed_spans setting spot bracket fs = by bracket fs (closes_or_not bracket fs)
+  where
+    by : (bracket : Bracket) (fs : List Frame) → Closes bracket fs
+        → Spans (is_top fs) (Mark' (close_mark bracket)) setting.limits.item spot.start spot.end (closed bracket setting spot fs)
+    by _ _ (ends_list ss vs fs) = ended_spans false (Mark' marks.ListClose) setting spot fs _ (λ e. tt)
+    by _ _ (ends_sexp ss vs fs) = ended_spans false (Mark' marks.SexpClose) setting spot fs _ (λ e. tt)
+    by _ _ (ends_struct ss ms fs) = ended_spans false (Mark' marks.FieldsClose) setting spot fs _ (λ e. tt)
+    by _ _ (ends_none bracket fs e) =
+        subst (Spans (is_top fs) (Mark' (close_mark bracket)) setting.limits.item spot.start spot.end) (sym (e setting spot)) tt
 
 bare_spans : (top : Bool) (said : Content) (item start end : ℕ) (ss : Symbols) (t : Turn) → Spans top said item start end t
     → Spans top said item start end (bare_close ss t)
@@ -176,8 +169,8 @@ module _ (g : Catalog) (l : Limits) where
   ready_spans spot fs ss (Mark' marks.ListOpen) = deeper_spans (is_top fs) _ l.item spot.start spot.end l.depth fs _ _ (inl (inl refl, refl, tt)) tt
   ready_spans spot fs ss (Mark' marks.SexpOpen) = deeper_spans (is_top fs) _ l.item spot.start spot.end l.depth fs _ _ (inl (inl refl, refl, tt)) tt
   ready_spans spot fs ss (Mark' marks.FieldsOpen) = deeper_spans (is_top fs) _ l.item spot.start spot.end l.depth fs _ _ (inl (inl refl, refl, tt)) tt
-  ready_spans spot fs ss (Mark' marks.ListClose) = bare_spans (is_top fs) _ l.item spot.start spot.end ss _ (list_closes (under g l) spot fs)
-  ready_spans spot fs ss (Mark' marks.SexpClose) = bare_spans (is_top fs) _ l.item spot.start spot.end ss _ (sexp_closes (under g l) spot fs)
+  ready_spans spot fs ss (Mark' marks.ListClose) = bare_spans (is_top fs) _ l.item spot.start spot.end ss _ (closed_spans (under g l) spot brackets.List fs)
+  ready_spans spot fs ss (Mark' marks.SexpClose) = bare_spans (is_top fs) _ l.item spot.start spot.end ss _ (closed_spans (under g l) spot brackets.Sexp fs)
   ready_spans spot fs ss (Mark' marks.FieldsClose) = tt
   ready_spans spot fs ss (Mark' marks.Comma) = tt
   ready_spans spot fs ss (Mark' marks.Colon) = tt
@@ -204,16 +197,16 @@ module _ (g : Catalog) (l : Limits) where
   long_spans spot fs ss v _ = tt
 
   comma_spans : (spot : Spot) (fs : List Frame) → Spans (is_top fs) (Mark' marks.Comma) l.item spot.start spot.end (on_comma spot.start spot.context fs)
-  comma_spans spot (frames.List ss vs ∷ fs) = inl (inl refl, refl, tt)
+  comma_spans spot (frames.Items listings.List ss vs ∷ fs) = inl (inl refl, refl, tt)
   comma_spans spot (frames.Fields ss ms ∷ fs) = inl (inl refl, refl, tt)
-  comma_spans spot (frames.Sexp ss vs ∷ fs) = tt
+  comma_spans spot (frames.Items listings.Sexp ss vs ∷ fs) = tt
   comma_spans spot (frames.Named ss ms s ∷ fs) = tt
   comma_spans spot [] = tt
 
   after_spans : (spot : Spot) (fs : List Frame) (said : Content) → Spans (is_top fs) said l.item spot.start spot.end (on_after (under g l) spot fs said)
   after_spans spot fs (Mark' marks.Comma) = comma_spans spot fs
-  after_spans spot fs (Mark' marks.ListClose) = list_closes (under g l) spot fs
-  after_spans spot fs (Mark' marks.FieldsClose) = struct_closes (under g l) spot fs
+  after_spans spot fs (Mark' marks.ListClose) = closed_spans (under g l) spot brackets.List fs
+  after_spans spot fs (Mark' marks.FieldsClose) = closed_spans (under g l) spot brackets.Fields fs
   after_spans spot fs _ = tt
 
   keyed_open : (spot : Spot) (f : Frame) (fs : List Frame) (said : Content) (s : Option (List ℕ))
@@ -233,7 +226,7 @@ module _ (g : Catalog) (l : Limits) where
   name_spans spot f fs (Quoted w) = keyed_open spot f fs (Quoted w) (Some w)
   name_spans spot f fs (Short w) = keyed_open spot f fs (Short w) (Some w)
   name_spans spot f fs (Long w) = inl (inl refl, refl, tt)
-  name_spans spot f fs (Mark' marks.FieldsClose) = struct_closes (under g l) spot (f ∷ fs)
+  name_spans spot f fs (Mark' marks.FieldsClose) = closed_spans (under g l) spot brackets.Fields (f ∷ fs)
   name_spans spot f fs _ = tt
 
   long_name_spans : (spot : Spot) (f : Frame) (fs : List Frame) (v : List ℕ) (said : Content)
@@ -244,8 +237,7 @@ module _ (g : Catalog) (l : Limits) where
   named_spans : (spot : Spot) (fs : List Frame) (s : Option (List ℕ))
       → Spans (is_top fs) (Mark' marks.Colon) l.item spot.start spot.end (named spot.start spot.context fs s)
   named_spans spot (frames.Fields ss ms ∷ fs) s = inl (inl refl, refl, tt)
-  named_spans spot (frames.List ss vs ∷ fs) s = tt
-  named_spans spot (frames.Sexp ss vs ∷ fs) s = tt
+  named_spans spot (frames.Items listing ss vs ∷ fs) s = tt
   named_spans spot (frames.Named ss ms x ∷ fs) s = tt
   named_spans spot [] s = tt
 
@@ -293,8 +285,7 @@ module _ (g : Catalog) (l : Limits) where
 
   ended_settles : (spot : Spot) (fs : List Frame) (v : Value) → SettlesWithin spot.start spot.end fs (ended (under g l) spot fs v)
   ended_settles spot [] v = top_settles spot.start spot.end spot.context v (next spot.context v g) (is_table v)
-  ended_settles spot (frames.List ss vs ∷ fs) v = inl (refl, refl, refl)
-  ended_settles spot (frames.Sexp ss vs ∷ fs) v = inl (refl, refl, refl)
+  ended_settles spot (frames.Items listing ss vs ∷ fs) v = inl (refl, refl, refl)
   ended_settles spot (frames.Named ss ms s ∷ fs) v = inl (refl, refl, refl)
   ended_settles spot (frames.Fields ss ms ∷ fs) v = tt
 

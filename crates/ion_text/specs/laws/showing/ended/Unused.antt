@@ -17,18 +17,14 @@ use Rattle.ion_tokens.specs.declared.mode.Mode.{Mode}
 use Rattle.ion_tokens.specs.declared.mode.Mode.TheVariants as modes
 use Rattle.ion_tokens.specs.declared.mode.Mark.{Mark}
 use Rattle.ion_tokens.specs.declared.mode.Mark.TheVariants as marks
-use Rattle.ion_tokens.specs.declared.mode.Ending.{Ending}
-use Rattle.ion_tokens.specs.declared.mode.Ending.TheVariants as endings
 use Rattle.ion_tokens.specs.declared.mode.Action.{Action}
 use Rattle.ion_tokens.specs.declared.mode.Action.TheVariants as actions
 use Rattle.ion_tokens.specs.declared.mode.TokenKind.{TokenKind}
 use Rattle.ion_tokens.specs.declared.mode.TokenKind.TheVariants as kinds
-use Rattle.ion_tokens.specs.Octets.{is_digit, is_white, begins_word, is_word_octet, is_operator_octet, is_stop}
-use Rattle.ion_tokens.specs.Places.{is_sexp, is_name}
 use Rattle.ion_tokens.specs.Blobs.{blob_of}
 use Rattle.ion_tokens.specs.Bodies.{Content, Word, Id, Quoted, Short, Long, Number', TypedNull, Operator, Clob, Blob, Mark'}
 use Rattle.ion_tokens.specs.Lexed.{Placed}
-use Rattle.ion_tokens.specs.machine.Table.{next, end_of, begins_value, in_blank, digit_behind, is_other}
+use Rattle.ion_tokens.specs.machine.Table.{next, end_of}
 use Rattle.ion_tokens.specs.machine.Bounds.{is_idle}
 use Rattle.ion_tokens.specs.machine.Ahead.{is_mark}
 use Rattle.ion_tokens.specs.machine.Said.{said}
@@ -39,15 +35,17 @@ use Rattle.ion_text.specs.declared.state.Held.TheVariants as helds
 use Rattle.ion_text.specs.declared.state.Now.{Now}
 use Rattle.ion_text.specs.declared.state.Now.TheVariants as nows
 use Rattle.ion_text.specs.declared.state.Frame.{Frame}
-use Rattle.ion_text.specs.declared.state.Frame.TheVariants as frames
-use Rattle.ion_text.specs.machine.EachToken.{Reading, Setting, Spot, Turn, goes, gives, refuses, late, Token, Symbols, at, fresh, under, spot_at, begun_at, place, settle, turn, within, turned, ended, paid, held_payload, held_symbol, released, resolved, deeper, noted, on_ready, on_pending, on_long}
+use Rattle.ion_text.specs.machine.EachToken.{Reading, Setting, Spot, Turn, goes, gives, refuses, late, Token, Symbols, at, fresh, under, spot_at, begun_at, place, settle, turn, within, turned, ended, paid, held_payload, held_symbol, released, resolved, opened, first_now, beyond_depth, opening, noted, on_ready, on_pending, on_long}
 use Rattle.ion_visiting.specs.Parts.{number_payload}
 use Rattle.ion_text.specs.machine.Passed.{said_body}
 use Rattle.ion_text.specs.machine.Run.{State, Effect, uses, tells, leaves, fails, is_top, is_fresh, shut, noticed, or_worse, token_of, with_scan, behind_given, behind_left, on_said, on_scan, on_settled, on_octet, unsettled, takes, end_settled, end_turned, end_said, end_waiting, end_ready, ends, cut_short, reaches}
-use Rattle.ion_text.specs.laws.reading.sound.Sound.{NowStands, start_now}
+use Rattle.ion_text.specs.laws.reading.sound.StandsOpen.{NowStands, start_now}
 use Rattle.ion_text.specs.laws.reading.sound.Spans.{IsClose, IsTopNow, Spans, SettlesWithin, turn_spans, settle_spans}
 use Rattle.ion_text.specs.laws.reading.complete.Going.{mark_kind, closes_kind, settle_inside, InsideTurn}
 use Rattle.ion_text.specs.laws.reading.sound.Admits.{at_end_fine, late_never}
+use Rattle.ion_tokens.specs.laws.ByRows.{by_rows_where}
+use Rattle.ion_visiting.specs.declared.bracket.Bracket.{Bracket}
+use Rattle.ion_visiting.specs.declared.bracket.Bracket.TheVariants as brackets
 
 -- 1. What an octet does where neither a quoted text nor a lob is open, nor a brace that may begin a lob.
 
@@ -70,57 +68,8 @@ plainly (actions.Give kind k) = is_mark kind
 plainly (actions.Before kind k m) = not (is_opening kind) && is_plain m
 plainly _ = true
 
-record Plainly (a : Action) : Type 0 where
-  is : plainly a ≡ true
-
-yes : {a : Action} → plainly a ≡ true → Plainly a
-yes h = record { is = h }
-
-both : {x y : Action} (b : Bool) → Plainly x → Plainly y → Plainly (cond b x y)
-both true h k = h
-both false h k = k
-
-value_plainly : (p : Place) (o : ℕ) → Plainly (begins_value p o)
-value_plainly p o =
-    both (is_digit o) (yes refl) (both (o == 123) (yes refl) (both (o == 91) (yes refl) (both (o == 93) (yes refl) (both (o == 40) (yes refl)
-    (both (o == 41) (yes refl) (both (o == 45) (yes refl) (both (o == 43) (yes refl) (both (is_sexp p && is_operator_octet o) (yes refl) (yes refl)))))))))
-
-blank_plainly : (p : Place) (colon : Bool) (o : ℕ) → Plainly (in_blank p colon o)
-blank_plainly p colon o =
-    both (is_white o) (yes refl) (both (begins_word o) (yes refl) (both (o == 47) (yes refl) (both (o == 34) (yes refl) (both (o == 39) (yes refl)
-    (both (o == 44) (yes refl) (both (o == 125) (yes refl) (both (o == 58) (both colon (yes refl) (yes refl))
-    (both (is_name p) (yes refl) (value_plainly p o)))))))))
-
-digit_plainly : (p : Place) (e : Ending) (o : ℕ) → Plainly (digit_behind p e o)
-digit_plainly p endings.LoneMinus o = yes refl
-digit_plainly p endings.Minus o = yes refl
-digit_plainly p endings.Plus o = both (is_sexp p) (yes refl) (yes refl)
-digit_plainly p endings.Other o = yes refl
-
-table_plainly : (p : Place) (colon : Bool) (m : Mode) (o : ℕ) → is_plain m ≡ true → Plainly (next p colon m o)
-table_plainly p colon modes.Blank o h = blank_plainly p colon o
-table_plainly p colon modes.Slash o h = both (o == 47) (yes refl)
-    (both (o == 42) (yes refl) (both (not (is_sexp p)) (yes refl) (both (is_operator_octet o) (yes refl) (yes refl))))
-table_plainly p colon modes.LineComment o h = yes refl
-table_plainly p colon modes.BlockComment o h = yes refl
-table_plainly p colon modes.BlockCommentStar o h = both (o == 47) (yes refl) (both (o == 42) (yes refl) (yes refl))
-table_plainly p colon modes.Colon o h = both (o == 58) (yes refl) (yes refl)
-table_plainly p colon modes.Word o h = both (is_word_octet o) (yes refl) (yes refl)
-table_plainly p colon modes.KindName o h = both (is_word_octet o) (yes refl) (yes refl)
-table_plainly p colon modes.Number o h = both (is_stop o) (yes refl) (both (o == 47) (yes refl) (yes refl))
-table_plainly p colon modes.NumberSlash o h = both ((o == 47) || (o == 42)) (yes refl) (both (is_stop o) (yes refl) (yes refl))
-table_plainly p colon (modes.Operator e) o h =
-    both (is_digit o) (digit_plainly p e o) (both ((o == 105) && not (is_other e)) (yes refl)
-    (both (not (is_sexp p)) (yes refl) (both (o == 47) (yes refl) (both (is_operator_octet o) (yes refl) (yes refl)))))
-table_plainly p colon modes.OperatorSlash o h = both ((o == 47) || (o == 42)) (yes refl) (both (is_operator_octet o) (yes refl) (yes refl))
-table_plainly p colon (modes.Infinity n) o h =
-    both ((n == 1) && (o == 110)) (yes refl) (both ((n == 2) && (o == 102)) (yes refl)
-    (both ((n == 3) && not (is_word_octet o)) (yes refl) (both (is_sexp p) (yes refl) (yes refl))))
-table_plainly p colon modes.Quotes o h = both (o == 39) (yes refl) (yes refl)
-table_plainly p colon modes.Quote o h = absurd cc
-table_plainly p colon (modes.Text s w) o h = absurd cc
-table_plainly p colon modes.Brace o h = absurd cc
-table_plainly p colon (modes.Lob l) o h = absurd cc
+table_plainly : (p : Place) (colon : Bool) (m : Mode) (o : ℕ) → is_plain m ≡ true → plainly (next p colon m o) ≡ true
+table_plainly = by_rows_where is_plain (λ sexp m. plainly) (λ c t. refl)
 
 abbrev IsPlainly : Outcome → Type 0
 IsPlainly (Next s) = Unit {0}
@@ -133,10 +82,10 @@ parts false true h = (refl, refl)
 parts false false h = absurd cc
 parts true b h = absurd cc
 
-acts_plainly : (p : Place) (s : Known) (o : ℕ) (a : Action) → Plainly a → IsPlainly (acts p s o a)
+acts_plainly : (p : Place) (s : Known) (o : ℕ) (a : Action) → plainly a ≡ true → IsPlainly (acts p s o a)
 acts_plainly p s o (actions.Go m k) h = tt
-acts_plainly p s o (actions.Give kind k) h = h.is
-acts_plainly p s o (actions.Before kind k m) h = parts (is_opening kind) (is_plain m) h.is
+acts_plainly p s o (actions.Give kind k) h = h
+acts_plainly p s o (actions.Before kind k m) h = parts (is_opening kind) (is_plain m) h
 acts_plainly p s o actions.EndWord h = word ((o == 46) && bytes_eq s.kept (codes "null"))
   where
     word : (b : Bool) → IsPlainly (cond b (Next (go_to s modes.KindName []))
@@ -278,22 +227,22 @@ long_stays spot ss v _ = tt
 
 -- a struct is open
 abbrev braced : ℕ → List Slot → Symbols → Reading
-braced start c ss = at start c (frames.Fields ss [] ∷ []) [] nows.Name
+braced start c ss = at start c (opened brackets.Fields ss ∷ []) [] (first_now brackets.Fields)
 
-deeper_never : (depth : ℕ) (r : Reading) (t : Turn) → Never t → Never (deeper depth [] (goes r) t)
-deeper_never depth r t h = go (nat_lt 0 depth)
+open_never : (bracket : Bracket) (depth start : ℕ) (c : List Slot) (ss : Symbols) → Never (opening bracket depth start c [] ss)
+open_never bracket depth start c ss = go bracket (nat_lt 0 depth)
   where
-    go : (b : Bool) → Never (if b then goes r else t)
-    go true = tt
-    go false = h
+    go : (bracket : Bracket) (b : Bool) → Never (if b then goes (at start c (opened bracket ss ∷ []) [] (first_now bracket)) else
+        beyond_depth bracket (at start c (opened bracket ss ∷ []) [] (first_now bracket)))
+    go bracket true = tt
+    go brackets.List false = tt
+    go brackets.Sexp false = tt
+    go brackets.Fields false = tt
 
 ready_never : (setting : Setting) (spot : Spot) (ss : Symbols) (m : Mark) → Never (on_ready setting spot [] ss (Mark' m))
-ready_never setting spot ss marks.ListOpen = deeper_never setting.limits.depth (at spot.start spot.context (frames.List ss [] ∷ []) [] nows.Ready)
-    (refuses reasons.Depth) tt
-ready_never setting spot ss marks.SexpOpen = deeper_never setting.limits.depth (at spot.start spot.context (frames.Sexp ss [] ∷ []) [] nows.Ready)
-    (refuses reasons.Depth) tt
-ready_never setting spot ss marks.FieldsOpen = deeper_never setting.limits.depth (braced spot.start spot.context ss)
-    (late reasons.Depth (braced spot.start spot.context ss)) tt
+ready_never setting spot ss marks.ListOpen = open_never brackets.List setting.limits.depth spot.start spot.context ss
+ready_never setting spot ss marks.SexpOpen = open_never brackets.Sexp setting.limits.depth spot.start spot.context ss
+ready_never setting spot ss marks.FieldsOpen = open_never brackets.Fields setting.limits.depth spot.start spot.context ss
 ready_never setting spot [] marks.ListClose = tt
 ready_never setting spot (s ∷ ss) marks.ListClose = tt
 ready_never setting spot [] marks.SexpClose = tt

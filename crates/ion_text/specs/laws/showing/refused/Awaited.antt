@@ -18,7 +18,7 @@ use Rattle.ion_text.specs.machine.Run.{in_segment, is_top, unsettled, waits, wai
 use Rattle.ion_text.specs.laws.reading.complete.Complete.{ends_behind, segments_long}
 use Rattle.ion_text.specs.laws.reading.sound.Held.{ApartAt}
 use Rattle.ion_text.specs.laws.reading.complete.Meets.{is_long_text}
-use Rattle.ion_text.specs.laws.reading.sound.Sound.{LongFor, NowStands, end_of_now}
+use Rattle.ion_text.specs.laws.reading.sound.StandsOpen.{LongFor, NowStands, end_of_now}
 use Rattle.ion_text.specs.laws.reading.sound.Spans.{IsWaiting, settle_spans}
 use Rattle.ion_text.specs.laws.reading.complete.Going.{Going, TurnEnds, going_ends, settled_bound}
 use Rattle.ion_text.specs.laws.reading.complete.Segments.{in_text}

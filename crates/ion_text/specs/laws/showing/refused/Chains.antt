@@ -23,7 +23,7 @@ use Rattle.ion_text.specs.machine.EachToken.{Reading, Turn, goes, gives, refuses
 use Rattle.ion_text.specs.machine.Run.{State, Effect, takes, waits, waits_now, in_segment, unsettled, on_octet, on_scan, on_settled, on_said, behind_given, behind_left, with_scan, token_of, is_top, is_fresh}
 use Rattle.ion_text.specs.machine.Places.{Leading, settle_same, settle_still}
 use Rattle.ion_text.specs.machine.Passed.{said_body}
-use Rattle.ion_text.specs.laws.reading.sound.Sound.{IsStruct, NowStands}
+use Rattle.ion_text.specs.laws.reading.sound.StandsOpen.{IsStruct, NowStands}
 use Rattle.ion_text.specs.laws.reading.sound.Held.{Reads, ApartAt, NoLongText, IsLongNow, or_parts, settled_read}
 use Rattle.ion_text.specs.laws.reading.sound.Admits.{no_item}
 use Rattle.ion_text.specs.laws.reading.complete.Meets.{is_long_text}

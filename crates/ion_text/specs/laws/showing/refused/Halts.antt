@@ -25,7 +25,7 @@ use Rattle.ion_text.specs.machine.Places.{Leading}
 use Rattle.ion_text.specs.laws.reading.sound.Quotes.{Fine, Finely, is_close}
 use Rattle.ion_text.specs.machine.Passed.{said_body}
 use Rattle.ion_text.specs.laws.reading.sound.Spans.{IsClose, Spans, turn_spans}
-use Rattle.ion_text.specs.laws.reading.sound.Sound.{start_now}
+use Rattle.ion_text.specs.laws.reading.sound.StandsOpen.{start_now}
 use Rattle.ion_text.specs.laws.reading.sound.Held.{Behind, Reads, ApartAt}
 use Rattle.ion_text.specs.laws.reading.complete.Meets.{IdleLeft, idle_left, is_long_text, follows_as, finely_as}
 use Rattle.ion_text.specs.laws.reading.complete.Segments.{never, long_quoting}

@@ -28,7 +28,7 @@ use Rattle.ion_text.specs.machine.Places.{Leading}
 use Rattle.ion_text.specs.laws.reading.complete.Complete.{starts}
 use Rattle.ion_text.specs.laws.reading.sound.Quotes.{Finely, is_close}
 use Rattle.ion_text.specs.laws.reading.complete.Meets.{finely_as}
-use Rattle.ion_text.specs.laws.reading.sound.Sound.{NowStands}
+use Rattle.ion_text.specs.laws.reading.sound.StandsOpen.{NowStands}
 use Rattle.ion_text.specs.laws.reading.sound.Spans.{IsWaiting}
 use Rattle.ion_text.specs.laws.reading.complete.Going.{Going, InsideNext, Operators, TurnGoes, stays, closed, closes_kind, going_said, going_turn, going_settle, inside_token, top_place}
 use Rattle.ion_text.specs.laws.reading.sound.Held.{ApartAt}

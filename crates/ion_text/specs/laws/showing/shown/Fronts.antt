@@ -21,7 +21,7 @@ use Rattle.ion_text.specs.machine.EachToken.{Reading, Symbols, at, place}
 use Rattle.ion_text.specs.machine.Run.{State, is_fresh}
 use Rattle.ion_text.specs.laws.reading.sound.Held.{Behind, IsLongNow, IsFirst, NoLongText, none_open}
 use Rattle.ion_text.specs.laws.reading.sound.Admits.{no_item}
-use Rattle.ion_text.specs.laws.reading.sound.Sound.{NowStands}
+use Rattle.ion_text.specs.laws.reading.sound.StandsOpen.{NowStands}
 use Rattle.ion_text.specs.laws.reading.sound.Steps.{Stood}
 use Rattle.ion_text.specs.laws.showing.tokens.Cuts.{BlankInFront, Parted, parted, lexed_front, parts_same, OpenBehind, behind_tokens, begins_once, past_blank}
 use Rattle.ion_text.specs.laws.showing.tokens.Firsts.{OpensItem, opens_item, now_first, colons_never, quotes_never, quotes_first}

@@ -28,7 +28,7 @@ use Rattle.ion_text.specs.laws.reading.complete.Found.{lexes_operators}
 use Rattle.ion_text.specs.laws.reading.complete.Going.{Going, top_place}
 use Rattle.ion_tokens.specs.machine.Scanned.{Scanned, Continues}
 use Rattle.ion_text.specs.laws.reading.sound.Held.{Behind, NoLongText, none_open}
-use Rattle.ion_text.specs.laws.reading.sound.Sound.{NowStands}
+use Rattle.ion_text.specs.laws.reading.sound.StandsOpen.{NowStands}
 use Rattle.ion_text.specs.laws.reading.sound.Steps.{Stood}
 use Rattle.ion_text.specs.laws.reading.Stops.{stood_used}
 use Rattle.ion_text.specs.laws.showing.tokens.Cuts.{OpenBehind, behind_tokens, lexed_front, parted, parts_meet, Is, one_found}

@@ -32,7 +32,7 @@ use Rattle.ion_text.specs.laws.reading.sound.Held.{IsFirst, NoLongText, none_ope
 use Rattle.ion_text.specs.laws.reading.complete.Complete.{last_end}
 use Rattle.ion_text.specs.laws.reading.sound.Admits.{no_item}
 use Rattle.ion_text.specs.laws.reading.complete.Quiet.{CalmNow}
-use Rattle.ion_text.specs.laws.reading.sound.Sound.{EndsAt, NowStands}
+use Rattle.ion_text.specs.laws.reading.sound.StandsOpen.{EndsAt, NowStands}
 use Rattle.ion_text.specs.laws.reading.sound.Steps.{Stood}
 use Rattle.ion_text.specs.laws.reading.Stops.{stood_used}
 use Rattle.ion_text.specs.laws.showing.tokens.Cuts.{OpenBehind, BlankInFront, behind_tokens, lexed_front, parts_meet, parts_same}

@@ -31,6 +31,7 @@ use Rattle.ion_text.specs.declared.state.Now.{Now}
 use Rattle.ion_text.specs.declared.state.Now.TheVariants as nows
 use Rattle.ion_text.specs.declared.state.Frame.{Frame}
 use Rattle.ion_text.specs.declared.state.Frame.TheVariants as frames
+use Rattle.ion_text.specs.declared.state.Listing.TheVariants as listings
 use Rattle.ion_text.specs.Grammar.{Whole, BlankThen, Segments, segment, joined, ends_long}
 use Rattle.ion_text.specs.machine.EachToken.{Reading, goes, Symbols, fresh, place, place_in, settle}
 use Rattle.ion_text.specs.machine.Run.{State, is_fresh, token_of}
@@ -43,7 +44,7 @@ use Rattle.ion_text.specs.laws.reading.complete.Going.{Going, going_said, says_s
 use Rattle.ion_text.specs.laws.reading.sound.Spans.{IsWaiting}
 use Rattle.ion_text.specs.laws.reading.sound.Held.{Behind, IsFirst, NoLongText}
 use Rattle.ion_text.specs.laws.reading.sound.Admits.{no_item}
-use Rattle.ion_text.specs.laws.reading.sound.Sound.{NowStands, PendingFor, LongFor, symbol_said}
+use Rattle.ion_text.specs.laws.reading.sound.StandsOpen.{NowStands, PendingFor, LongFor, symbol_said}
 use Rattle.ion_text.specs.laws.reading.sound.Steps.{Stood}
 use Rattle.ion_text.specs.laws.reading.Stops.{stood_used}
 use Rattle.ion_text.specs.laws.showing.tokens.Cuts.{OpenBehind, Parted, parted, lexed_front, Is, one_found}
@@ -130,8 +131,8 @@ last_colon z colon before octets after end rest (q, b, h) = h.0
 
 -- in a container the place isn't the top level
 pub inside_place : (f : Frame) (fs : List Frame) (now : Now) → places.Top ≡ place_in (f ∷ fs) now → ⊥
-inside_place (frames.List ss vs) fs now e = cc
-inside_place (frames.Sexp ss vs) fs now e = cc
+inside_place (frames.Items listings.List ss vs) fs now e = cc
+inside_place (frames.Items listings.Sexp ss vs) fs now e = cc
 inside_place (frames.Named ss ms s) fs now e = cc
 inside_place (frames.Fields ss ms) fs nows.Ready e = cc
 inside_place (frames.Fields ss ms) fs (nows.Pending h end) e = cc

@@ -30,7 +30,7 @@ use Rattle.ion_text.specs.machine.Passed.{said_body}
 use Rattle.ion_text.specs.machine.Places.{Leading, settle_same}
 use Rattle.ion_text.specs.laws.reading.sound.Held.{map_turn, or_parts}
 use Rattle.ion_text.specs.laws.reading.sound.Spans.{IsClose, Spans, turn_spans}
-use Rattle.ion_text.specs.laws.reading.sound.Sound.{start_now, symbol_said}
+use Rattle.ion_text.specs.laws.reading.sound.StandsOpen.{start_now, symbol_said}
 use Rattle.ion_text.specs.laws.reading.sound.Steps.{Stood, After, eats_after, takes_after}
 use Rattle.ion_text.specs.laws.showing.tokens.Cuts.{Keeps, feed_keeps}
 use Rattle.ion_text.specs.laws.reading.complete.Segments.{never}

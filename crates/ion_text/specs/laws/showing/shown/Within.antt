@@ -25,7 +25,7 @@ use Rattle.ion_text.specs.machine.EachToken.{Reading, Turn, goes, gives, refuses
 use Rattle.ion_text.specs.machine.Run.{State, Effect, uses, tells, leaves, fails, begun, eats, takes, waits, unsettled, noticed, on_octet, on_scan, on_settled, on_said, behind_given, behind_left, or_worse, with_scan, token_of, is_top, is_fresh, shut, reaches, longest_top, is_long_begun, run, run_on, once_more}
 use Rattle.ion_text.specs.laws.reading.complete.Segments.{NotRefused, unsettled_waits}
 use Rattle.ion_text.specs.laws.reading.sound.Quotes.{le_of}
-use Rattle.ion_text.specs.laws.reading.sound.Sound.{start_now}
+use Rattle.ion_text.specs.laws.reading.sound.StandsOpen.{start_now}
 use Rattle.ion_text.specs.laws.reading.sound.Spans.{Spans, turn_spans}
 use Rattle.ion_text.specs.laws.reading.complete.Going.{TopOk}
 use Rattle.ion_text.specs.laws.reading.complete.Quiet.{CalmNow, calm_now}

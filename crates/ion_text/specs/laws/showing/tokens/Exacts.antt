@@ -19,7 +19,7 @@ use Rattle.ion_text.specs.declared.state.Frame.{Frame}
 use Rattle.ion_text.specs.machine.EachToken.{Reading, place}
 use Rattle.ion_text.specs.machine.Run.{is_top}
 use Rattle.ion_text.specs.laws.reading.sound.Held.{Behind}
-use Rattle.ion_text.specs.laws.reading.sound.Sound.{NowStands, LongFor}
+use Rattle.ion_text.specs.laws.reading.sound.StandsOpen.{NowStands, LongFor}
 use Rattle.ion_text.specs.laws.showing.tokens.Cuts.{behind_tokens, lexed_front}
 use Rattle.ion_text.specs.laws.showing.shown.Opened.{colon_last, segments_last}
 

@@ -31,11 +31,14 @@ use Rattle.ion_text.specs.machine.EachToken.{Symbols}
 use Rattle.ion_text.specs.laws.reading.complete.Complete.{segment_kind}
 use Rattle.ion_text.specs.laws.reading.complete.Going.{mark_kind}
 use Rattle.ion_text.specs.laws.reading.sound.Held.{name_some}
-use Rattle.ion_text.specs.laws.reading.sound.Sound.{Opened, NowStands, ReadyFor, symbol_said, value_place}
+use Rattle.ion_text.specs.laws.reading.sound.StandsOpen.{Around, Opened, NowStands, ReadyFor, symbol_said, value_place}
 use Rattle.ion_text.specs.laws.reading.complete.Meets.{is_long_text, LongOn, long_feed}
 use Rattle.ion_text.specs.laws.reading.complete.Segments.{long_quoting}
 use Rattle.ion_text.specs.laws.reading.complete.Found.{next_is}
 use Rattle.ion_text.specs.laws.showing.tokens.Cuts.{Is, one_found}
+use Rattle.ion_visiting.specs.declared.bracket.Bracket.{Bracket}
+use Rattle.ion_visiting.specs.declared.bracket.Bracket.TheVariants as brackets
+use Rattle.ion_text.specs.machine.Nested.{open_mark}
 
 -- 1. The first token of an open item.
 
@@ -118,20 +121,21 @@ segments_first p _ _ (joined ts v w t d i) = opens_more ts (t ∷ []) (segments_
 mark_first : (p : Place) (t : Placed) (m : _) → Says p t (Mark' m) → opens_item (kinds.Mark m) ≡ true → opens_item t.lexeme.kind ≡ true
 mark_first p t m i h = ap opens_item (mark_kind t.lexeme.kind t.lexeme.octets m i.body) ∙ h
 
+open_first : (bracket : Bracket) → opens_item (kinds.Mark (open_mark bracket)) ≡ true
+open_first brackets.List = refl
+open_first brackets.Sexp = refl
+open_first brackets.Fields = refl
+
+around_first : (c : List Slot) (fs : List Frame) (ss : Symbols) (ts : List Placed) (bracket : Bracket) (Front Body : List Placed → Type 0)
+    → (o : Around c fs ss ts bracket Front Body) → OpensItem o.front → OpensItem ts
+around_first c fs ss ts bracket Front Body o h = subst OpensItem (sym o.whole)
+    (opens_more o.front _ h (opens_more o.notes (o.open' ∷ o.body) (notes_first c (value_place fs) o.notes ss o.noted)
+    (mark_first (value_place fs) o.open' (open_mark bracket) o.opens (open_first bracket))))
+
 opened_first : (c : List Slot) (fs : List Frame) (ts : List Placed) (more : Bool) → Opened c fs ts more → OpensItem ts
 opened_first c [] ts more o = subst OpensItem (sym o) tt
-opened_first c (frames.List ss vs ∷ fs) ts more o = subst OpensItem (sym o.whole)
-    (opens_more o.front _ (opened_first c fs o.front true o.outer)
-    (opens_more o.notes (o.open' ∷ o.body) (notes_first c (value_place fs) o.notes ss o.noted)
-    (mark_first (value_place fs) o.open' marks.ListOpen o.opens refl)))
-opened_first c (frames.Sexp ss vs ∷ fs) ts more o = subst OpensItem (sym o.whole)
-    (opens_more o.front _ (opened_first c fs o.front true o.outer)
-    (opens_more o.notes (o.open' ∷ o.body) (notes_first c (value_place fs) o.notes ss o.noted)
-    (mark_first (value_place fs) o.open' marks.SexpOpen o.opens refl)))
-opened_first c (frames.Fields ss ms ∷ fs) ts more o = subst OpensItem (sym o.whole)
-    (opens_more o.front _ (opened_first c fs o.front true o.outer)
-    (opens_more o.notes (o.open' ∷ o.body) (notes_first c (value_place fs) o.notes ss o.noted)
-    (mark_first (value_place fs) o.open' marks.FieldsOpen o.opens refl)))
+opened_first c (frames.Items listing ss vs ∷ fs) ts more o = around_first c fs ss ts _ _ _ o (opened_first c fs o.front true o.outer)
+opened_first c (frames.Fields ss ms ∷ fs) ts more o = around_first c fs ss ts _ _ _ o (opened_first c fs o.front true o.outer)
 opened_first c (frames.Named ss ms s ∷ fs) ts more o = subst OpensItem (sym o.whole)
     (opens_more o.front _ (opened_first c fs o.front true o.outer)
     (opens_more o.notes (o.open' ∷ (o.body ++ (o.name ++ o.colon ∷ []))) (notes_first c (value_place fs) o.notes ss o.noted)

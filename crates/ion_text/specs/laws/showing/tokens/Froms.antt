@@ -22,6 +22,7 @@ use Rattle.ion_text.specs.declared.state.Now.{Now}
 use Rattle.ion_text.specs.declared.state.Now.TheVariants as nows
 use Rattle.ion_text.specs.declared.state.Frame.{Frame}
 use Rattle.ion_text.specs.declared.state.Frame.TheVariants as frames
+use Rattle.ion_text.specs.declared.state.Listing.TheVariants as listings
 use Rattle.ion_text.specs.machine.EachToken.{Spot, under, spot_at, Reading, Turn, goes, gives, refuses, late, Token, Symbols, at, fresh, place, settle, turn, turned, ended, paid, released, held_payload, within}
 use Rattle.ion_text.specs.machine.Run.{State, Effect, uses, tells, leaves, fails, eats, takes, waits, waits_now, unsettled, noticed, on_octet, on_scan, on_settled, on_said, behind_given, behind_left, or_worse, with_scan, token_of, is_top, is_fresh, shut, reaches, run, run_on, once_more}
 use Rattle.ion_text.specs.laws.reading.complete.Segments.{NotRefused, unsettled_waits}
@@ -29,7 +30,7 @@ use Rattle.ion_text.specs.machine.TokenLists.{Walk, walked, stopped, adds_values
 use Rattle.ion_text.specs.machine.Places.{Leading, same_place, settle_same}
 use Rattle.ion_text.specs.laws.reading.sound.Quotes.{Fine}
 use Rattle.ion_text.specs.laws.reading.complete.Meets.{finely_as}
-use Rattle.ion_text.specs.laws.reading.sound.Sound.{start_now}
+use Rattle.ion_text.specs.laws.reading.sound.StandsOpen.{start_now}
 use Rattle.ion_text.specs.laws.reading.sound.Spans.{IsTopNow, IsWaiting, OpenAs, Spans, turn_spans}
 use Rattle.ion_text.specs.laws.reading.sound.Steps.{Stood, After, eats_after, takes_after}
 
@@ -72,8 +73,8 @@ module _ (g : Catalog) (l : Limits) where
 
   ended_freed : (spot : Spot) (fs : List Frame) (v : Value) → Leading g l (Freed spot.start) (ended (under g l) spot fs v)
   ended_freed spot [] v = top_freed l.item spot.start spot.end spot.context v (next spot.context v g) (is_table v)
-  ended_freed spot (frames.List ss vs ∷ fs) v = (tt, inr (refl, refl))
-  ended_freed spot (frames.Sexp ss vs ∷ fs) v = (tt, inr (refl, refl))
+  ended_freed spot (frames.Items listings.List ss vs ∷ fs) v = (tt, inr (refl, refl))
+  ended_freed spot (frames.Items listings.Sexp ss vs ∷ fs) v = (tt, inr (refl, refl))
   ended_freed spot (frames.Named ss ms s ∷ fs) v = (tt, inr (refl, refl))
   ended_freed spot (frames.Fields ss ms ∷ fs) v = tt
 

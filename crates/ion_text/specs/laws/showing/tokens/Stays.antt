@@ -17,30 +17,36 @@ use Rattle.ion_text.specs.declared.state.Now.{Now}
 use Rattle.ion_text.specs.declared.state.Now.TheVariants as nows
 use Rattle.ion_text.specs.declared.state.Frame.{Frame}
 use Rattle.ion_text.specs.declared.state.Frame.TheVariants as frames
+use Rattle.ion_text.specs.declared.state.Listing.{Listing}
+use Rattle.ion_text.specs.declared.state.Listing.TheVariants as listings
+use Rattle.ion_visiting.specs.declared.bracket.Bracket.{Bracket}
+use Rattle.ion_visiting.specs.declared.bracket.Bracket.TheVariants as brackets
+use Rattle.ion_text.specs.machine.Nested.{bracket_in, open_mark}
 use Rattle.ion_text.specs.Grammar.{Says, IsName, by_symbol, by_short, by_long, Annotations, no_annotation, one_annotation, Segments, Elements, no_element, comma, Members, no_field, field_comma, is_long, end_of, ends_long, begins_long}
-use Rattle.ion_text.specs.machine.EachToken.{under, spot_at, Reading, Token, goes, Symbols, at, fresh, place, place_in, settle, begun_at, on_ready, resolved}
+use Rattle.ion_text.specs.machine.EachToken.{under, spot_at, Reading, Token, goes, Symbols, at, fresh, place, place_in, behind_item, opened, first_now, settle, begun_at, on_ready, resolved}
 use Rattle.ion_text.specs.machine.Run.{is_fresh, is_top}
 use Rattle.ion_text.specs.machine.TokenLists.{done, on_turn, reads, first_token}
 use Rattle.ion_text.specs.machine.Places.{Leading, settle_same, pending_at, long_at}
 use Rattle.ion_text.specs.laws.reading.sound.Spans.{IsWaiting}
 use Rattle.ion_text.specs.laws.reading.sound.Depths.{Deep}
 use Rattle.ion_text.specs.laws.reading.sound.MarkerWords.{both_not}
-use Rattle.ion_text.specs.laws.reading.sound.Sound.{Opened, Receives, IsInside, ReadyFor, IsHeld, EndsAt, PendingFor, LongFor, NowStands, value_place, symbol_said, notes_not_long, not_long, long_behind, symbol_no_long}
+use Rattle.ion_text.specs.laws.reading.sound.StandsOpen.{Opened, Items, Receives, IsInside, ReadyFor, IsHeld, EndsAt, PendingFor, LongFor, NowStands, value_place, symbol_said, notes_not_long, not_long, long_behind, symbol_no_long}
 use Rattle.ion_text.specs.laws.reading.sound.Held.{opened_some, some_more, last_long, name_some, IsSome}
-use Rattle.ion_text.specs.laws.reading.complete.Complete.{last_end, symbol_no_colons, field_depths, ends_behind, InList, InStruct, Reached, Begins, starts, begun_behind, notes_begin, notes_read, read_behind, item_behind, ready_reached, opened, opened_sexp, opened_struct, elements_read, row_read, members_read, name_read, long_named, symbol_named, segments_read, segments_begin, first_start}
+use Rattle.ion_text.specs.laws.reading.complete.Complete.{last_end, symbol_no_colons, field_depths, ends_behind, InStruct, Reached, Begins, starts, begun_behind, notes_begin, notes_read, read_behind, item_behind, ready_reached, open_read, elements_read, row_read, members_read, name_read, long_named, symbol_named, segments_read, segments_begin, first_start}
+use Rattle.ion_text.specs.laws.reading.Brackets.{no_colons}
 
 module _ (g : Catalog) (l : Limits) where
   -- what the containers wait for
   abbrev target : List Frame → Bool → Now
-  target (frames.List ss vs ∷ fs) false = nows.After
+  target (frames.Items listing ss vs ∷ fs) true = nows.Ready
+  target (frames.Items listing ss vs ∷ fs) false = behind_item listing
   target (frames.Fields ss ms ∷ fs) true = nows.Name
   target (frames.Fields ss ms ∷ fs) false = nows.After
   target _ more = nows.Ready
 
   received : (fs : List Frame) → Receives fs → target fs true ≡ nows.Ready
   received [] r = refl
-  received (frames.List ss vs ∷ fs) r = refl
-  received (frames.Sexp ss vs ∷ fs) r = refl
+  received (frames.Items listing ss vs ∷ fs) r = refl
   received (frames.Named ss ms s ∷ fs) r = refl
   received (frames.Fields ss ms ∷ fs) r = absurd r
 
@@ -102,49 +108,43 @@ module _ (g : Catalog) (l : Limits) where
   abbrev Outer : List Slot → List Frame → List Placed → Type 0
   Outer c fs front = Reached g l c (fresh c) front (at (starts g l 0 [] front) c fs [] nows.Ready)
 
-  list_read : (c : List Slot) (ss : Symbols) (vs : List Value) (fs : List Frame) (ts : List Placed) (more : Bool) → Deep l.depth (frames.List ss vs ∷ fs)
-      → (o : Opened c (frames.List ss vs ∷ fs) ts more) → Outer c fs o.front
-      → Reached g l c (fresh c) ts (at (starts g l 0 [] ts) c (frames.List ss vs ∷ fs) [] (target (frames.List ss vs ∷ fs) more))
-  list_read c ss vs fs ts more deep o d =
-      subst (λ x. Reached g l c (fresh c) x (at (starts g l 0 [] x) c (frames.List ss vs ∷ fs) [] (target (frames.List ss vs ∷ fs) more))) (sym o.whole)
-      (into c (at begin c (frames.List ss [] ∷ fs) [] nows.Ready) (at begin c (frames.List ss vs ∷ fs) [] (target (frames.List ss vs ∷ fs) more)) o.front
-      o.notes o.body o.open' there
-      (inside more (elements_read g l c begin fs ss o.body vs more o.items (deep.0))))
+  items_read : (c : List Slot) (listing : Listing) (ss : Symbols) (vs : List Value) (fs : List Frame) (ts : List Placed) (more : Bool)
+      → Deep l.depth (frames.Items listing ss vs ∷ fs) → (o : Opened c (frames.Items listing ss vs ∷ fs) ts more) → Outer c fs o.front
+      → Reached g l c (fresh c) ts (at (starts g l 0 [] ts) c (frames.Items listing ss vs ∷ fs) [] (target (frames.Items listing ss vs ∷ fs) more))
+  items_read c listing ss vs fs ts more deep o d =
+      subst (λ x. Reached g l c (fresh c) x (at (starts g l 0 [] x) c (frames.Items listing ss vs ∷ fs) [] (target (frames.Items listing ss vs ∷ fs) more)))
+      (sym o.whole)
+      (into c (at begin c (frames.Items listing ss [] ∷ fs) [] nows.Ready)
+      (at begin c (frames.Items listing ss vs ∷ fs) [] (target (frames.Items listing ss vs ∷ fs) more)) o.front o.notes o.body o.open'
+      (there listing o.opens) (inside listing more o.items))
     where
       begin : ℕ
       begin = starts g l 0 [] (o.front ++ (o.notes ++ o.open' ∷ o.body))
 
-      there : reads g l (fresh c) (o.front ++ (o.notes ++ o.open' ∷ o.body)) ≡ reads g l (at begin c (frames.List ss [] ∷ fs) [] nows.Ready) o.body
-      there =
+      opens : (bracket : Bracket) → Says (value_place fs) o.open' (Mark' (open_mark bracket))
+          → reads g l (fresh c) (o.front ++ (o.notes ++ o.open' ∷ o.body))
+          ≡ reads g l (at begin c (opened bracket ss ∷ fs) [] (first_now bracket)) o.body
+      opens bracket says =
           let k = deep.0 in
-          token_behind c fs o.front o.outer d o.notes ss o.noted o.open' (Mark' marks.ListOpen) o.body o.opens (λ e. cc) (λ w e. cc)
-          ∙ opened g l c (value_place fs) (starts g l (starts g l 0 [] o.front) fs o.notes) begin fs ss o.open' o.body refl (omega (arith, k)) o.opens
+          token_behind c fs o.front o.outer d o.notes ss o.noted o.open' (Mark' (open_mark bracket)) o.body says (no_colons bracket) (λ w e. cc)
+          ∙ open_read g l bracket c (value_place fs) (starts g l (starts g l 0 [] o.front) fs o.notes) begin fs ss o.open' o.body refl (omega (arith, k)) says
           (begun_there c fs o.front o.outer d o.notes ss o.noted o.open' o.body)
 
-      inside : (more : Bool) → InList g l c begin fs ss o.body vs more
-          → Reached g l c (at begin c (frames.List ss [] ∷ fs) [] nows.Ready) o.body
-          (at begin c (frames.List ss vs ∷ fs) [] (target (frames.List ss vs ∷ fs) more))
-      inside true h = ready_reached g l c (at begin c (frames.List ss [] ∷ fs) [] nows.Ready) (at begin c (frames.List ss vs ∷ fs) [] nows.Ready) o.body refl
-          (λ t. refl) h
-      inside false h = h
+      there : (listing : Listing) → Says (value_place fs) o.open' (Mark' (open_mark (bracket_in listing)))
+          → reads g l (fresh c) (o.front ++ (o.notes ++ o.open' ∷ o.body)) ≡ reads g l (at begin c (frames.Items listing ss [] ∷ fs) [] nows.Ready) o.body
+      there listings.List = opens brackets.List
+      there listings.Sexp = opens brackets.Sexp
 
-  sexp_read : (c : List Slot) (ss : Symbols) (vs : List Value) (fs : List Frame) (ts : List Placed) (more : Bool) → Deep l.depth (frames.Sexp ss vs ∷ fs)
-      → (o : Opened c (frames.Sexp ss vs ∷ fs) ts more) → Outer c fs o.front
-      → Reached g l c (fresh c) ts (at (starts g l 0 [] ts) c (frames.Sexp ss vs ∷ fs) [] nows.Ready)
-  sexp_read c ss vs fs ts more deep o d =
-      subst (λ x. Reached g l c (fresh c) x (at (starts g l 0 [] x) c (frames.Sexp ss vs ∷ fs) [] nows.Ready)) (sym o.whole)
-      (into c (at begin c (frames.Sexp ss [] ∷ fs) [] nows.Ready) (at begin c (frames.Sexp ss vs ∷ fs) [] nows.Ready) o.front o.notes o.body o.open' there
-      (row_read g l c begin fs ss o.body vs o.items (deep.0)))
-    where
-      begin : ℕ
-      begin = starts g l 0 [] (o.front ++ (o.notes ++ o.open' ∷ o.body))
-
-      there : reads g l (fresh c) (o.front ++ (o.notes ++ o.open' ∷ o.body)) ≡ reads g l (at begin c (frames.Sexp ss [] ∷ fs) [] nows.Ready) o.body
-      there =
-          let k = deep.0 in
-          token_behind c fs o.front o.outer d o.notes ss o.noted o.open' (Mark' marks.SexpOpen) o.body o.opens (λ e. cc) (λ w e. cc)
-          ∙ opened_sexp g l c (value_place fs) (starts g l (starts g l 0 [] o.front) fs o.notes) begin fs ss o.open' o.body refl (omega (arith, k)) o.opens
-          (begun_there c fs o.front o.outer d o.notes ss o.noted o.open' o.body)
+      inside : (listing : Listing) (more : Bool) → Items c listing vs more o.body
+          → Reached g l c (at begin c (frames.Items listing ss [] ∷ fs) [] nows.Ready) o.body
+          (at begin c (frames.Items listing ss vs ∷ fs) [] (target (frames.Items listing ss vs ∷ fs) more))
+      inside listings.List true h =
+          ready_reached g l c (at begin c (opened brackets.List ss ∷ fs) [] nows.Ready) (at begin c (frames.Items listings.List ss vs ∷ fs) [] nows.Ready)
+          o.body
+          refl (λ t. refl) (elements_read g l c begin fs ss o.body vs true h (deep.0))
+      inside listings.List false h = elements_read g l c begin fs ss o.body vs false h (deep.0)
+      inside listings.Sexp true h = row_read g l c begin fs ss o.body vs h (deep.0)
+      inside listings.Sexp false h = row_read g l c begin fs ss o.body vs h (deep.0)
 
   -- behind the open brace of a struct
   struct_there : (c : List Slot) (ss : Symbols) (ms : List Field) (fs : List Frame) (front notes us : List Placed) (t : Placed) → Opened c fs front true
@@ -154,7 +154,8 @@ module _ (g : Catalog) (l : Limits) where
       (at (starts g l 0 [] (front ++ (notes ++ t ∷ us))) c (frames.Fields ss [] ∷ fs) [] nows.Name) us
   struct_there c ss ms fs front notes us t o k d a i =
       token_behind c fs front o d notes ss a t (Mark' marks.FieldsOpen) us i (λ e. cc) (λ w e. cc)
-      ∙ opened_struct g l c (value_place fs) (starts g l (starts g l 0 [] front) fs notes) (starts g l 0 [] (front ++ (notes ++ t ∷ us))) fs ss t us refl
+      ∙ open_read g l brackets.Fields c (value_place fs) (starts g l (starts g l 0 [] front) fs notes) (starts g l 0 [] (front ++ (notes ++ t ∷ us))) fs ss t
+      us refl
       (omega (arith, k)) i (begun_there c fs front o d notes ss a t us)
 
   fields_read : (c : List Slot) (ss : Symbols) (ms : List Field) (fs : List Frame) (ts : List Placed) (more : Bool) → Deep l.depth (frames.Fields ss ms ∷ fs)
@@ -201,10 +202,8 @@ module _ (g : Catalog) (l : Limits) where
       → Reached g l c (fresh c) ts (at (starts g l 0 [] ts) c fs [] (target fs more))
   opened_read c [] ts more deep o = subst (λ x. Reached g l c (fresh c) x (at (starts g l 0 [] x) c [] [] nows.Ready)) (sym o)
       (ready_reached g l c (fresh c) (fresh c) [] refl (λ t. refl) refl)
-  opened_read c (frames.List ss vs ∷ fs) ts more deep o = list_read c ss vs fs ts more deep o
-      (outer c fs o.front o.receives (opened_read c fs o.front true deep.1 o.outer))
-  opened_read c (frames.Sexp ss vs ∷ fs) ts more deep o = sexp_read c ss vs fs ts more deep o
-      (outer c fs o.front o.receives (opened_read c fs o.front true deep.1 o.outer))
+  opened_read c (frames.Items listing ss vs ∷ fs) ts more deep o =
+      items_read c listing ss vs fs ts more deep o (outer c fs o.front o.receives (opened_read c fs o.front true deep.1 o.outer))
   opened_read c (frames.Fields ss ms ∷ fs) ts more deep o =
       fields_read c ss ms fs ts more deep o (outer c fs o.front o.receives (opened_read c fs o.front true deep.1 o.outer))
   opened_read c (frames.Named ss ms s ∷ fs) ts more deep o =
@@ -266,7 +265,7 @@ module _ (g : Catalog) (l : Limits) where
 
   long_outer : (c : List Slot) (fs : List Frame) (ts : List Placed) → (o : Opened c fs ts true) → ends_long ts ≡ true → long_behind c fs ts o ≡ true
   long_outer c [] ts o h = absurd (never (ends_long ts) (ap ends_long o) h)
-  long_outer c (frames.List ss vs ∷ fs) ts o h = absurd (never (ends_long ts)
+  long_outer c (frames.Items listings.List ss vs ∷ fs) ts o h = absurd (never (ends_long ts)
       (ap ends_long o.whole ∙ (ends_open o.front o.notes o.body o.open' ∙ elements_short c (value_place fs) o.open' marks.ListOpen o.body vs o.opens o.items))
       h)
   long_outer c (frames.Fields ss ms ∷ fs) ts o h = absurd (never (ends_long ts)
@@ -276,7 +275,7 @@ module _ (g : Catalog) (l : Limits) where
       absurd (never (ends_long ts) (ap ends_long o.whole ∙ (ends_open o.front o.notes (o.body ++ (o.name ++ o.colon ∷ [])) o.open'
       ∙ (ends_some (o.open' ∷ o.body) (o.name ++ o.colon ∷ []) (some_more o.name [] o.colon)
       ∙ (ends_some o.name (o.colon ∷ []) tt ∙ mark_not_long places.Name o.colon marks.Colon o.colons)))) h)
-  long_outer c (frames.Sexp ss vs ∷ fs) ts o h = by o.body (sym (ends_open o.front o.notes o.body o.open') ∙ (sym (ap ends_long o.whole) ∙ h))
+  long_outer c (frames.Items listings.Sexp ss vs ∷ fs) ts o h = by o.body (sym (ends_open o.front o.notes o.body o.open') ∙ (sym (ap ends_long o.whole) ∙ h))
     where
       by : (body : List Placed) → ends_long (o.open' ∷ body) ≡ true → ends_long body ≡ true
       by [] k = absurd (never (is_long o.open') (mark_not_long (value_place fs) o.open' marks.SexpOpen o.opens) k)
@@ -458,8 +457,7 @@ module _ (g : Catalog) (l : Limits) where
         ∙ ap (λ x. on_turn x done) (symbol_named g l c (starts g l 0 [] before) t.lexeme.end (frames.Fields ss ms ∷ fs) said s i)) refl refl
 
   inside_place : (fs : List Frame) → IsInside fs → place_in fs (target fs false) ≡ place_in fs nows.After
-  inside_place (frames.List ss vs ∷ fs) i = refl
-  inside_place (frames.Sexp ss vs ∷ fs) i = refl
+  inside_place (frames.Items listing ss vs ∷ fs) i = refl
   inside_place (frames.Fields ss vs ∷ fs) i = refl
   inside_place (frames.Named ss vs s ∷ fs) i = refl
   inside_place [] i = absurd i
@@ -486,14 +484,11 @@ module _ (g : Catalog) (l : Limits) where
   arrived c (frames.Fields xs ms ∷ fs) ss (nows.Keyed s) ts deep d new =
       subst (Arrived c (frames.Fields xs ms ∷ fs) ss (nows.Keyed s)) (sym d.whole) (keyed_arrives c xs ms fs d.before deep d.outer ss s d.name d.is)
   arrived c [] ss nows.Name ts deep d new = absurd (d.1)
-  arrived c (frames.List xs vs ∷ fs) ss nows.Name ts deep d new = absurd (d.1)
-  arrived c (frames.Sexp xs vs ∷ fs) ss nows.Name ts deep d new = absurd (d.1)
+  arrived c (frames.Items listing xs vs ∷ fs) ss nows.Name ts deep d new = absurd (d.1)
   arrived c (frames.Named xs vs s ∷ fs) ss nows.Name ts deep d new = absurd (d.1)
   arrived c [] ss (nows.LongName w) ts deep d new = absurd d.struct
-  arrived c (frames.List xs vs ∷ fs) ss (nows.LongName w) ts deep d new = absurd d.struct
-  arrived c (frames.Sexp xs vs ∷ fs) ss (nows.LongName w) ts deep d new = absurd d.struct
+  arrived c (frames.Items listing xs vs ∷ fs) ss (nows.LongName w) ts deep d new = absurd d.struct
   arrived c (frames.Named xs vs s ∷ fs) ss (nows.LongName w) ts deep d new = absurd d.struct
   arrived c [] ss (nows.Keyed w) ts deep d new = absurd d.struct
-  arrived c (frames.List xs vs ∷ fs) ss (nows.Keyed w) ts deep d new = absurd d.struct
-  arrived c (frames.Sexp xs vs ∷ fs) ss (nows.Keyed w) ts deep d new = absurd d.struct
+  arrived c (frames.Items listing xs vs ∷ fs) ss (nows.Keyed w) ts deep d new = absurd d.struct
   arrived c (frames.Named xs vs s ∷ fs) ss (nows.Keyed w) ts deep d new = absurd d.struct
