@@ -159,7 +159,7 @@ impl<'a> BinaryReader<'a> {
             × V.took_up other.old other.new beside.now used.1 value) }
         ensures kept { IsNone result → (self.new ≡ self.old) × (other.new ≡ other.old) }
     {
-        if self.failed.is_some() || !self.may_walk() {
+        if !self.may_walk() || self.failed.is_some() {
             return None;
         }
         if !self.admits(self.used + piece.len() as u64) {
