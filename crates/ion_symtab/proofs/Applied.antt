@@ -21,11 +21,13 @@ next_is slots table tables fields imports symbols p i s =
 module _ (slots : List Slot) (table : Value) (tables : List Table) {fields given : List Field} {imports symbols : Option Value}
     (p : table.payload ≡ payloads.Fields fields) (g : fields ≡ given) (i : only (codes "imports") given ≡ Ok imports)
     (s : only (codes "symbols") given ≡ Ok symbols) where
+  -- a table that appends puts its slots behind all that were there
   pub next_appends : appends imports ≡ true → next slots table tables ≡ extended tables slots imports symbols
   next_appends e =
       next_is slots table tables given imports symbols (p ∙ ap payloads.Fields g) i s
       ∙ ap (λ b. extended tables b imports symbols) (let b : base slots imports ≡ slots = rw e in b)
 
+  -- a table that doesn't append puts its slots behind the system slots
   pub next_replaces : appends imports ≡ false → next slots table tables ≡ extended tables system_slots imports symbols
   next_replaces e =
       next_is slots table tables given imports symbols (p ∙ ap payloads.Fields g) i s

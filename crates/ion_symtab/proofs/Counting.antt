@@ -39,6 +39,7 @@ before_end first end segments k place d counts h last within (inl more) =
 before_end first end segments k place d counts h last within (inr none) =
     omega (arith, slots_in-whole segments k h none)
 
+-- a place of the segments lies within the last one that begins at it or before it
 pub place_within : (first end : ℕ) (segments : List Segment) (k place : ℕ) (s : Segment) → Counts first segments end → k < length segments
     → s ≡ get_or segments k s →
     StartsBy place segments k → (k + 1 < length segments → StartsBehind place segments (k + 1)) → place < first + length (flat_map segment_slots segments) →
@@ -48,6 +49,7 @@ place_within first end segments k place s counts h e starts last within =
     let p : s.before ≤ place = omega (arith, starts s, ap (λ (x : Segment). x.before) e) in
     omega (arith, before_end first end segments k place s counts h last within (cases_lt (k + 1) (length segments)), slots_in-more segments k s h e)
 
+-- at a place within a segment stands the slot that the segment has there
 pub slot_there : (first end : ℕ) (segments : List Segment) (k place : ℕ) (s : Segment) → Counts first segments end → k < length segments
     → s ≡ get_or segments k s →
     StartsBy place segments k → place - s.before < length (segment_slots s) →
@@ -76,6 +78,7 @@ before_in first mid end xs ys x y k d h (inr far) =
     rw (get_or-append_right xs ys (length xs) k d refl far, t)
     (omega (arith, y.before (k - length xs) d n, x.ends, slots_in-append xs (take (k - length xs) ys)))
 
+-- segments behind others that are counted are counted together
 pub Counts-append : (first mid end : ℕ) (xs ys : List Segment) → Counts first xs mid → Counts mid ys end → Counts first (xs ++ ys) end
 Counts-append first mid end xs ys x y = record {
   before = λ k d h. before_in first mid end xs ys x y k d h (cases_lt k (length xs));

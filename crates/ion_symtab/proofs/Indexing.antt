@@ -11,9 +11,6 @@ use Rattle.ion_symtab.specs.laws.Tables.{find_more}
 use Rattle.ion_symtab.specs.kept.Places.{place_of, newest_of, newest_place, IsPlaceOf, Indexes}
 use Rattle.ion_symtab.specs.declared.catalog_index.Places.{Places}
 
-newer_if : (b : Bool) (t u : Table) → nat_le u.version t.version ≡ b → newer (Some t) (Some u) ≡ (if b then Some t else Some u)
-newer_if b t u e = rw e refl
-
 newer_associates : (t : Table) (o : Option Table) (u : Table) → newer (Some t) (newer o (Some u)) ≡ newer (newer (Some t) o) (Some u)
 newer_associates t None u = refl
 newer_associates t (Some v) u = grind arith
@@ -88,6 +85,7 @@ module _ (ts : List Table) (t : Table) (old new : Places) (indexes : Indexes ts 
       (shows_newest ts t (newest_of old t.name) (newest ts t.name) (indexes.newest t.name)))
   newest_by q false e = rw (newest_same ts t q e) (shows_more ts (t ∷ []) (newest_of old q) (newest ts q) (indexes.newest q))
 
+  -- places with one more table's noted are those of the catalog with that table behind
   pub indexes_more : ((q : List ℕ) (v : ℕ) → place_of new q v ≡ cond (bytes_eq t.name q && (t.version == v)) (Some (length ts)) (place_of old q v)) →
       ((q : List ℕ) → newest_of new q ≡ cond (bytes_eq t.name q) (Some (newest_place (newest_of old t.name) (newest ts t.name) t (length ts)))
       (newest_of old q)) →
@@ -98,9 +96,4 @@ module _ (ts : List Table) (t : Table) (old new : Places) (indexes : Indexes ts 
   }
 
 -- what shows the same tables is as good
-pub indexes_as : (ts : List Table) (old new : Places) → Indexes ts old → ((q : List ℕ) (v : ℕ) → place_of new q v ≡ place_of old q v)
-    → ((q : List ℕ) → newest_of new q ≡ newest_of old q) → Indexes ts new
-indexes_as ts old new h place noted = record {
-  exact = λ q v. rw (place q v) (h.exact q v);
-  newest = λ q. rw (noted q) (h.newest q);
 }

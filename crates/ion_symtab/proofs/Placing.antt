@@ -39,21 +39,25 @@ module _ {Y : Type 0} (old new : BTreeMap (String Y) Versions) (name : List ℕ)
   same_name : (q : List ℕ) → bytes_eq name q ≡ true → get_by_text old q ≡ get_by_text old name
   same_name q e = ap (get_by_text old) (sym ((bytes_decides name q).0 e))
 
+  -- a place that is noted for a version of a name is found there, and all others are found as before
   pub placed : (version place : ℕ) → HasOneMore (get_by_text old name) after version place → (q : List ℕ) (v : ℕ) →
       version_kept (get_by_text new q) v ≡ cond (bytes_eq name q && (version == v)) (Some place) (version_kept (get_by_text old q) v)
   placed version place h q v =
       ap (λ o. version_kept o v) (updates q)
       ∙ placed_at (get_by_text old name) (get_by_text old q) after version place v (bytes_eq name q) h (same_name q)
 
+  -- where the versions of one name keep their places, those of all names do
   pub places_stay : ((v : ℕ) → get nat_cmp after.places v ≡ version_kept (get_by_text old name) v) → (q : List ℕ) (v : ℕ) →
       version_kept (get_by_text new q) v ≡ version_kept (get_by_text old q) v
   places_stay h q v = ap (λ o. version_kept o v) (updates q) ∙ placed_as (get_by_text old name) (get_by_text old q) after v (bytes_eq name q) (h v)
       (same_name q)
 
+  -- where one name keeps the place of its newest version, all names do
   pub newest_stays : Some after.newest ≡ newest_among (get_by_text old name) → (q : List ℕ) → newest_among (get_by_text new q)
       ≡ newest_among (get_by_text old q)
   newest_stays h q = ap newest_among (updates q) ∙ newest_as (get_by_text old name) (get_by_text old q) after (bytes_eq name q) h (same_name q)
 
+  -- the newest place that is noted for a name is that of the name, and others keep theirs
   pub noted : (newest : ℕ) → after.newest ≡ newest → (q : List ℕ) → newest_among (get_by_text new q)
       ≡ cond (bytes_eq name q) (Some newest) (newest_among (get_by_text old q))
   noted newest e q = ap newest_among (updates q) ∙ newest_at (get_by_text old q) after newest (bytes_eq name q) e

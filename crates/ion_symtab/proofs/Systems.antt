@@ -6,11 +6,13 @@ use Rattle.std.proofs.lemmas.Bool.{cond-false, ne_eqb}
 use Rattle.ion_symtab.specs.Slots.{Slot, system_slots, nine_system_slots, slot_symbol, symbol_at, resolve}
 use Rattle.ion_symtab.specs.Next.{local_slot}
 
+-- a place within the first of two lists has its item
 pub slice_get-append_left : {X : Type 0} (xs ys : List X) (i : ℕ) → i < length xs → slice_get (xs ++ ys) i ≡ slice_get xs i
 slice_get-append_left [] ys i h = absurd (omega arith)
 slice_get-append_left (x ∷ xs) ys zero h = refl
 slice_get-append_left (x ∷ xs) ys (suc i) h = slice_get-append_left xs ys i (omega arith)
 
+-- a place behind the first of two lists has an item of the second
 pub slice_get-append_right : {X : Type 0} (xs ys : List X) (i j : ℕ) → i ≡ length xs + j → slice_get (xs ++ ys) i ≡ slice_get ys j
 slice_get-append_right [] ys i j h = let e : i ≡ j = omega arith in ap (slice_get ys) e
 slice_get-append_right (x ∷ xs) ys zero j h = absurd (omega arith)

@@ -30,6 +30,7 @@ abbrev pub elements_in : Option Layer → List Value
 elements_in (Some (Payload-F.List vs)) = vs
 elements_in _ = []
 
+-- the elements of a field that is a list; one that is absent or anything else has none
 abbrev pub elements : Option Value → List Value
 elements field = elements_in (payload_of field)
 
@@ -42,6 +43,7 @@ abbrev pub name_in : Option Layer → Option (List ℕ)
 name_in (Some (Payload-F.Str text)) = if is_table_name text then Some text else None
 name_in _ = None
 
+-- the name that a field says, if it is a string that may name a shared table
 abbrev pub table_name : Option Value → Option (List ℕ)
 table_name field = name_in (payload_of field)
 
@@ -63,6 +65,7 @@ abbrev pub at_least_one : Option ℕ → ℕ
 at_least_one None = 1
 at_least_one (Some n) = max n 1
 
+-- the version that a field says, and 1 where it says none from 1 on
 abbrev pub version_of : Option Value → ℕ
 version_of field = at_least_one (count_of field)
 
@@ -71,5 +74,6 @@ abbrev pub layer_symbol : Layer → Option (List ℕ)
 layer_symbol (Payload-F.Str text) = Some text
 layer_symbol _ = None
 
+-- the text that an element of `symbols` has, if it is a string
 abbrev pub symbol_of : Value → Option (List ℕ)
 symbol_of v = layer_symbol (out-Payload v.payload)

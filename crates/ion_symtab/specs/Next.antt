@@ -23,13 +23,16 @@ joined slots more = if nat_le (length slots + length more) greatest_id then Ok (
 
 -- 1. The base: the system slots, or all old slots where `imports` is the symbol `$ion_symbol_table`.
 
+-- whether it is the symbol `$ion_symbol_table`
 abbrev pub appends_in : Option Layer → Bool
 appends_in (Some (Payload-F.Symbol s)) = has_text (codes "$ion_symbol_table") s
 appends_in _ = false
 
+-- whether the table appends, by its `imports`
 abbrev pub appends : Option Value → Bool
 appends imports = appends_in (payload_of imports)
 
+-- all old slots where the table appends, else the system slots
 abbrev pub base : List Slot → Option Value → List Slot
 base slots imports = if appends imports then slots else system_slots
 
@@ -49,6 +52,7 @@ pub record Import : Type 0 where
   pub table : Table
   pub count : ℕ
 
+-- the slots of the imported table, cut or filled up to so many as are imported
 abbrev pub import_slots : Import → List Slot
 import_slots import = cut_or_filled import.count (map shared_slot import.table.symbols)
 
@@ -62,6 +66,7 @@ abbrev pub instead : Option Table → Option ℕ → Result (Option Import) Reas
 instead (Some t) (Some count) = Ok (Some (record { table = t; count = count }))
 instead _ _ = Err reasons.MissingImport
 
+-- the import of the table found, or of the newest instead where none is
 abbrev pub chosen : Option Table → Option Table → Option ℕ → Result (Option Import) Reason
 chosen (Some t) newest max_id = Ok (Some (exactly t max_id))
 chosen None newest max_id = instead newest max_id
@@ -100,10 +105,12 @@ imported tables slots (v ∷ vs) = and_then (element_added tables slots v) (λ m
 
 -- 3. One slot for each element of the list `symbols`: a string its text, anything else unknown text.
 
+-- a slot of a local table: a text, or unknown text
 abbrev pub local_slot : Option (List ℕ) → Slot
 local_slot None = unknown
 local_slot (Some t) = text t
 
+-- a slot for each element of `symbols`
 abbrev pub local_slots : Option Value → List Slot
 local_slots symbols = map local_slot (map symbol_of (elements symbols))
 
@@ -114,12 +121,14 @@ abbrev pub extended : List Table → List Slot → Option Value → Option Value
 extended tables slots imports symbols =
     and_then (imported tables slots (elements imports)) (λ more. joined more (local_slots symbols))
 
+-- the context behind a table with these fields, where `imports` and `symbols` stand once at most
 abbrev pub next_fields : List Slot → List Field → List Table → Result (List Slot) Reason
 next_fields slots fields tables =
     and_then (only (codes "imports") fields) (λ imports.
     and_then (only (codes "symbols") fields) (λ symbols.
     extended tables (base slots imports) imports symbols))
 
+-- the context behind a table that is a struct; any other is refused as a null one
 abbrev pub next_layer : List Slot → Layer → List Table → Result (List Slot) Reason
 next_layer slots (Payload-F.Fields fields) tables = next_fields slots fields tables
 next_layer slots _ tables = Err reasons.NullTable

@@ -40,6 +40,7 @@ shared_fields fields =
     if imports_any (payload_of imports) then Err reasons.BadTable
     else described (table_name name) (version_of version) (map symbol_of (elements symbols))))))
 
+-- the table that a struct describes; no other value describes one
 abbrev pub shared_layer : Layer → Result Table Reason
 shared_layer (Payload-F.Fields fields) = shared_fields fields
 shared_layer _ = Err reasons.BadTable

@@ -51,6 +51,7 @@ abbrev pub is_usable : List ℕ → ℕ → List (Option (List ℕ)) → Bool
 is_usable name version symbols =
     is_table_name name && nat_le 1 version && nat_le version greatest_id && nat_le (length symbols + 9) greatest_id
 
+-- the table of a name, a version and symbols, if it is usable
 abbrev pub table_of : List ℕ → ℕ → List (Option (List ℕ)) → Result Table Reason
 table_of name version symbols =
     if is_usable name version symbols then Ok (record { name = name; version = version; symbols = symbols }) else Err reasons.BadTable

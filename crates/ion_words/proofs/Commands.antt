@@ -3,6 +3,7 @@ use Rattle.std.proofs.Common.{◌≡◌, ◌∙◌, true, ap, ap₂, Result, Ok,
 use Rattle.clap.specs.Words.{App, app_of, with_subcommand}
 use Rattle.clap.specs.declared.builder.command.Command.{Command}
 
+-- a subcommand that is built as it is to be is added to the program as it is to be
 pub added : {E : Type 0} (command : Result Command E) (sub : App) (old known : App) (new : App) → IfOk command (λ c. app_of c ≡ sub) → sub.top.is_plain ≡ true
     → old ≡ known
     → IsOkAnd command (λ c. (app_of c).top.is_plain ≡ true → new ≡ with_subcommand old (app_of c).top) → new ≡ with_subcommand known sub.top

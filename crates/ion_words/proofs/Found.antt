@@ -26,6 +26,7 @@ joined f g None (Some p) d e = absurd (true≢false (sym (ap is_some d)))
 joined f g (Some y) None d e = absurd (true≢false (ap is_some d))
 joined f g (Some y) (Some p) d e = ap₂ (λ a b. Some (a, b)) (ap (λ o. unwrap_or o (f y)) d) (ap (λ o. unwrap_or o (g y)) e)
 
+-- the command's name and what was found for it make what is found of the words together
 pub subcommand-is : (m : ArgMatches) (r : Option (Bor Text × Bor ArgMatches)) → option_map (λ p. p.0.now) r ≡ subcommand_name_of m
     → option_map (λ p. rows_of (found_of p.1.now)) r ≡ option_map (λ p. p.1) (subcommand_rows_of m)
     → option_map (λ p. (p.0.now, rows_of (found_of p.1.now))) r ≡ subcommand_rows_of m
@@ -71,6 +72,7 @@ pub found : (words : List Text) → (words ≡ [] → ⊥) → (a : App) → a �
 found words some a is m free has = asked-by words some (sym (ap (λ (x : App). fault_of x words) is) ∙ free (ap is_simple_and_free is))
     ∙ ap by (sym ((has (ap is_simple is)).1 ∙ ap (λ (x : App). subcommand_of x words) is))
 
+-- what a list that isn't empty is mapped to isn't empty
 pub mapped_some : {A : Type 0} (f : A → Text) (xs : List A) → (length xs == 0) ≡ false → map f xs ≡ [] → ⊥
 mapped_some f [] some e = true≢false some
 mapped_some f (x ∷ xs) some e = is_cons e

@@ -1,6 +1,5 @@
 mod Commands
 mod Found
-mod InputOnce
 mod Names
 mod Numbers
 mod Rows

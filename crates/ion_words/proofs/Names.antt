@@ -119,19 +119,23 @@ in_compare words = left_to (codes "compare") words
 
 -- ---- the command lines
 
+-- `check` and a plain name ask to check that document
 pub check_plain : (name : Text) → IsPlain name → asked (codes "check" ∷ name ∷ []) ≡ Some (usual (check name))
 unfolding clap_on_literals
 check_plain name plain = in_check (name ∷ []) ∙ plain_step (codes "check") (command_of (codes "check")) nothing_held idle 1 name [] plain
 
+-- `show` and a plain name ask to show that document
 pub show_plain : (name : Text) → IsPlain name → asked (codes "show" ∷ name ∷ []) ≡ Some (usual (show name))
 unfolding clap_on_literals
 show_plain name plain = in_show (name ∷ []) ∙ plain_step (codes "show") (command_of (codes "show")) nothing_held idle 1 name [] plain
 
+-- `convert`, a plain name and `--to text` ask to convert that document to text
 pub to_text_plain : (name : Text) → IsPlain name → asked (codes "convert" ∷ name ∷ codes "--to" ∷ codes "text" ∷ []) ≡ Some (usual (convert name target.Text))
 unfolding clap_on_literals
 to_text_plain name plain = in_convert (name ∷ codes "--to" ∷ codes "text" ∷ [])
     ∙ plain_step (codes "convert") (command_of (codes "convert")) nothing_held idle 1 name (codes "--to" ∷ codes "text" ∷ []) plain
 
+-- `convert`, a plain name and `--to binary` ask to convert that document to binary
 pub to_binary_plain : (name : Text) → IsPlain name → asked (codes "convert" ∷ name ∷ codes "--to" ∷ codes "binary" ∷ [])
     ≡ Some (usual (convert name target.Binary))
 unfolding clap_on_literals
@@ -146,6 +150,7 @@ placed id name = record nothing_held { pending = Some (id, name ∷ []) }
 compare_once : (left right : Text) → is_input right ≡ false → input_once (usual (compare left right)) ≡ Some (usual (compare left right))
 compare_once left right e = ap (λ b. if (not ((b || false) && is_input left) && true) then Some (usual (compare left right)) else None) e
 
+-- `compare` and two plain names ask to compare those documents
 pub compare_plain : (left right : Text) → IsPlain left → IsPlain right → asked (codes "compare" ∷ left ∷ right ∷ []) ≡ Some (usual (compare left right))
 unfolding clap_on_literals
 compare_plain left right plain right_plain = in_compare (left ∷ right ∷ []) ∙ plain_step (codes "compare") (command_of (codes "compare")) nothing_held idle 1
@@ -159,6 +164,7 @@ with_catalog name catalog = record (usual (check name)) { catalog = Some catalog
 catalog_once : (name catalog : Text) → is_input name ≡ false → input_once (with_catalog name catalog) ≡ Some (with_catalog name catalog)
 catalog_once name catalog e = ap (λ b. if (not ((b || false) && is_input catalog) && true) then Some (with_catalog name catalog) else None) e
 
+-- `check`, a plain name, `--catalog` and another ask to check the one with the other as catalog
 pub catalog_plain : (name catalog : Text) → IsPlain name → IsPlain catalog → asked (codes "check" ∷ name ∷ codes "--catalog" ∷ catalog ∷ [])
     ≡ Some (with_catalog name catalog)
 unfolding clap_on_literals
@@ -174,6 +180,7 @@ pub check_behind : (name : Text) → asked (codes "check" ∷ codes "--" ∷ nam
 unfolding clap_on_literals
 check_behind name = refl
 
+-- `compare --` and any two words ask to compare those, unless both are the standard input
 pub compare_behind : (left right : Text) → asked (codes "compare" ∷ codes "--" ∷ left ∷ right ∷ []) ≡ input_once (usual (compare left right))
 unfolding clap_on_literals
 compare_behind left right = refl
@@ -201,11 +208,13 @@ item_given : (fits : Bool) (n : ℕ) → judged fits (option_map (λ item. (64, 
 item_given true n = refl
 item_given false n = refl
 
+-- `check a --depth=` and a text ask for that depth, if it is a number from 1 to 128
 pub depth_is : (text : Text) → asked (codes "check" ∷ codes "a" ∷ (codes "--depth=" ++ text) ∷ [])
     ≡ option_map (λ depth. record (usual (check (codes "a"))) { depth = depth }) (number_in 128 text)
 unfolding clap_on_literals
 depth_is text = depth_given (is_unsigned_in 1 128 text) (digits_value 10 (without_leading_plus text))
 
+-- `check a --item=` and a text ask for items of so many octets, if it is a number from 1 to 2^30
 pub item_is : (text : Text) → asked (codes "check" ∷ codes "a" ∷ (codes "--item=" ++ text) ∷ [])
     ≡ option_map (λ item. record (usual (check (codes "a"))) { item = item }) (number_in (2 ^ 30) text)
 unfolding clap_on_literals

@@ -32,6 +32,7 @@ pub record Asked : Type 0 where
 abbrev pub usual : Job → Asked
 usual job = record { job = job; catalog = None; depth = 64; item = 2 ^ 24 }
 
+-- the encoding that a target names: `text` or `binary`
 abbrev pub target_named : Text → Option Target
 target_named name = if bytes_eq name (codes "text") then Some target.Text
     else if bytes_eq name (codes "binary") then Some target.Binary
@@ -61,12 +62,14 @@ abbrev pub limits_of : List Row → Option (ℕ × ℕ)
 limits_of rows = option_and_then (λ depth. option_map (λ item. (depth, item))
     (number_of (2 ^ 24) (2 ^ 30) (one_of (codes "item") rows))) (number_of 64 128 (one_of (codes "depth") rows))
 
+-- the names of the documents, in the order in which they are opened
 abbrev pub names_of_job : Job → List Text
 names_of_job (check file) = file ∷ []
 names_of_job (show file) = file ∷ []
 names_of_job (convert file to) = file ∷ []
 names_of_job (compare left right) = left ∷ right ∷ []
 
+-- the catalog's name, if there is one, in front of the others
 abbrev pub names_with : Option Text → List Text → List Text
 names_with None names = names
 names_with (Some name) names = name ∷ names
@@ -75,6 +78,7 @@ names_with (Some name) names = name ∷ names
 abbrev pub names_of : Asked → List Text
 names_of asked = names_with asked.catalog (names_of_job asked.job)
 
+-- whether the name is `-`, that of the standard input
 abbrev pub is_input : Text → Bool
 is_input name = bytes_eq name (codes "-")
 
@@ -83,9 +87,11 @@ abbrev pub has_input_once : List Text → Bool
 has_input_once [] = true
 has_input_once (name ∷ names) = not (list_any is_input names && is_input name) && has_input_once names
 
+-- whether the standard input is named once at most, as a document or as the catalog
 abbrev pub names_input_once : Asked → Bool
 names_input_once asked = has_input_once (names_of asked)
 
+-- what is asked, unless it names the standard input twice
 abbrev pub input_once : Asked → Option Asked
 input_once asked = if names_input_once asked then Some asked else None
 
@@ -106,12 +112,14 @@ asked (word ∷ words) = if is_empty (fault_of program (word ∷ words))
 abbrev pub up_to : ℕ → Option ℕ → Option ℕ
 up_to most = option_and_then (λ n. if nat_le 1 n && nat_le n most then Some n else None)
 
+-- what a task asks to be done, without the places that its names stand in
 abbrev pub job : Task → Job
 job (task.Check file) = check file.now
 job (task.Show file) = show file.now
 job (task.Convert file to) = convert file.now to
 job (task.Compare left right) = compare left.now right.now
 
+-- the depth, and the octets of an item
 abbrev pub limits_told : Limits → ℕ × ℕ
 limits_told limits = (limits.depth, limits.item)
 

@@ -15,6 +15,7 @@ option id = record (new_rule id) { long = Some id }
 abbrev pub number_option : ℕ → Text → Rule
 number_option most id = record (option id) { parser = Some (vp.Unsigned 1 most) }
 
+-- `--id VALUE`, which must be given
 abbrev pub needed_option : Text → Rule
 needed_option id = record (option id) { required = true }
 
@@ -27,9 +28,11 @@ with_options app = with_rule (with_rule (with_rule app (option (codes "catalog")
 abbrev pub over_one : Text → App
 over_one name = with_options (with_rule (new_app name) (place (codes "FILE")))
 
+-- the command `convert FILE --to VALUE`, with the options of all
 abbrev pub converting : App
 converting = with_options (with_rule (with_rule (new_app (codes "convert")) (place (codes "FILE"))) (needed_option (codes "to")))
 
+-- the command `compare LEFT RIGHT`, with the options of all
 abbrev pub comparing : App
 comparing = with_options (with_rule (with_rule (new_app (codes "compare")) (place (codes "LEFT"))) (place (codes "RIGHT")))
 
@@ -49,5 +52,6 @@ compare = comparing.top
 abbrev pub bare : App
 bare = record { top = record (new_app (codes "ion_cmd")).top { no_binary_name = true; subcommand_required = true }; subs = [] }
 
+-- the program with its commands: check, show, convert and compare
 abbrev pub program : App
 program = with_subcommand (with_subcommand (with_subcommand (with_subcommand bare check) show) convert) compare

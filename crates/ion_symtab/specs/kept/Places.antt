@@ -11,6 +11,7 @@ abbrev pub version_kept : Option Versions → ℕ → Option ℕ
 version_kept None version = None
 version_kept (Some versions) version = get nat_cmp versions.places version
 
+-- the place of the newest among the versions of a name
 abbrev pub newest_among : Option Versions → Option ℕ
 newest_among None = None
 newest_among (Some versions) = Some versions.newest

@@ -15,6 +15,7 @@ abbrev pub part_slots : Part → List Slot
 part_slots (Local symbols) = map local_slot symbols.items
 part_slots (Import symbols count) = cut_or_filled count (map shared_slot symbols)
 
+-- the slots of a segment's part
 abbrev pub segment_slots : Segment → List Slot
 segment_slots s = part_slots s.part
 
@@ -27,6 +28,7 @@ pub record Row : Type 0 where
 abbrev pub StartsBy : ℕ → List Segment → ℕ → Type 0
 StartsBy place segments k = (d : Segment) → (slice_index_or segments k d).before ≤ place
 
+-- a segment begins behind a place
 abbrev pub StartsBehind : ℕ → List Segment → ℕ → Type 0
 StartsBehind place segments k = (d : Segment) → place < (slice_index_or segments k d).before
 

@@ -32,6 +32,7 @@ abbrev pub AreTextTables : List Table → Type 0
 AreTextTables [] = Unit {0}
 AreTextTables (t ∷ ts) = AreTexts t.symbols × AreTextTables ts
 
+-- the texts of the context are UTF-8, if one is answered
 abbrev pub TextAnswer : Result (List Slot) Reason → Type 0
 TextAnswer (Ok c) = AreTextSlots c
 TextAnswer (Err reason) = Unit {0}
@@ -122,6 +123,7 @@ text_if : (c : List Slot) (i : ℕ) (b : Bool) (s : Option (List ℕ)) → AreTe
 text_if c i true s h e = text_by None s e tt
 text_if c i false s h e = text_at c i s h e
 
+-- the text of an id's symbol is UTF-8 where it is known, if those of the context are
 pub resolved_text : (c : List Slot) (id : ℕ) (s : Option (List ℕ)) → AreTextSlots c → resolve c id ≡ Ok s → IsText s
 unfolding resolve
 resolved_text c id s h e = text_if c (id - 1) (id == 0) s h e
@@ -155,6 +157,7 @@ local_texts [] h = tt
 local_texts (None ∷ ss) h = local_texts ss h.1
 local_texts (Some t ∷ ss) h = (h.0, local_texts ss h.1)
 
+-- the texts of the system slots are UTF-8
 pub system_are_texts : AreTextSlots system_slots
 unfolding system_slots system_texts lib.Utf8.encode
 system_are_texts = (
@@ -290,6 +293,7 @@ layer_texts : (c : List Slot) (d : Layer) (ts : List Table) → AreTextTables ts
 layer_texts c (Payload-F.Fields ms) ts h k m = fields_texts c ms ts h k m
 layer_texts c _ ts h k m = tt
 
+-- behind a table that is kept the context's texts are UTF-8, where they and the catalog's were
 pub next_texts : (c : List Slot) (v : Value) (ts : List Table) → AreTextTables ts → AreTextSlots c → IsKept v → TextAnswer (next c v ts)
 unfolding next
 next_texts c v ts h k m = layer_texts c (views.out-Payload v.payload) ts h k (value_layer v m)

@@ -18,12 +18,10 @@ use Rattle.ion_symtab.specs.Next.{and_then, joined, appends, base, Import, impor
 abbrev pub Begins : List Slot → List Slot → Type 0
 Begins front slots = (more : List Slot) × (slots ≡ front ++ more)
 
-begins_self : (c : List Slot) → Begins c c
-begins_self c = ([], sym (append-nil c))
-
 begins_trans : (c d e : List Slot) → Begins c d → Begins d e → Begins c e
 begins_trans c d e p q = (p.0 ++ q.0, q.1 ∙ ap (λ xs. xs ++ q.0) p.1 ∙ append_assoc c p.0 q.0)
 
+-- where one step behind another answers, the first had answered, too
 pub and_then_ok : {A B : Type 0} (r : Result A Reason) (f : A → Result B Reason) (y : B) → and_then r f ≡ Ok y → (x : A) × (r ≡ Ok x) × (f x ≡ Ok y)
 and_then_ok (Ok x) f y e = (x, refl, e)
 and_then_ok (Err reason) f y e = absurd (cc)
@@ -76,6 +74,7 @@ layer_follows : (c : List Slot) (w : Layer) (g : List Table) (d : List Slot) →
 layer_follows c (Payload-F.Fields fields) g d e = fields_follow c fields g d e
 layer_follows c _ g d e = absurd (cc)
 
+-- behind a table the context begins with the old slots or the system's, and its ids are in range
 pub next_follows : (c : List Slot) (v : Value) (g : List Table) (d : List Slot) → next c v g ≡ Ok d → Follows c d
 unfolding next
 next_follows c v g d e = layer_follows c (out-Payload v.payload) g d e

@@ -27,8 +27,10 @@ decides_by : {A : Type 0} (P : Reason → Type 0) → ((e : Reason) → P e → 
 decides_by P decides (Ok x) h = tt
 decides_by P decides (Err e) h = decides e h
 
+-- an id is resolved, or refused for a reason that an octet can decide
 pub resolve_decides : (c : List Slot) (id : ℕ) → Decides (resolve c id)
 resolve_decides c id = decides_by IsIdReason id_decides (resolve c id) (resolve_fails c id)
 
+-- a local symbol table is applied, or refused for a reason that an octet can decide
 pub next_decides : (slots : List Slot) (v : Value) (tables : List Table) → Decides (next slots v tables)
 next_decides slots v tables = decides_by IsTableReason table_decides (next slots v tables) (next_fails slots v tables)

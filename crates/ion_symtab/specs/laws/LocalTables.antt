@@ -56,14 +56,6 @@ only_once name fields o h = once_of (values_of name fields) o (once_is name fiel
 
 -- the base
 
-abbrev symbol_text : Layer → Option (List ℕ)
-symbol_text (Payload-F.Symbol s) = s
-symbol_text _ = None
-
-abbrev known_text : Option (List ℕ) → List ℕ
-known_text None = []
-known_text (Some t) = t
-
 abbrev AppendsIn : Layer → Type 0
 AppendsIn w = w ≡ Payload-F.Symbol (Some (codes "$ion_symbol_table"))
 
@@ -448,5 +440,6 @@ context_made tables c v d h =
     ∙ then_ok (only (codes "symbols") h.fields) _ h.symbols (only_once (codes "symbols") h.fields h.symbols h.one_symbols)
     ∙ then_ok (imported tables (base c h.imports) (elements h.imports)) _ (h.base ++ flat h.parts) more ∙ last
 
+-- the context behind a table is the one that the table makes in the words of the symbols chapter
 pub next_is : (tables : List Table) (c : List Slot) (v : Value) (d : List Slot) → (next c v tables ≡ Ok d) ↔ MakesContext tables c v d
 next_is tables c v d = (makes_context tables c v d, context_made tables c v d)

@@ -12,6 +12,7 @@ pub record SameCut (front other rest more : List ℕ) : Type 0 where
   pub fronts : front ≡ other
   pub rests : rest ≡ more
 
+-- two cuts of the same octets with fronts of one length are the same
 pub same_cut : (front other rest more : List ℕ) → front ++ rest ≡ other ++ more → length front ≡ length other → SameCut front other rest more
 same_cut [] [] rest more e h = record { fronts = refl; rests = e }
 same_cut [] (y ∷ other) rest more e h = absurd (omega arith)

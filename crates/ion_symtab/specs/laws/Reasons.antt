@@ -16,6 +16,7 @@ use Rattle.ion_symtab.specs.Tables.{Table, find, newest, is_usable}
 use Rattle.ion_symtab.specs.Next.{and_then, joined, Import, import_slots, chosen, instead, import_named, import_of, element_import, import_added, element_added, imported, local_slots, base, extended, next_fields, next_layer, next}
 use Rattle.ion_symtab.specs.Shared.{is_shared, imports_any, described, shared_fields, shared_layer, shared_table}
 
+-- what holds of two things holds of the one that a test picks
 pub either : {A : Type 0} (P : A → Type 0) (b : Bool) (x y : A) → P x → P y → P (cond b x y)
 either P true x y p q = p
 either P false x y p q = q
@@ -50,6 +51,7 @@ at_fails : (slot : Option Slot) → IfErr (symbol_at slot) IsIdReason
 at_fails None = tt
 at_fails (Some slot) = slot_fails slot
 
+-- an id is refused only where it is above the greatest or a gap stands there
 pub resolve_fails : (c : List Slot) (id : ℕ) → IfErr (resolve c id) IsIdReason
 unfolding resolve
 resolve_fails c id = if_fails IsIdReason (id == 0) (Ok None) (symbol_at (slice_get c (id - 1))) tt (at_fails (slice_get c (id - 1)))
@@ -109,6 +111,7 @@ layer_fails : (slots : List Slot) (d : Layer) (tables : List Table) → IfErr (n
 layer_fails slots (Payload-F.Fields fields) tables = fields_fail slots fields tables
 layer_fails slots _ tables = tt
 
+-- a local symbol table is refused only for the reasons of those
 pub next_fails : (slots : List Slot) (v : Value) (tables : List Table) → IfErr (next slots v tables) IsTableReason
 unfolding next
 next_fails slots v tables = layer_fails slots (out-Payload v.payload) tables
@@ -132,5 +135,6 @@ shared_layer_fails : (d : Layer) → IfErr (shared_layer d) IsSharedReason
 shared_layer_fails (Payload-F.Fields fields) = shared_fields_fail fields
 shared_layer_fails _ = tt
 
+-- a value is refused as a shared table only for the reasons of those
 pub shared_fails : (v : Value) → IfErr (shared_table v) IsSharedReason
 shared_fails v = if_fails IsSharedReason (is_shared v.annotations) _ _ (shared_layer_fails (out-Payload v.payload)) tt

@@ -148,6 +148,7 @@ pub find_others : (ts : List Table) (t : Table) (name : List ℕ) (version : ℕ
 find_others ts t name version other =
     find_more ts t name version ∙ rw (not_named (is_named name version t) name version t refl other) (none_else (find ts name version))
 
+-- a table that is added, and wasn't there, is the one found best for its name and version
 pub best_added : (ts : List Table) (t : Table) → find ts t.name t.version ≡ None → find_best (ts ++ t ∷ []) t.name t.version ≡ Some t
 best_added ts t absent = ap (λ o. otherwise o (newest (ts ++ t ∷ []) t.name)) (find_added ts t absent)
 
