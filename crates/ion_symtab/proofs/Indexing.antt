@@ -94,6 +94,3 @@ module _ (ts : List Table) (t : Table) (old new : Places) (indexes : Indexes ts 
     exact = λ q v. rw (place q v, find_more ts t q v) (exact_at q v (bytes_eq t.name q && (t.version == v)) refl);
     newest = λ q. rw (noted q) (newest_by q (bytes_eq t.name q) refl);
   }
-
--- what shows the same tables is as good
-}

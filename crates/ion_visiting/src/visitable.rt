@@ -22,12 +22,7 @@ pub trait Visitable {
     /// `None`, with nothing taken up, where the value isn't whole in the piece or has more levels,
     /// where the reader doesn't go over values of its form or has refused, and where the visitor
     /// can't go on; its state means nothing then.
-    fn visit<T: TextVisitor>(
-        &mut self,
-        piece: &[u8],
-        level: u32,
-        visitor: &mut T,
-    ) -> Option<usize>
+    fn visit<T: TextVisitor>(&mut self, piece: &[u8], level: u32, visitor: &mut T) -> Option<usize>
         requires room { taken self.old + length piece.now < 2 ^ 63 }
         ensures value { IfSome result (λ used. (v : Value)
             × took_up self.old self.new piece.now used v

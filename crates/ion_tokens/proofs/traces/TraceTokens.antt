@@ -37,7 +37,6 @@ record TellsFurther (places : Places) (told : List Told) (s : Known) (u ahead : 
   scanned : (q : Place) → q ≡ places told → Scanned q s u ts ahead
 
 module _ (places : Places) where
-
   is_told : (l : Lexeme) (s : Known) (c : Content) → said l.kind l.octets ≡ Ok c
       → TellsLexeme l (record { start = l.start; end = l.end; says = c; total = s.used })
   is_told l s c e = record { start = refl; end = refl; says = subst (λ r. IsBody l.kind l.octets r) e (says l.kind l.octets) }
