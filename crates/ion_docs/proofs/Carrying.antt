@@ -22,6 +22,7 @@ use Rattle.ion_docs.specs.Encodings.{TookBehind, TookSomeBehind, IsPuttingFault,
 use Rattle.ion_docs.specs.laws.Encodings.{puts_one, behind_one, binary_fault, text_one, text_fault}
 use Rattle.ion_streams.specs.reading.Standing.{Stood}
 
+-- what follows for each value follows for the one that there is, if there is one
 pub some_each : {A : Type 0} {P Q : A → Type 0} (o : Option A) → ((x : A) → P x → Q x) → IfSome o P → IfSome o Q
 some_each None f p = tt
 some_each (Some x) f p = f x p
@@ -37,6 +38,7 @@ HasPut w s = w ≡ record { progress = behind nothing_yet s; failed = None }
 
 -- what such a writer wrote, as an encoder puts it
 module _ {T : Type 0} (W : Outlet T) (old new : Writing) (before now : T) (v : Value) where
+  -- where a binary writer wrote a value, the device took what the value adds to the document
   pub wrote : (answer : Result (Unit {0}) Fault) → WritesValue W old new before now v answer
       → Rattle.std.specs.Result.OnOk answer ((s : List Value) → HasPut old s → TookBehind W before now (puts nothing_yet s) (puts nothing_yet (s ++ v ∷ [])))
   wrote (Ok x) h = λ s put. (
@@ -46,12 +48,14 @@ module _ {T : Type 0} (W : Outlet T) (old new : Writing) (before now : T) (v : V
   )
   wrote (Err fault) h = tt
 
+  -- where a binary writer wrote a value, it has put this behind those before
   pub still_put : (answer : Result (Unit {0}) Fault) → WritesValue W old new before now v answer
       → Rattle.std.specs.Result.OnOk answer ((s : List Value) → HasPut old s → HasPut new (s ++ v ∷ []))
   still_put (Ok x) h = λ s put. h.goes_on ∙ ap (λ (p : Progress). record { progress = p; failed = None })
       (ap (λ (w : Writing). after w.progress v) put ∙ behind_one nothing_yet s v)
   still_put (Err fault) h = tt
 
+  -- where a binary writer failed at a value, the device took a front of what the value adds
   pub front : (answer : Result (Unit {0}) Fault) → WritesValue W old new before now v answer
       → OnErr answer ((s : List Value) → HasPut old s → TookSomeBehind W before now (puts nothing_yet s) (puts nothing_yet (s ++ v ∷ [])))
   front (Ok x) h = tt
@@ -61,6 +65,7 @@ module _ {T : Type 0} (W : Outlet T) (old new : Writing) (before now : T) (v : V
     subst (λ (w : Writing). TookFront W.took W.written before now (adds w.progress v)) put h.front,
   )
 
+  -- why a binary writer failed at a value is why an encoder puts none
   pub cause : (answer : Result (Unit {0}) Fault) → WritesValue W old new before now v answer → (s : List Value) → HasPut old s
       → IfErr answer (IsPuttingFault binary_encoding (s ++ v ∷ []) (W.has_failed now))
   cause (Ok x) h = λ s put. tt
@@ -68,21 +73,25 @@ module _ {T : Type 0} (W : Outlet T) (old new : Writing) (before now : T) (v : V
 
 -- what a writer of text documents wrote, as an encoder puts it
 module _ {T : Type 0} (W : Outlet T) (old new : Option Fault) (before now : T) (v : Value) where
+  -- where a text writer wrote a value, the device took what the value adds to the document
   pub text_wrote : (answer : Result (Unit {0}) Fault) → text.WritesValue W old new before now v answer
       → Rattle.std.specs.Result.OnOk answer ((s : List Value) → old ≡ None → TookBehind W before now (text_of s) (text_of (s ++ v ∷ [])))
   text_wrote (Ok x) h = λ s put. (text_output.adds v, text_one s v, h.ok)
   text_wrote (Err fault) h = tt
 
+  -- a text writer that wrote a value has no fault behind it
   pub text_still_put : (answer : Result (Unit {0}) Fault) → text.WritesValue W old new before now v answer
       → Rattle.std.specs.Result.OnOk answer ((s : List Value) → old ≡ None → new ≡ None)
   text_still_put (Ok x) h = λ s put. h.goes_on
   text_still_put (Err fault) h = tt
 
+  -- where a text writer failed at a value, the device took a front of what the value adds
   pub text_front : (answer : Result (Unit {0}) Fault) → text.WritesValue W old new before now v answer
       → OnErr answer ((s : List Value) → old ≡ None → TookSomeBehind W before now (text_of s) (text_of (s ++ v ∷ [])))
   text_front (Ok x) h = tt
   text_front (Err fault) h = λ s put. (text_output.adds v, text_one s v, h.front)
 
+  -- why a text writer failed at a value is why an encoder puts none
   pub text_cause : (answer : Result (Unit {0}) Fault) → text.WritesValue W old new before now v answer → (s : List Value) → old ≡ None
       → IfErr answer (IsPuttingFault text_encoding (s ++ v ∷ []) (W.has_failed now))
   text_cause (Ok x) h = λ s put. tt
@@ -90,6 +99,7 @@ module _ {T : Type 0} (W : Outlet T) (old new : Option Fault) (before now : T) (
 
 -- where a conversion stands: these values were read and put, one after another
 module _ {S X Y T : Type 0} (R : Inlet S) (I : Items X) (E : Encoder Y) (W : Outlet T) (g : Catalog) (l : Limits) (first : S) (device : T) where
+  -- the values read so far, all of which the types keep, were put one after another
   abbrev pub Done : S → ℕ → Standing X → Y → T → Type 0
   Done now values place encoder writer =
       (s : List Value) × Stood R I g l first now place s × (length s ≡ values) × E.has_put encoder s × Took W.took W.written device writer (E.puts s)

@@ -32,12 +32,14 @@ module _ (b : Bool) (g : Catalog) (l : Limits) where
   finishes_in u (Ok value) begun h = ap (λ (t : Trace). t.ends) (chosen_in b g l u begun) ∙ h
   finishes_in u (Err refusal) begun h = λ other. ap (λ (t : Trace). t.ends) (chosen_in b g l u begun) ∙ h other
 
+-- a reader stands for octets as the reader of the format that it holds does
 pub inside : (d : DocReader) (f : Format) (u : List ℕ) (s : List (Value × ℕ)) → d.format ≡ f → DocStands d u s → FormatStands d f u s
 inside d f u s is h = let P : Format → Type 0 = λ f. FormatStands d f u s in subst P is h
 
 -- 2. A reader chosen before, for which Old holds; behind the step New does.
 module _ (d : DocReader) (b : Bool) (limits : Limits) (catalog : Catalog) (Old : List ℕ → List (Value × ℕ) → Type 0)
     (stood : (u : List ℕ) (s : List (Value × ℕ)) → DocStands d u s → Handed d b limits catalog (Old u s) u) where
+  -- where the chosen reader stands for more octets behind a step, the reader of either encoding does
   pub forward_stands : (more : Limits) (other : Catalog) (New : List ℕ → List (Value × ℕ) → Type 0) (piece : List ℕ) (result : Result Step Refusal) →
       IfOk result (λ step. (u : List ℕ) (s : List (Value × ℕ)) → Old u s → New (u ++ take step.used piece) (s ++ given_at step.value (length u + step.used))) →
       more ≡ limits → other ≡ catalog →
@@ -48,6 +50,7 @@ module _ (d : DocReader) (b : Bool) (limits : Limits) (catalog : Catalog) (Old :
       (onward u s h.0, begins_on b u (take step.used piece) h.1, within ∙ h.2, under ∙ h.3)
   forward_stands more other New piece (Err refusal) onward within under = tt
 
+  -- what the chosen reader answers for a step is what the encoding of the first octet says
   pub forward_answers : (piece : List ℕ) (result : Result Step Refusal) →
       ((u : List ℕ) (s : List (Value × ℕ)) → Old u s → Answers (trace_in b catalog limits) u s piece result) →
       (u : List ℕ) (s : List (Value × ℕ)) → DocStands d u s → Answers (chosen d.catalog.now d.limits) u s piece result
@@ -71,12 +74,14 @@ module _ (d : DocReader) (b : Bool) (limits : Limits) (catalog : Catalog) (Old :
       (on.0, on.1, (on.2, begins_on b u (take passed.used piece) h.1, within ∙ h.2, under ∙ h.3))
   forward_passed more other New piece (Err refusal) onward within under = tt
 
+  -- where the chosen reader refuses to pass a value, the encoding of the first octet says so
   pub forward_refuses : (piece : List ℕ) (result : Result Passed Refusal) →
       IfErr result (λ refusal. (u : List ℕ) (s : List (Value × ℕ)) → Old u s → Answers (trace_in b catalog limits) u s piece (Err refusal)) →
       IfErr result (λ refusal. (u : List ℕ) (s : List (Value × ℕ)) → DocStands d u s → Answers (chosen d.catalog.now d.limits) u s piece (Err refusal))
   forward_refuses piece (Ok passed) refuses = tt
   forward_refuses piece (Err refusal) refuses = forward_answers piece (Err refusal) refuses
 
+  -- what the chosen reader answers at the end is what the encoding of the first octet says
   pub forward_ends : (result : Result (Option Value) Refusal) →
       ((u : List ℕ) (s : List (Value × ℕ)) → Old u s → Finishes (trace_in b catalog limits) u result) →
       (u : List ℕ) (s : List (Value × ℕ)) → DocStands d u s → Finishes (chosen d.catalog.now d.limits) u result
@@ -93,6 +98,7 @@ begins_front b (first ∷ rest) (suc used) h some = h
 
 module _ (d : DocReader) (b : Bool) (Old : List ℕ → List (Value × ℕ) → Type 0) (piece : List ℕ) (result : Result Step Refusal) (is : d.format ≡ Unbegun)
     (begins : Begins b piece) (stood : Old [] []) where
+  -- behind the first step a reader stands for the octets used, in the encoding that the first chooses
   pub first_stands : (more : Limits) (other : Catalog) (New : List ℕ → List (Value × ℕ) → Type 0) →
       IfOk result (λ step. 0 < step.used) →
       IfOk result (λ step. (u : List ℕ) (s : List (Value × ℕ)) → Old u s → New (u ++ take step.used piece) (s ++ given_at step.value (length u + step.used))) →
@@ -116,6 +122,7 @@ module _ (d : DocReader) (b : Bool) (Old : List ℕ → List (Value × ℕ) → 
           subst P (sym h.0) (subst Q (sym h.1) (onward [] [] stood, begins_front b piece step.used begins some, within, under))
       go (Err refusal) some onward within under = tt
 
+  -- what the first step answers is what the encoding of the first octet says
   pub first_answers : (limits : Limits) (catalog : Catalog)
       → ((u : List ℕ) (s : List (Value × ℕ)) → Old u s → Answers (trace_in b catalog limits) u s piece result) → limits ≡ d.limits → catalog ≡ d.catalog.now →
       (u : List ℕ) (s : List (Value × ℕ)) → DocStands d u s → Answers (chosen d.catalog.now d.limits) u s piece result
@@ -144,10 +151,12 @@ first_kept d new f piece (Ok step) is h =
     same (Text r) u s h = h
 first_kept d new f piece (Err refusal) is h = tt
 
+-- a piece whose first octet is E0 begins as binary documents do
 pub binary_at_first : (piece : List ℕ) (octet : ℕ) → Some octet ≡ slice_get piece 0 → octet ≡ 224 → Begins true piece
 binary_at_first [] octet e is = absurd cc
 binary_at_first (first ∷ rest) octet e is = let same : octet ≡ first = cc in eq-eqb first 224 (sym same ∙ is)
 
+-- a piece whose first octet is another than E0 begins as text documents do
 pub other_at_first : (piece : List ℕ) (octet : ℕ) → Some octet ≡ slice_get piece 0 → (octet ≡ 224 → ⊥) → Begins false piece
 other_at_first [] octet e other = absurd cc
 other_at_first (first ∷ rest) octet e other = let same : octet ≡ first = cc in ne_eqb first 224 (λ is. other (same ∙ is))
@@ -159,6 +168,7 @@ some_used b (first ∷ rest) used None begins all progress = let e = all refl in
 some_used b (first ∷ rest) used (Some v) begins all progress = let e = progress refl in omega (arith, e)
 
 module _ {X : Type 0} {taken pending : X → ℕ} {awaits : X → Option ℕ} {failed : X → Option Refusal} where
+  -- the first step over a piece that isn't empty uses an octet
   pub first_used : (b : Bool) (old new : X) (piece : List ℕ) (result : Result Step Refusal) → pending old ≡ 0 → Begins b piece →
       IfOk result (λ step. StepsOver taken pending awaits failed old new piece step.used step.value) → IfOk result (λ step. 0 < step.used)
   first_used b old new piece (Ok step) none begins leaves =

@@ -52,6 +52,7 @@ describes : (given : List (Value × ℕ)) (before all : List Table) → catalog_
 describes [] before all e = let same : all ≡ before = cc in record { tables = []; behind = same ∙ sym (append-nil before); each = refl; apart = tt }
 describes (x ∷ given) before all e = describes_more (added before x.0) before x.0 x.1 given all refl (λ more. describes given more all) e
 
+-- a catalog's tables are those that the values describe, and no name and version comes twice
 pub describes_each : (given : List (Value × ℕ)) (tables : List Table) → catalog_of [] given ≡ Ok tables → (map shared_table (plain given) ≡ map Ok tables)
     × AreApart [] tables
 describes_each given tables e =
@@ -74,6 +75,7 @@ catalogued (x ∷ given) before (t ∷ tables) e apart =
     ap (λ r. then_at x.1 r (λ more. catalog_of more given)) one
     ∙ (catalogued given (before ++ t ∷ []) tables rest apart.1 ∙ ap Ok (append_assoc before (t ∷ []) tables))
 
+-- tables that the values describe are their catalog, where no name and version comes twice
 pub described_each : (given : List (Value × ℕ)) (tables : List Table) → map shared_table (plain given) ≡ map Ok tables → AreApart [] tables
     → catalog_of [] given ≡ Ok tables
 described_each given tables = catalogued given [] tables

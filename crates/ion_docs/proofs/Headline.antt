@@ -193,6 +193,7 @@ module _ (g : Catalog) (k : Limits) where
     of_both l r (inl a) (inr b) = (Refused Right b.1, (a, (b.0, b.2)))
     of_both l r (inr a) b = (Refused Left a.1, (a.0, a.2))
 
+    -- two octet strings have a verdict
     pub some_verdict : (l r : List ℕ) → (v : Verdict) × IsVerdictOn g k l r v
     some_verdict l r = of_both l r (judged l) (judged r)
 
@@ -200,6 +201,7 @@ module _ (g : Catalog) (k : Limits) where
   pub equivalent_both : (l r : List ℕ) (n : ℕ) → SaysEquivalent g k l r n ↔ AreDocuments g k l r (AreEquivalent n)
   equivalent_both l r n = (λ h. (h.s, h.t, h.left, h.right, h.streams), λ h. record { s = h.0; t = h.1; left = h.2; right = h.3; streams = h.4 })
 
+  -- streams are said to part somewhere just where both are documents and their streams part there first
   pub different_both : (l r : List ℕ) (n : ℕ) (path : List Part) → SaysDifferent g k l r n path ↔ AreDocuments g k l r (PartFirst n path)
   different_both l r n path = (
     λ h. (h.s, h.t, h.left, h.right, part_first n path h.s h.t h.streams),
@@ -211,8 +213,10 @@ module _ (g : Catalog) (k : Limits) where
   refuses u (inl d) never = absurd (never d.0 d.1)
   refuses u (inr h) never = h
 
+  -- the left is refused just where it is no document
   pub left_refused : (l r : List ℕ) → RefusesLeft g k l r ↔ IsNoDocument g k l
   left_refused l r = (λ h. h.1.1.none, λ never. let h = refuses l (judged l) never in (h.1, (h.0, h.2)))
 
+  -- the right is refused just where it is no document and the left is one
   pub right_refused : (l r : List ℕ) → RefusesRight g k l r ↔ (IsDocument g k l × IsNoDocument g k r)
   right_refused l r = (λ h. (h.1.0, h.1.1.1.none), λ both. let h = refuses r (judged r) both.1 in (h.1, (both.0, (h.0, h.2))))

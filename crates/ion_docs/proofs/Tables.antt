@@ -25,6 +25,7 @@ use Rattle.ion_docs.proofs.Verdicts.{one_refusal}
 
 -- 1. Octets are loaded as one thing.
 module _ (F : Format) where
+  -- what octets are as a catalog is one answer
   pub one_answer : (octets : List ℕ) (p q : Result (List Table) Refusal) → IsCatalog F octets p → IsCatalog F octets q → p ≡ q
   one_answer octets (Ok t) (Ok u) a b =
       let first : catalog_of [] (given_all F octets) ≡ Ok t = ap (λ x. catalog_of [] x) a.document.all ∙ a.described in
@@ -54,6 +55,7 @@ module _ (F : Format) where
       ap (λ x. plain (t.given ++ given_last x total)) h.ends ∙ (map-append (λ (x : Value × ℕ). x.0) t.given (given_at h.last total) ∙
       (ap (λ x. plain t.given ++ x) (last_value h.last total) ∙ sym h.values))
 
+  -- a document whose values describe tables is the catalog of these tables
   pub document_of_tables : (octets : List ℕ) (tables : List Table) → ((s : List Value) → F.denotes octets s → Streams (F.trace octets) s)
       → IsDocumentOf F octets tables → IsCatalog F octets (Ok tables)
   document_of_tables octets tables exact h =
@@ -94,6 +96,7 @@ module _ (l : Limits) where
   by_values octets (Ok tables) described = by_end octets tables described (chosen [] l octets).ends refl
   by_values octets (Err refusal) described = (Err refusal, inl described)
 
+  -- all octets are something as a catalog: tables, or refused
   pub some_answer : (octets : List ℕ) → Loads octets
   some_answer octets = by_values octets (catalog_of [] (given_all (documents [] l) octets)) refl
 
@@ -170,8 +173,10 @@ module _ (s : List Value) (tables : List Table) (each : map shared_table s ≡ m
       let found = found_apart [] tables apart t c.0 c.1 c.2 in
       ap (λ x. find tables x version) (sym d.3) ∙ (ap (λ n. find tables t.name n) (sym d.4) ∙ found)
 
+  -- what is found by a name and version is the table that a value describes under them
   pub finds : (t : Table) → find tables name version ≡ Some t ↔ DescribesUnder s name version t
   finds t = (finds_one t, finds_it t)
 
+  -- where no value describes a table under a name and version, none is found
   pub finds_none : ((t : Table) → DescribesUnder s name version t → ⊥) → find tables name version ≡ None
   finds_none never = none_of (find tables name version) (λ t e. never t (finds_one t e))

@@ -42,6 +42,7 @@ module _ {S : Type 0} (R : Inlet S) (some : (device : S) → (rest : List ℕ) �
 -- 2. So the verdict is that on the octets.
 module _ {S T : Type 0} (L : Inlet S) (R : Inlet T) (some_left : (device : S) → (rest : List ℕ) × L.tells device rest)
     (some_right : (device : T) → (rest : List ℕ) × R.tells device rest) where
+  -- the verdict on devices that tell certain octets alone is that on the octets
   pub verdict_told : (F G : Format) (left left_now : S) (right right_now : T) (v : Verdict) → IsCompared L R F G left left_now right right_now v
       → (l r : List ℕ) → TellsOnly L left l → TellsOnly R right r → IsVerdict F G l r v
   verdict_told F G left left_now right right_now v h l r only_left only_right =
@@ -52,11 +53,13 @@ module _ {S T : Type 0} (L : Inlet S) (R : Inlet T) (some_left : (device : S) �
 -- 3. And so are the answers of the calls over one document, and what they write.
 module _ {S : Type 0} (R : Inlet S) (some : (device : S) → (rest : List ℕ) × R.tells device rest) (g : Catalog) (k : Limits) (first now : S) (u : List ℕ)
     (only : TellsOnly R first u) where
+  -- what `check` answers of a device that tells certain octets alone is right about these
   pub check_told : (answer : Result ℕ Refusal) → IsChecked R (documents g k) first now answer → IsCheckOf g k u answer
   check_told (Ok values) h = (h.0, document_whole R some (documents g k) first now h.0 u h.1 only, h.2)
   check_told (Err refusal) h = (h.0, refused_whole R some (documents g k) first now h.0 refusal u h.1 only)
 
   module _ {T : Type 0} (W : Outlet T) (old new : T) where
+    -- what `show` writes of a device that tells certain octets alone is the listing of these
     pub listing_told : (answer : Result ℕ Refusal) → IsShown R W (documents g k) first now old new answer → (w : List ℕ) × Took W.took W.written old new w
         × IsListingOf g k u w answer
     listing_told (Ok values) h = (lines_of h.0 ++ accepted_line values, h.3, (h.0, document_whole R some (documents g k) first now h.0 u h.1 only, h.2, refl))
@@ -66,6 +69,7 @@ module _ {S : Type 0} (R : Inlet S) (some : (device : S) → (rest : List ℕ) �
     same_written : (a b : List ℕ) → Took W.took W.written old new a → Took W.took W.written old new b → a ≡ b
     same_written a b x y = append_cancel_left (W.written old) a b (sym x.wrote ∙ y.wrote)
 
+    -- what `convert` writes of a device that tells certain octets alone is the conversion of these
     pub conversion_told : (E : Encoding) (answer : Result ℕ Refusal) → IsConverted R W E (documents g k) first now old new answer
         → KeepsStream R W E g k first now old new answer → (w : List ℕ) × Took W.took W.written old new w × IsConversionOf g k E u w answer
     conversion_told E (Ok values) h (s, read, octets, wrote, anywhere) =

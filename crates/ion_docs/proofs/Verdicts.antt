@@ -50,6 +50,7 @@ module _ (F G : Format) (one_path : (p q : List Part) (v w : Value) → IsPath p
       let some = b.streams.first in
       cc
 
+  -- two octet strings have one verdict
   pub verdicts_agree : (l r : List ℕ) (v w : Verdict) → IsVerdict F G l r v → IsVerdict F G l r w → v ≡ w
   verdicts_agree l r (Equivalent m) (Equivalent n) a b = ap Equivalent (sym a.streams.1 ∙ (ap length (left_one l a.s b.s a.left b.left) ∙ b.streams.1))
   verdicts_agree l r (Equivalent m) (Different j q) a b = absurd (clash l r m j q a b)

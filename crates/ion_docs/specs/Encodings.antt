@@ -24,6 +24,7 @@ pub record Encoding : Type 1 where
   -- that document can't be written: a symbol would need an id above 2^31-1
   pub needs_large_id : List Value → Type 0
 
+-- binary documents, in which symbols have ids, and may need a too large one
 abbrev pub binary_encoding : Encoding
 binary_encoding = record {
   document = bin_of;
@@ -35,6 +36,7 @@ binary_encoding = record {
 abbrev pub text_encoding : Encoding
 text_encoding = record { document = text_of; admits = FitsInText; needs_large_id = λ s. ⊥ }
 
+-- the encoding that a target asks for
 abbrev pub encoding_of : Target → Encoding
 encoding_of Binary = binary_encoding
 encoding_of Text = text_encoding

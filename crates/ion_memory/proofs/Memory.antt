@@ -41,10 +41,12 @@ module _ {S : Type 0} (R : Inlet S) (some : (device : S) → (rest : List ℕ) �
       let (more, follows, e) = heard_front h.octets h.ended h.heard in
       subst (λ (x : List ℕ). IsRefused F x s refusal) e (h.refused more follows)
 
+  -- what a check answers of a device that tells these octets alone is right about them
   pub checked_all : (F : Format) (answer : Result ℕ Refusal) → IsChecked R F first now answer → IsCount F w answer
   checked_all F (Ok values) (s, h, n) = (s, denoted F s h, n)
   checked_all F (Err refusal) (s, h) = (s, refused F s refusal h)
 
+  -- what a device that tells these octets alone is loaded as is what they are as a catalog
   pub loaded_all : (F : Format) (answer : Result (List Table) Refusal) → IsLoaded R F first now answer → IsCatalog F w answer
   loaded_all F answer h =
       let (more, follows, e) = heard_front h.octets h.ended h.heard in
@@ -59,6 +61,7 @@ module _ {S : Type 0} (R : Inlet S) (some : (device : S) → (rest : List ℕ) �
     written_all : (octets : List ℕ) → Took W.took W.written old new octets → all ≡ octets
     written_all octets h = let k = rw (none, taken) at h.taken in k
 
+    -- all that was written of a device that tells these octets alone is their listing
     pub shown_all : (F : Format) (answer : Result ℕ Refusal) → IsShown R W F first now old new answer → IsListing F w answer all
     shown_all F (Ok values) (s, h, n, k) = (s, denoted F s h, n, written_all (lines_of s ++ accepted_line values) k)
     shown_all F (Err refusal) (s, h, k) = (s, refused F s refusal h, written_all (lines_of s) k)
@@ -72,6 +75,7 @@ module _ {S : Type 0} (R : Inlet S) (some : (device : S) → (rest : List ℕ) �
     spelled_all E F (Ok values) (s, h, n, k) = (s, denoted F s h, written_all (E.document s) k)
     spelled_all E F (Err refusal) (s, h, k) = (s, refused F s refusal h, written_all (E.document s) k)
 
+    -- all that was written of a device that tells these octets alone is their conversion
     pub converted_all : (E : Encoding) (g : Catalog) (l : Limits) (answer : Result ℕ Refusal) → IsConverted R W E (documents g l) first now old new answer
         → KeepsStream R W E g l first now old new answer → IsConversion E (documents g l) w answer all
     converted_all E g l answer h (s, read, octets, k, anywhere) = record {

@@ -7,6 +7,7 @@ use Rattle.ion_text.specs.Grammar as text
 use Rattle.ion_docs.specs.Documents.{in_text}
 use Rattle.ion_docs.specs.Formats.{documents}
 
+-- no octets are a document that describes no tables
 pub nothing : (l : Limits) → IsDocumentOf (documents [] l) [] []
 nothing l = record {
   s = [];

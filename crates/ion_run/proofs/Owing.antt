@@ -1,5 +1,5 @@
 -- Why a command was stopped, and what stays so where more names are read.
-use Rattle.std.proofs.Common.{◌≡◌, ℕ, List, [], ◌∷◌, codes, Bool, true, false, Option, Some, None, Result, Ok, Err, refl, sym, subst, MatchResult, ap, ◌++◌, ◌∙◌, ◌⊎◌, inl, inr, arith}
+use Rattle.std.proofs.Common.{◌≡◌, ℕ, List, [], ◌∷◌, codes, Bool, true, Option, Some, None, Result, Ok, Err, refl, sym, subst, MatchResult, ap, ◌++◌, ◌∙◌, ◌⊎◌, inl, inr, arith}
 use Rattle.std.specs.List.{Contains}
 use Rattle.std.proofs.lemmas.List.{append_assoc, append-nil}
 use Rattle.std.proofs.lemmas.List.Elements.{Contains-append_right, Contains-append_cases, Contains-push_cases}
@@ -38,22 +38,20 @@ use Rattle.ion_run.specs.declared.command.Status.TheVariants as the_status
 use Rattle.ion_run.specs.declared.lines.Whose.{Whose}
 use Rattle.ion_run.specs.Owed.{code_of, AreLimitsOf, IsCatalog, IsStopped, IsStoppedAt, NeedsLarge, IsDone, IsAnswered, WroteFront, WroteSoFar, is_done, JobLacksHasher, OwesWithHasher, usage, answered, untold, no_memory, OwesWithout, OwesFor}
 
+-- what is so in one of two ways is so in one of three
 pub or_more : {A B C : Type 0} → A ⊎ B → A ⊎ B ⊎ C
 or_more (inl a) = inl a
 or_more (inr b) = inr (inl b)
 
+-- the first of the names is one of them
 pub first_of_names : (name : Name) (names : List Name) → Contains (name ∷ names) name
 first_of_names name names = (0, omega arith, refl)
 
+-- a name among those behind the first is one of all
 pub behind_first : (before name : Name) (names : List Name) → Contains names name → Contains (before ∷ names) name
 behind_first before name names h = Contains-append_right (before ∷ []) names name h
 
 module _ {X : Type 0} (R : Inlet X) (gives : Name → X → Type 0) (refuses : Name → Type 0) (l : Limits) (names : List Name) (lacking large : Type 0) where
-  pub stopped_opening : (failed : Bool) (name : Name) → Contains names name → (fault : Fault) → ((fault ≡ Open) × refuses name) ⊎ (fault ≡ Memory)
-      → IsStopped R gives refuses l names lacking large failed fault
-  stopped_opening failed name within fault (inl refused) = rw refused.0 (name, within, refused.1)
-  stopped_opening failed name within fault (inr memory) = rw memory tt
-
   pub stopped_reading : (failed : Bool) (name : Name) → Contains names name → (first now : X) → gives name first → (fault : Fault)
       → IsReadCause R l.reads first now fault → IsStopped R gives refuses l names lacking large failed fault
   stopped_reading failed name within first now given Memory h = tt
@@ -72,11 +70,13 @@ module _ {X : Type 0} (R : Inlet X) (gives : Name → X → Type 0) (refuses : N
   stopped_writing W new TooLarge h = absurd h
   stopped_writing W new Open h = absurd h
 
+  -- a fault of reading the one document or of writing is why the command was stopped
   pub stopped_once : (name : Name) → Contains names name → (first now : X) → gives name first → {T : Type 0} (W : Outlet T) (new : T) (fault : Fault)
       → IsReadCause R l.reads first now fault ⊎ IsWriteCause W new fault → IsStopped R gives refuses l names lacking large (W.has_failed new) fault
   stopped_once name within first now given W new fault (inl h) = stopped_reading (W.has_failed new) name within first now given fault h
   stopped_once name within first now given W new fault (inr h) = stopped_writing W new fault h
 
+  -- a fault of reading either document or of writing is why the comparison was stopped
   pub stopped_comparing : (left right : Name) → Contains names left → Contains names right → (l_first l_now r_first r_now : X) → gives left l_first
       → gives right r_first → {T : Type 0} (W : Outlet T) (new : T) (fault : Fault) →
       IsReadCause R l.reads l_first l_now fault ⊎ IsReadCause R l.reads r_first r_now fault ⊎ IsWriteCause W new fault
@@ -152,6 +152,7 @@ module _ {X Y : Type 0} (R : Inlet X) (gives gave : Name → X → Type 0) (I : 
 
 -- what went out before a fault
 module _ {X T : Type 0} (R : Inlet X) (gives : Name → X → Type 0) (W : Outlet T) (old new : T) (g : the_catalog) (l : Limits) where
+  -- what went out of a check before a fault did so for a reader that the file's name gave
   pub front_checking : (file : Name) (first now : X) → gives file first → TookFront W.took W.written old new []
       ⊎ ((answer : Result ℕ the_refusal) × IsChecked R (documents g l) first now answer × TookFront W.took W.written old new (answer_line answer)) →
       TookFront W.took W.written old new [] ⊎ ((first : X) × (now : X) × gives file first × (answer : Result ℕ the_refusal)
@@ -159,6 +160,7 @@ module _ {X T : Type 0} (R : Inlet X) (gives : Name → X → Type 0) (W : Outle
   front_checking file first now given (inl none) = inl none
   front_checking file first now given (inr h) = inr (first, now, given, h.0, h.1, h.2)
 
+  -- what went out of a comparison before a fault did so for readers that both names gave
   pub front_comparing : (left right : Name) (l_first l_now r_first r_now : X) → gives left l_first → gives right r_first →
       TookFront W.took W.written old new [] ⊎ ((verdict : Verdict) × IsCompared R R (documents g l) (documents g l) l_first l_now r_first r_now verdict
       × TookFront W.took W.written old new (verdict_line verdict)) →
@@ -185,11 +187,6 @@ module _ {X Y T : Type 0} (R : Inlet X) (gives gave : Name → X → Type 0) (I 
     h.7,
     h.8,
   )
-
--- nothing was taken
-pub Keeps-same : {S X : Type 0} (gives : S → List ℕ → X → Type 0) (refuses : S → List ℕ → Type 0) (sources : S) (taken : Option (List ℕ))
-    → Keeps gives refuses sources sources taken
-Keeps-same gives refuses sources taken = record { given = λ name input free h. h; refused = λ name free h. h }
 
 none_within : {X : Type 0} (x : X) → Contains [] x → ⊥
 none_within x h = omega (arith, h.1)
@@ -218,11 +215,6 @@ NamesNoInput-each (next ∷ names) none name within is = either (first_or_behind
 -- of names that no two of are the standard input, each behind the first is free when that was taken
 pub free_behind : (first name : Name) (names : List Name) → NamesInputOnce (first ∷ names) → Contains names name → name ≡ codes "-" → Some first ≡ Some name → ⊥
 free_behind first name names once within is taken = NamesNoInput-each names (once.0 (same_Some first name taken ∙ is)) name within is
-
--- and behind a catalog's name
-pub once_behind : (catalog : Option Name) (names : List Name) → NamesInputOnce (names_with catalog names) → NamesInputOnce names
-once_behind None names once = once
-once_behind (Some first) names once = once.1
 
 pub free_of_catalog : (catalog : Option Name) (names : List Name) → NamesInputOnce (names_with catalog names) → (name : Name) → Contains names name
     → name ≡ codes "-" → catalog ≡ Some name → ⊥
@@ -258,14 +250,10 @@ module _ (catalog : Option Name) (names old mid new : List Name) (before : Opens
 
 module _ {S X Y : Type 0} (R : Inlet X) (gives : S → Name → X → Type 0) (refuses : S → Name → Type 0) (none : Type 0) (I : Items Y) (asked : Asked) (l : Limits)
     (first : S) (old mid new : List Name) where
-  pub stopped_at_catalog : Opens old new (names_with asked.catalog []) → (failed : Bool) (fault : Fault)
-      → IsStopped R (gives first) (refuses first) l (names_with asked.catalog []) ⊥ ⊥ false fault
-      → IsStoppedAt R (gives first) (refuses first) (Opens old new) none I asked l failed fault
-  stopped_at_catalog opened failed fault h = inl (h, opened)
-
   -- behind the catalog, that the sources give the other names what they gave
   module _ (then : S) (kept : Keeps gives refuses first then asked.catalog) (once : NamesInputOnce (names_of asked)) (g : the_catalog)
       (catalog : IsCatalog R (gives first) asked.catalog l (Ok g)) where
+    -- why the documents' job was stopped behind the catalog is why what is asked for was stopped
     pub stopped_behind : Opens old mid (names_with asked.catalog []) → (failed : Bool) (fault : Fault)
         → OpensUpTo (Opens mid new) (names_of_job asked.job) fault
         → IsStopped R (gives then) (refuses then) l (names_of_job asked.job) (JobLacksHasher none asked.job) (NeedsLarge R (gives then) I asked.job g l) failed
@@ -283,6 +271,7 @@ module _ {S X Y : Type 0} (R : Inlet X) (gives : S → Name → X → Type 0) (r
           OpensUpTo-behind asked.catalog (names_of_job asked.job) old mid new before fault opened,
         )
 
+-- where the job was done behind the catalog, what is asked for was answered
 pub answered_behind : {S X T : Type 0} (R : Inlet X) (gives : S → Name → X → Type 0) (refuses : S → Name → Type 0) (W : Outlet T) (asked : Asked) (l : Limits)
     (first then : S) → Keeps gives refuses first then asked.catalog → NamesInputOnce (names_of asked) → (g : the_catalog)
     → IsCatalog R (gives first) asked.catalog l (Ok g) →
@@ -294,6 +283,7 @@ answered_behind R gives refuses W asked l first then kept once g catalog opened 
     (λ name input within given. kept.given name input (free_of_catalog asked.catalog (names_of_job asked.job) once name within) given) h)
     (Opens-behind asked.catalog (names_of_job asked.job) opened opened_mid opened_now before behind)
 
+-- what went out of the job behind the catalog is what went out of what is asked for
 pub front_behind : {S X Y T : Type 0} (R : Inlet X) (gives : S → Name → X → Type 0) (refuses : S → Name → Type 0) (I : Items Y) (W : Outlet T) (asked : Asked)
     (l : Limits) (first then : S) → Keeps gives refuses first then asked.catalog → NamesInputOnce (names_of asked) → (g : the_catalog)
     → IsCatalog R (gives first) asked.catalog l (Ok g) →
@@ -308,6 +298,7 @@ front_behind R gives refuses I W asked l first then kept once g catalog old new 
 
 module _ {X Y T D : Type 0} (R : Inlet X) (gives : Name → X → Type 0) (refuses : Name → Type 0) (opens : List Name → Type 0) (none : Type 0) (I : Items Y)
     (W : Outlet T) (V : Outlet D) where
+  -- a refusal is owed as its line and status, or where no memory is left to tell it as a fault
   pub owes_refused : (request : Asked) (l : Limits) (whose : Whose) (refusal : the_refusal) (out out_now : T) (err err_now : D) (status : Status)
       → AreLimitsOf request l → IsAnswered R gives W out out_now opens request l (Refused whose refusal) → PassesOn W out out_now →
       (status ≡ the_status.Refused) ⊎ (status ≡ the_status.Fault) → (status ≡ the_status.Refused → Reports V err err_now (refusal_line whose refusal))
@@ -318,6 +309,7 @@ module _ {X Y T D : Type 0} (R : Inlet X) (gives : Name → X → Type 0) (refus
   owes_refused request l whose refusal out out_now err err_now status limits h passes (inr is) told failed =
       untold request l whose refusal refl limits (ap code_of is) h passes (failed is)
 
+  -- for words that ask for nothing the usage line is owed, and for want of memory a fault
   pub owes_usage : opens [] → (asked : Option Asked) (error : WordsError) (out : T) (err err_now : D) (status : Status)
       → (error ≡ words_errors.Usage → asked ≡ None) → (error ≡ words_errors.Usage → (status ≡ the_status.WrongWords) × Reports V err err_now usage_line)
       → (error ≡ words_errors.Memory → (status ≡ the_status.Fault) × Reports V err err_now (fault_line Memory)) →

@@ -15,6 +15,7 @@ name_before [] name = refl
 name_before (zero ∷ numbers) name = refl
 name_before (suc octet ∷ numbers) name = ap (λ (rest : List ℕ). octet ∷ rest) (name_before numbers name)
 
+-- a name spelled behind the numbers of others is one more name behind theirs
 pub names_more : (numbers name : List ℕ) → names_in (numbers ++ spelled name) ≡ names_in numbers ++ name ∷ []
 names_more [] name = ap₂ (λ (first : List ℕ) (rest : List (List ℕ)). first ∷ rest) (name_alone name) (none_within name)
 names_more (zero ∷ numbers) name = ap₂ (λ (first : List ℕ) (rest : List (List ℕ)). first ∷ rest) (name_before numbers name) (names_more numbers name)

@@ -11,6 +11,7 @@ use Rattle.std.specs.IoError.{error_kind}
 use Rattle.ion_words.specs.declared.request.WordsError.{WordsError}
 use Rattle.ion_words.specs.declared.request.WordsError.TheVariants.{Usage, Memory}
 
+-- the arguments of the process, the program's name first
 abbrev pub Arguments : Type 0
 Arguments = IntoIter (String Global) Global
 
@@ -23,5 +24,6 @@ abbrev pub no_words_by : ErrorKind → WordsError
 no_words_by OutOfMemory = Memory
 no_words_by _ = Usage
 
+-- why there are no words where the runtime gives no arguments
 abbrev pub no_words : Error → WordsError
 no_words why = no_words_by (error_kind why)

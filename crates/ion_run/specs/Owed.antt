@@ -66,6 +66,7 @@ module _ {X : Type 0} (R : Inlet X) (gives : Name → X → Type 0) where
 
   -- the values that were read of the document need an id above 2^31-1 in the encoding
   module _ {Y : Type 0} (I : Items Y) where
+    -- the job is a conversion, and values read of its document need an id above 2^31-1 in the encoding
     abbrev pub NeedsLarge : Job → the_catalog → Limits → Type 0
     NeedsLarge (check file) g l = ⊥
     NeedsLarge (show file) g l = ⊥
@@ -95,6 +96,7 @@ module _ {X : Type 0} (R : Inlet X) (gives : Name → X → Type 0) where
 
   -- a front went out of what the job puts out for readers that the names gave
   module _ {Y T : Type 0} (I : Items Y) (W : Outlet T) (old new : T) where
+    -- a front of what the job puts out, for readers that its names gave, went out
     abbrev pub WroteFront : Job → the_catalog → Limits → Type 0
     WroteFront (check file) g l = (first : X) × (now : X) × gives file first
         × (answer : Result ℕ the_refusal) × IsChecked R (documents g l) first now answer × TookFront W.took W.written old new (answer_line answer)
@@ -114,6 +116,7 @@ abbrev pub LacksHasher : Type 0 → Target → Type 0
 LacksHasher none target.Text = ⊥
 LacksHasher none target.Binary = none
 
+-- the job is a conversion to binary, and no hasher can be had
 abbrev pub JobLacksHasher : Type 0 → Job → Type 0
 JobLacksHasher none (check file) = ⊥
 JobLacksHasher none (show file) = ⊥

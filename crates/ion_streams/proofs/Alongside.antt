@@ -55,6 +55,7 @@ past I counted before after used v ready fits under within taken less none go pi
 
 -- what holds of a place that went past a value
 module _ {X : Type 0} (I : Items X) where
+  -- behind a value that it went past, a document is still being read
   pub past_open : (place after : Standing X) (v : Value) → StandingPast I place after v → IsOpen after
   past_open (Open from) (Open to) v h = tt
   past_open (Open from) Ended v h = absurd h
@@ -62,11 +63,13 @@ module _ {X : Type 0} (I : Items X) where
   past_open Ended after v h = absurd h
   past_open (Refused r) after v h = absurd h
 
+  -- a document that has ended or was refused went past no value
   pub past_closed : (place after : Standing X) (v : Value) (P : Type 0) → StandingPast I place after v → IfClosed place P
   past_closed (Open from) after v P h = tt
   past_closed Ended after v P h = absurd h
   past_closed (Refused r) after v P h = absurd h
 
+  -- behind a value that it went past, a document is ready to be read on
   pub past_ready : (place after : Standing X) (v : Value) → StandingPast I place after v → IfOpen after (IsReady I)
   past_ready (Open from) (Open to) v h = h.ready
   past_ready (Open from) Ended v h = tt
@@ -74,6 +77,7 @@ module _ {X : Type 0} (I : Items X) where
   past_ready Ended after v h = absurd h
   past_ready (Refused r) after v h = absurd h
 
+  -- to go past a value leaves less that may still come
   pub past_less : (place after : Standing X) (v : Value) → StandingPast I place after v → work_of I after < work_of I place
   past_less (Open from) (Open to) v h = let less = h.less in omega (arith, less)
   past_less (Open from) Ended v h = absurd h
@@ -81,6 +85,7 @@ module _ {X : Type 0} (I : Items X) where
   past_less Ended after v h = absurd h
   past_less (Refused r) after v h = absurd h
 
+  -- to go past a value leaves as many reads of the device as before
   pub past_reads : (place after : Standing X) (v : Value) → StandingPast I place after v → reads_of after ≡ reads_of place
   past_reads (Open from) (Open to) v h = h.reads
   past_reads (Open from) Ended v h = absurd h
@@ -88,6 +93,7 @@ module _ {X : Type 0} (I : Items X) where
   past_reads Ended after v h = absurd h
   past_reads (Refused r) after v h = absurd h
 
+  -- behind a value that it went past, the reads made and those that may still be made are as before
   pub past_within : {S : Type 0} (R : Inlet S) (reads : ℕ) (first now : S) (place after : Standing X) (v : Value) → StandingPast I place after v
       → IfOpen place (IsWithin R reads first now) → IfOpen after (IsWithin R reads first now)
   past_within R reads first now (Open from) (Open to) v h w = let rest = w.rest in record { made = w.made; were = w.were; rest = omega (arith, rest, h.reads) }
@@ -96,6 +102,7 @@ module _ {X : Type 0} (I : Items X) where
   past_within R reads first now Ended after v h w = absurd h
   past_within R reads first now (Refused r) after v h w = absurd h
 
+  -- a document that went past a value gave it behind those before
   pub past_stood : {S : Type 0} (R : Inlet S) (g : Catalog) (l : Limits) (first now : S) (place after : Standing X) (v : Value) (s : List Value)
       → StandingPast I place after v → Stood R I g l first now place s → Stood R I g l first now after (s ++ v ∷ [])
   past_stood R g l first now (Open from) (Open to) v s h stood =

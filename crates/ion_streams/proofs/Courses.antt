@@ -41,6 +41,7 @@ map_none : (p : Option ℕ) → p ≡ option_map (λ n. n + 0) p
 map_none None = refl
 map_none (Some k) = ap Some (omega arith)
 
+-- before any value two streams are alike so far
 pub meets_begun : {X Y : Type 0} (left : Standing X) (right : Standing Y) → Meets (Alike 0) left right [] []
 meets_begun left right = record { onward = λ s t h k. map_none (parts s t); counted = (refl, refl) }
 
@@ -136,6 +137,7 @@ closed_after (TheStanding.Open source) v s h k none = absurd (h none)
 closed_after TheStanding.Ended v s h k none = k
 closed_after (TheStanding.Refused refusal) v s h k none = k
 
+-- with the next value of each, or its end, two streams compare as the course behind it says
 pub meets_more : {X Y : Type 0} (course after : Course) (left left' : Standing X) (right right' : Standing Y) (s t : List Value) (v w : Option Value)
     → IsMet course v w after → Meets course left right s t →
     IfClosed left ((left' ≡ left) × (v ≡ None)) → IfClosed right ((right' ≡ right) × (w ≡ None)) → (v ≡ None → IfOpen left' (λ source. ⊥))
@@ -236,6 +238,7 @@ count_both : (n : ℕ) (v w : Value) (after : Course) → MetBoth n v w after �
 count_both n v w (Alike values) met = omega (arith, met.1)
 count_both n v w (Parted index path) met = omega (arith, met.1)
 
+-- the next values are counted as one more at most
 pub count_met : (course after : Course) (v w : Option Value) → IsMet course v w after → count_of after ≤ count_of course + 1
 count_met (Parted index path) after v w met = rw met (omega arith)
 count_met (Alike n) after None None met = rw met (omega arith)
@@ -255,6 +258,7 @@ work_open I (TheStanding.Open source) after opened h = h
 work_open I TheStanding.Ended after opened h = absurd opened
 work_open I (TheStanding.Refused refusal) after opened h = absurd opened
 
+-- where one document at least is still being read, a step of both leaves less work
 pub works_less : {X Y : Type 0} (I : Items X) (J : Items Y) (left left' : Standing X) (right right' : Standing Y) (P Q : Type 0) → IsOpen left ⊎ IsOpen right →
     IfOpen left (λ source. work_of I left' < work_of I left) → IfClosed left ((left' ≡ left) × P) →
     IfOpen right (λ source. work_of J right' < work_of J right) → IfClosed right ((right' ≡ right) × Q) →
@@ -268,10 +272,12 @@ works_less I J left left' right right' P Q (inr opened) a b c d =
     let kept = work_kept I left left' P a b in
     omega arith
 
+-- where the test holds, what is so in that case
 pub true_case : (b : Bool) (P Q : Type 0) → MatchBool b P Q → b ≡ true → P
 true_case true P Q h e = h
 true_case false P Q h e = absurd cc
 
+-- where the test fails, what is so in that case
 pub false_case : (b : Bool) (P Q : Type 0) → MatchBool b P Q → b ≡ false → Q
 false_case true P Q h e = absurd cc
 false_case false P Q h e = h

@@ -1,10 +1,10 @@
 -- A document that is read value by value to its end.
-use Rattle.std.proofs.Common.{◌≡◌, ℕ, ◌+◌, ◌*◌, ◌≤◌, ◌^◌, List, [], length, false, inl, inr, ap, ◌∙◌, arith, None}
+use Rattle.std.proofs.Common.{◌≡◌, ℕ, List, length, false, inr, ◌∙◌}
 use Rattle.ion_model.specs.declared.value.Value.{Value}
 use Rattle.ion_symtab.specs.declared.inlet.Inlet.{Ghosts as Inlet}
 use Rattle.ion_symtab.specs.declared.items.Items.{Ghosts as Items}
-use Rattle.ion_streams.specs.reading.Read.{IsReady, IsFresh, IsWithin, NoneFailed, NoReadFailed, ReadsEach, work}
-use Rattle.ion_streams.specs.reading.Standing.{IfOpen, work_of, StoodEach, answered}
+use Rattle.ion_streams.specs.reading.Read.{IsReady, IsWithin, NoneFailed, NoReadFailed}
+use Rattle.ion_streams.specs.reading.Standing.{IfOpen, StoodEach, answered}
 use Rattle.ion_streams.specs.Checked.{IsChecked}
 use Rattle.ion_streams.specs.Formats.{format_of}
 use Rattle.ion_symtab.specs.Trace.{plain}
@@ -14,9 +14,8 @@ use Rattle.std.proofs.lemmas.List.{length-map}
 use Rattle.ion_streams.specs.declared.source.Source.{Source}
 use Rattle.ion_streams.specs.declared.source.Standing.{Standing}
 use Rattle.ion_streams.specs.declared.source.Standing.TheVariants.{Open, Ended, Refused}
-use Rattle.ion_streams.proofs.Pieces.{between_nil}
-use Rattle.ion_streams.proofs.Steps.{each_begun, ready_begun, within_begun, stood_plain}
-use Rattle.ion_streams.proofs.Unfailed.{asks_begun, StandsHeard, stands_heard}
+use Rattle.ion_streams.proofs.Steps.{stood_plain}
+use Rattle.ion_streams.proofs.Unfailed.{StandsHeard, stands_heard}
 
 -- it can be read on where it is open, no read failed, and so many calls of read were to be made at most
 pub record Driven {S X : Type 0} (R : Inlet S) (I : Items X) (reads : ℕ) (first now : S) (place : Standing X) : Type 0 where
@@ -32,34 +31,6 @@ pub record IsNew {X : Type 0} (items : X) (reads : ℕ) (source : Source X) : Ty
   pub few : source.reads ≡ reads
 
 module _ {S X : Type 0} (R : Inlet S) (I : Items X) where
-  pub driven_begun : (now : S) (items : X) (reads : ℕ) (source : Source X) → IsFresh I items → I.taken items ≡ 0 → I.failed items ≡ None → reads ≤ 2 ^ 32
-      → IsNew items reads source → Driven R I reads now now (Open source)
-  driven_begun now items reads source fresh taken fine most new =
-      let few = new.few in
-      record {
-        ready = ready_begun I source items taken fresh.awaited new.same new.nothing new.piece (omega (arith, most, few));
-        heard = record { either = inl (asks_begun I source items fine fresh.owes new.same new.nothing) };
-        within = within_begun R now source reads few;
-      }
-
-  -- no value was given yet
-  pub stood_begun : (now : S) (items : X) (reads : ℕ) (source : Source X) → IsFresh I items → IsNew items reads source
-      → ReadsEach R I (I.catalog items) (I.limits items) now now source []
-  stood_begun now items reads source fresh new =
-      let at = new.nothing.0 in
-      let end = new.nothing.1 in
-      each_begun R I now source items fresh.stood new.same (between_nil source.piece.items source.at source.end (omega (arith, at, end)))
-
-  -- so many values may come
-  pub work_begun : (items : X) (reads : ℕ) (source : Source X) → IsFresh I items → reads ≤ 2 ^ 32 → IsNew items reads source
-      → work_of I (Open source) ≤ 8193 * 2 ^ 32 + 1
-  work_begun items reads source fresh most new =
-      let few = new.few in
-      let at = new.nothing.0 in
-      let end = new.nothing.1 in
-      let pending : I.pending source.items ≡ 0 = ap (λ (x : X). I.pending x) new.same ∙ fresh.owes in
-      omega (arith, few, at, end, pending, most)
-
   -- it was read on
   pub driven_on : (reads : ℕ) (first old now : S) (place after : Standing X) → Driven R I reads first old place → IfOpen after (IsReady I)
       → NoReadFailed R old now → IfOpen place (λ source. NoneFailed R I old source → R.has_failed now ≡ false) →

@@ -1,5 +1,5 @@
 -- Catalogs that are loaded value by value.
-use Rattle.std.proofs.Common.{◌≡◌, ℕ, List, [], ◌∷◌, ◌++◌, length, refl, ap, sym, subst, ◌∙◌, Option, Some, None, IfSome, IsNone, Result, Ok, Err, inl, inr, true, false, append_assoc, append-nil}
+use Rattle.std.proofs.Common.{◌≡◌, ℕ, List, [], ◌∷◌, ◌++◌, length, refl, ap, sym, subst, ◌∙◌, Option, Some, None, IfSome, IsNone, Result, Ok, Err, inl, true, false, append_assoc, append-nil}
 use Rattle.ion_model.specs.declared.value.Value.{Value}
 use Rattle.ion_atoms.specs.declared.refusal.Reason.{Reason}
 use Rattle.ion_atoms.specs.declared.refusal.Refusal.{Refusal}
@@ -25,6 +25,7 @@ ok_behind : (r : Result (List Table) Reason) (total : ℕ) (f g : List Table →
 ok_behind (Ok more) total f g h tables go e = go more e
 ok_behind (Err reason) total f g h tables go e = absurd cc
 
+-- values that describe tables, and others behind them, describe what those do behind these tables
 pub catalog_ok : (before : List Table) (given later : List (Value × ℕ)) (tables : List Table) → catalog_of before given ≡ Ok tables
     → catalog_of before (given ++ later) ≡ catalog_of tables later
 catalog_ok before [] later tables e = let same : before ≡ tables = cc in ap (λ x. catalog_of x later) same
@@ -94,30 +95,3 @@ module _ {S X : Type 0} (R : Inlet S) (I : Items X) (g : Catalog) (l : Limits) w
       }
   value_refused settled so_far with_next first now (TheStanding.Refused early) given refusal h ready e =
       record { octets = h.octets; ended = h.ended; heard = h.heard; decided = λ more may. inl (ap (λ x. catalog_of [] x) (h.ends more may).all ∙ e) }
-
-  -- all values describe tables, and the octets are no document
-  pub document_refused : (first now : S) (given : List (Value × ℕ)) (tables : List Table) (refusal : Refusal)
-      → StoodEach R I g l first now (TheStanding.Refused refusal) given → catalog_of [] given ≡ Ok tables →
-      IsLoaded R (format_of I g l) first now (Err refusal)
-  document_refused first now given tables refusal h e =
-      record {
-        octets = h.octets;
-        ended = h.ended;
-        heard = h.heard;
-        decided = λ more may.
-            let ends = h.ends more may in
-            inr (record { s = _; refused = ends.refused; tables = tables; described = ap (λ x. catalog_of [] x) ends.all ∙ e });
-      }
-
-  -- all values describe tables, and the octets are a document
-  pub document_loaded : (first now : S) (given : List (Value × ℕ)) (tables : List Table) → StoodEach R I g l first now TheStanding.Ended given
-      → catalog_of [] given ≡ Ok tables →
-      IsLoaded R (format_of I g l) first now (Ok tables)
-  document_loaded first now given tables h e =
-      record {
-        octets = h.octets;
-        ended = true;
-        heard = h.heard;
-        decided = λ more none. ended_all (λ x. IsCatalog (format_of I g l) x (Ok tables)) h.octets more none
-            (record { given = given; document = h.ends; described = e });
-      }

@@ -1,5 +1,5 @@
 -- What is told of the values of a document.
-use Rattle.std.proofs.Common.{◌≡◌, ◌+◌, ℕ, List, [], ◌∷◌, ◌++◌, Result, Ok, Err, IfOk, IfErr, Option, Some, None, option_map, option_to_list, length, refl, ap, sym, subst, ◌∙◌, append-nil}
+use Rattle.std.proofs.Common.{◌≡◌, ◌+◌, ℕ, List, [], ◌∷◌, ◌++◌, Result, Ok, Err, IfOk, IfErr, Option, Some, None, option_map, option_to_list, refl, ap, sym, subst, ◌∙◌, append-nil}
 use Rattle.std.proofs.lemmas.Option.{same_Some}
 use Rattle.ion_model.specs.declared.value.Value.{Value}
 use Rattle.ion_symtab.specs.declared.catalog.Catalog.{Catalog}
@@ -16,11 +16,6 @@ use Rattle.ion_streams.specs.declared.source.Standing.{Standing}
 use Rattle.ion_streams.specs.declared.source.Standing.TheVariants.{Open, Ended, Refused}
 use Rattle.ion_symtab.specs.declared.fault.Fault.{Fault}
 use Rattle.ion_streams.proofs.Steps.{reads_by, plain_next, stood_plain}
-
--- of a value itself
-pub told_itself : (value : Option Value) → option_map (λ (v : Value). v) value ≡ value
-told_itself None = refl
-told_itself (Some v) = refl
 
 module _ {X A : Type 0} (of : Value → A) (I : Items X) (source after : Source X) where
   without : (u : List ℕ) (given : List (Value × ℕ)) (value : Option Value) → option_map of value ≡ None → Went I u given (left_of source) after value
@@ -82,6 +77,7 @@ module _ {S X : Type 0} (R : Inlet S) (I : Items X) (g : Catalog) (l : Limits) w
       → Stood R I g l first old place s → Stood R I g l first now after (s ++ option_to_list value)
   stays_plain first old now place after s value none same kept h = rw (none, same, kept, append-nil s) h
 
+  -- a document that was read on gave what was found behind the values before
   pub stood_next : (first old now : S) (place after : Standing X) (s : List Value) (found : Option (Value × ℕ)) (value : Option Value)
       → value ≡ option_map (λ (x : Value × ℕ). x.0) found →
       IfClosed place ((◌≡◌ {A = Result (Option (Value × ℕ)) Fault} (Ok found) (Ok None)) × (now ≡ old) × (after ≡ place)) →
@@ -97,6 +93,7 @@ module _ {S X : Type 0} (R : Inlet S) (I : Items X) (g : Catalog) (l : Limits) w
       let none : found ≡ None = let e = closed.0 in cc in
       stays_plain first old now (Refused refusal) after s value (is ∙ ap (option_map (λ (x : Value × ℕ). x.0)) none) closed.1 closed.2 h
 
+  -- a document that was read on and in which nothing was found gave the same values as before
   pub stood_still : (first old now : S) (place after : Standing X) (s : List Value) (found : Option (Value × ℕ)) → found ≡ None →
       IfClosed place ((◌≡◌ {A = Result (Option (Value × ℕ)) Fault} (Ok found) (Ok None)) × (now ≡ old) × (after ≡ place)) →
       ((given : List (Value × ℕ)) → StoodEach R I g l first old place given → GaveNext (λ (v : Value). v) R I g l first now after given found)
@@ -124,16 +121,19 @@ closed_same old now Ended after found value is h = let none : found ≡ None = l
 closed_same old now (Refused refusal) after found value is h = let none : found ≡ None = let e = h.0 in cc in
     (h.2, is ∙ ap (option_map (λ (x : Value × ℕ). x.0)) none)
 
+-- where what was found has no value, nothing was found
 pub none_of : (found : Option (Value × ℕ)) (value : Option Value) → value ≡ option_map (λ (x : Value × ℕ). x.0) found → value ≡ None → found ≡ None
 none_of None value is none = refl
 none_of (Some x) value is none = let e = sym is ∙ none in absurd cc
 
 -- what follows for an answer that isn't known
 
+-- of an answer `Ok` what follows from what is known of it
 pub ok_by : {A E : Type 0} (result : Result A E) (P Q : A → Type 0) → ((a : A) → P a → Q a) → IfOk result P → IfOk result Q
 ok_by (Ok a) P Q go h = go a h
 ok_by (Err e) P Q go h = h
 
+-- of a fault or a refusal what follows from what is known of it
 pub err_by : {A E : Type 0} (result : Result A E) (P Q : E → Type 0) → ((e : E) → P e → Q e) → IfErr result P → IfErr result Q
 err_by (Ok a) P Q go h = h
 err_by (Err e) P Q go h = go e h

@@ -18,9 +18,11 @@ pub between_cut : (piece : List ℕ) (at end used : ℕ) → used ≤ end - at �
 between_cut piece at end used h = ap (λ x. take used (between piece at end) ++ x) (sym (between_drop piece at end used h))
     ∙ take-append-drop used (between piece at end)
 
+-- between a place and one before it stand no octets
 pub between_nil : (piece : List ℕ) (at end : ℕ) → end ≤ at → between piece at end ≡ []
 between_nil piece at end h = let e : end - at ≡ 0 = omega arith in ap (λ n. take n (drop at piece)) e
 
+-- octets used from the front of what is left of a piece lead on, with the value that they gave
 pub went : {X : Type 0} (I : Items X) (u : List ℕ) (given : List (Value × ℕ)) (piece : List ℕ) (at end used total : ℕ) (after : Source X) (value : Option Value)
     →
     used ≤ end - at → left_of after ≡ between piece (at + used) end → total ≡ after.used
@@ -32,6 +34,7 @@ went I u given piece at end used total after value fits rest same h = record {
       ∙ (append_assoc u (take used (between piece at end)) (between piece (at + used) end) ∙ ap (λ x. u ++ x) (between_cut piece at end used fits));
 }
 
+-- what is left behind the octets used begins with the one that is awaited, as it should
 pub begins_drop : (awaits : Option ℕ) (piece : List ℕ) (at end used : ℕ) → used ≤ end - at → Begins awaits (drop used (between piece at end))
     → Begins awaits (between piece (at + used) end)
 begins_drop None piece at end used fits h = h

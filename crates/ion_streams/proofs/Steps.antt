@@ -1,5 +1,5 @@
 -- How far a document has been read, step by step.
-use Rattle.std.proofs.Common.{◌≡◌, ℕ, ◌+◌, ◌^◌, ◌≤◌, List, [], ◌∷◌, ◌++◌, length, refl, ap, sym, subst, ◌∙◌, arith, Bool, true, false, Option, Some, None, option_map, option_to_list, append-nil, length-append, Result, Ok, Err, OnErr}
+use Rattle.std.proofs.Common.{◌≡◌, ℕ, ◌+◌, ◌^◌, ◌≤◌, List, [], ◌∷◌, ◌++◌, length, refl, ap, sym, subst, ◌∙◌, arith, Bool, true, false, Option, Some, None, option_map, option_to_list, append-nil, Result, Ok, Err, OnErr}
 use Rattle.std.proofs.lemmas.List.{map-append}
 use Rattle.ion_model.specs.declared.value.Value.{Value}
 use Rattle.ion_atoms.specs.declared.refusal.Refusal.{Refusal}
@@ -13,14 +13,13 @@ use Rattle.ion_symtab.specs.laws.Heard.{Heard-nil, Heard-trans, Heard-end}
 use Rattle.ion_symtab.specs.laws.Causes.{WereMade-nil}
 use Rattle.ion_streams.specs.Formats.{format_of}
 use Rattle.ion_streams.specs.reading.Read.{left_of, Begins, IsReady, IsWithin, Went, GaveEach, GaveSoFar, Reads, ReadsEach}
-use Rattle.ion_streams.specs.Outcomes.{EndsWell, EndsRefused, ToldDocument, ToldRefused, ToldEach, ToldRefusedEach}
-use Rattle.ion_streams.specs.reading.Standing.{IfOpen, IfRefused, MatchClosed, work_of, reads_of, Stood, StoodEach}
-use Rattle.ion_streams.specs.reading.Reached.{Reaches}
+use Rattle.ion_streams.specs.Outcomes.{EndsWell, EndsRefused, ToldEach, ToldRefusedEach}
+use Rattle.ion_streams.specs.reading.Standing.{IfRefused, MatchClosed, Stood, StoodEach}
 use Rattle.ion_streams.specs.declared.source.Source.{Source}
-use Rattle.ion_streams.specs.declared.source.Reached.TheVariants.{Value as AValue}
 use Rattle.ion_streams.specs.declared.source.Standing.{Standing}
 use Rattle.ion_streams.specs.declared.source.Standing.TheVariants as TheStanding
 
+-- what is so whatever a call answers is so where it answers a fault or a refusal
 pub on_err : {A E : Type 0} (result : Result A E) (P : Type 0) → P → OnErr result P
 on_err (Ok a) P p = tt
 on_err (Err e) P p = p
@@ -30,6 +29,7 @@ plain_more : (given : List (Value × ℕ)) (found : Option (Value × ℕ)) → p
 plain_more given None = map-append (λ (x : Value × ℕ). x.0) given []
 plain_more given (Some x) = map-append (λ (x : Value × ℕ). x.0) given (x ∷ [])
 
+-- the values without their totals go on with the one that was found
 pub plain_next : (given : List (Value × ℕ)) (found : Option (Value × ℕ)) (value : Option Value) (s : List Value) → plain given ≡ s
     → option_map (λ (x : Value × ℕ). x.0) found ≡ value → plain (given ++ option_to_list found) ≡ s ++ option_to_list value
 plain_next given found value s values same =
@@ -51,6 +51,7 @@ module _ {S X : Type 0} (R : Inlet S) (I : Items X) (g : Catalog) (l : Limits) w
         within = within ∙ h.within;
       }
 
+  -- behind octets that were used, a document gave the value that they gave
   pub reads_went : (first now : S) (source after : Source X) (given : List (Value × ℕ)) (value : Option Value) → ReadsEach R I g l first now source given →
       ((u : List ℕ) (given : List (Value × ℕ)) → I.stands source.items u given → Went I u given (left_of source) after value) →
       I.catalog after.items ≡ I.catalog source.items → I.limits after.items ≡ I.limits source.items
@@ -172,11 +173,13 @@ each_begun R I now source items stood same empty =
       within = ap (λ (x : _). I.limits x) same;
     }
 
+-- a document of which nothing was read gave no value
 pub reads_begun : {S X : Type 0} (R : Inlet S) (I : Items X) (now : S) (source : Source X) (items : X) → I.stands items [] [] → source.items ≡ items
     → left_of source ≡ [] →
     Reads R I (I.catalog items) (I.limits items) now now source []
 reads_begun R I now source items stood same empty = record { given = []; each = each_begun R I now source items stood same empty; values = refl }
 
+-- a document of which nothing was read is ready to be read
 pub ready_begun : {X : Type 0} (I : Items X) (source : Source X) (items : X) → I.taken items ≡ 0 → I.awaits items ≡ None → source.items ≡ items
     → (source.at ≡ 0) × (source.end ≡ 0) × (source.used ≡ 0) → length source.piece.items ≡ 4096 → source.reads ≤ 2 ^ 32 →
     IsReady I source
@@ -191,6 +194,7 @@ ready_begun I source items none free same empty piece few =
       counted = nothing ∙ sym empty.2;
     }
 
+-- before any read of the device, all of them may still be made
 pub within_begun : {S X : Type 0} (R : Inlet S) (now : S) (source : Source X) (reads : ℕ) → source.reads ≡ reads → IsWithin R reads now now source
 within_begun R now source reads e = record { made = 0; were = WereMade-nil R now; rest = omega arith }
 
@@ -198,7 +202,3 @@ within_begun R now source reads e = record { made = 0; were = WereMade-nil R now
 pub within_kept : {S X : Type 0} (R : Inlet S) (reads : ℕ) (first now : S) (source after : Source X) → after.reads ≡ source.reads
     → IsWithin R reads first now source → IsWithin R reads first now after
 within_kept R reads first now source after e w = record { made = w.made; were = w.were; rest = ap (λ (n : ℕ). w.made + n) e ∙ w.rest }
-
-pub length_more : (s : List Value) (value : Option Value) (n m : ℕ) → length s ≡ n → m ≡ n + length (option_to_list value) → length (s ++ option_to_list value)
-    ≡ m
-length_more s value n m h e = length-append s (option_to_list value) ∙ (ap (λ k. k + length (option_to_list value)) h ∙ sym e)

@@ -1,5 +1,5 @@
 -- Reads of a device that were all answered.
-use Rattle.std.proofs.Common.{◌≡◌, ◌⊎◌, ◌+◌, inl, inr, ap, sym, ◌∙◌, arith, false, Option, Some, None, IsNone, IsSome, Result, Ok, Err, OnOk, refl}
+use Rattle.std.proofs.Common.{◌≡◌, ◌⊎◌, inl, inr, ap, sym, ◌∙◌, arith, false, Option, Some, None, IsNone, IsSome, refl}
 use Rattle.ion_model.specs.declared.value.Value.{Value}
 use Rattle.ion_symtab.specs.declared.inlet.Inlet.{Ghosts as Inlet}
 use Rattle.ion_symtab.specs.declared.items.Items.{Ghosts as Items}
@@ -10,14 +10,12 @@ use Rattle.ion_streams.specs.declared.source.Source.{Source}
 use Rattle.ion_streams.specs.declared.source.Standing.{Standing}
 use Rattle.ion_streams.specs.declared.source.Standing.TheVariants.{Open, Ended, Refused}
 
-pub on_ok : {A E : Type 0} (result : Result A E) (P : Type 0) → P → OnOk result P
-on_ok (Ok a) P p = p
-on_ok (Err e) P p = tt
-
+-- what can't be there is none
 pub none_there : {A : Type 0} (found : Option A) → (IsSome found → ⊥) → found ≡ None
 none_there None h = refl
 none_there (Some v) h = absurd (h refl)
 
+-- a failure that is none is none
 pub none_failed : {A : Type 0} (failed : Option A) → failed ≡ None → IsNone failed
 none_failed None h = refl
 none_failed (Some r) h = absurd cc
@@ -31,11 +29,13 @@ module _ {S X : Type 0} (R : Inlet S) (I : Items X) (now : S) where
       go (inl fine) = fine
       go (inr asks) = absurd (came asks)
 
+  -- where something was found, no read of the device has failed
   pub gave_some : {A : Type 0} (source : Source X) (found : Option A) (v : A) → found ≡ Some v → (HasToAsk I source → found ≡ None) → NoneFailed R I now source
       → R.has_failed now ≡ false
   gave_some source found v is nothing h = was_asked source (λ asks. let none = sym is ∙ nothing asks in absurd cc) h
 
 module _ {X : Type 0} (I : Items X) where
+  -- a document of which nothing was read has to ask its device first
   pub asks_begun : (source : Source X) (items : X) → I.failed items ≡ None → I.pending items ≡ 0 → source.items ≡ items → (source.at ≡ 0) × (source.end ≡ 0)
       × (source.used ≡ 0) → HasToAsk I source
   asks_begun source items fine owes same empty =
@@ -95,6 +95,7 @@ module _ {X : Type 0} (I : Items X) where
       go (inl both) = inl both.0
       go (inr fine) = inr fine
 
+  -- the device wasn't asked since, or no read of it has failed
   pub heard_since : {S : Type 0} (R : Inlet S) (place : Standing X) (first now : S) → StandsHeardSince R place first now → (now ≡ first)
       ⊎ (R.has_failed now ≡ false)
   heard_since R place first now h = go h.either

@@ -1,5 +1,5 @@
 -- Octets that are taken up one step after another.
-use Rattle.std.proofs.Common.{◌≡◌, ◌≢◌, ℕ, ◌+◌, ◌-◌, ◌≤◌, List, [], ◌∷◌, ◌++◌, length, take, drop, refl, ap, sym, subst, ◌∙◌, arith, Option, Some, None, Result, Ok, Err, option_to_list, append-nil, length-take, length-drop}
+use Rattle.std.proofs.Common.{◌≡◌, ◌≢◌, ℕ, ◌+◌, ◌-◌, ◌≤◌, List, [], ◌++◌, length, take, drop, refl, ap, sym, subst, ◌∙◌, arith, Option, Some, None, Err, option_to_list, append-nil, length-take, length-drop}
 use Rattle.std.proofs.lemmas.List.{take-append-drop, drop-drop}
 use Rattle.std.proofs.Math.Seq.{take-length, take-add}
 use Rattle.ion_model.specs.declared.value.Value.{Value}
@@ -8,12 +8,11 @@ use Rattle.ion_atoms.specs.declared.refusal.Reason.TheVariants as reasons
 use Rattle.ion_symtab.specs.declared.catalog.Catalog.{Catalog}
 use Rattle.ion_symtab.specs.declared.limits.Limits.{Limits}
 use Rattle.ion_symtab.specs.declared.items.Items.{Ghosts as Items}
-use Rattle.ion_symtab.specs.declared.items.Step.{Step}
 use Rattle.ion_symtab.specs.Trace.{plain, given_at, Answers, Finishes, Grows, Streams}
 use Rattle.ion_symtab.specs.Promises.{Refuses, Shows, HasReasons}
-use Rattle.ion_streams.specs.Formats.{Format, format_of}
+use Rattle.ion_streams.specs.Formats.{format_of}
 use Rattle.ion_streams.specs.Outcomes.{IsRefused}
-use Rattle.ion_streams.specs.reading.Read.{Begins, IsFresh}
+use Rattle.ion_streams.specs.reading.Read.{Begins}
 use Rattle.ion_streams.proofs.Steps.{plain_next}
 use Rattle.ion_streams.proofs.Endings.{refused_early, refused_late}
 
@@ -43,24 +42,14 @@ begins_at awaits octets used more h = subst (λ (x : List ℕ). Begins awaits x)
 
 module _ {X : Type 0} (I : Items X) (counted : (r : X) (u : List ℕ) (s : List (Value × ℕ)) → I.stands r u s → I.taken r ≡ length u) (g : Catalog) (l : Limits)
     (octets : List ℕ) where
-  pub taken_none : (items : X) → IsFresh I items → I.catalog items ≡ g → I.limits items ≡ l → IsTaken I g l octets items 0 []
-  taken_none items fresh under within =
-      record {
-        given = [];
-        stood = fresh.stood;
-        values = refl;
-        under = under;
-        within = within;
-        begins = subst (λ (x : Option ℕ). Begins x octets) (sym fresh.awaited) tt;
-        inside = omega arith;
-      }
-
+  -- so many octets were used as the reader counts
   pub taken_count : (items : X) (used : ℕ) (s : List Value) → IsTaken I g l octets items used s → I.taken items ≡ used
   taken_count items used s h =
       let total = counted items (take used octets) h.given h.stood in
       let inside = h.inside in
       omega (arith, total, inside, length-take {A = ℕ})
 
+  -- more octets from the front of the rest were used, and gave one more value or none
   pub taken_more : (items after : X) (used more : ℕ) (value : Option Value) (s : List Value) → IsTaken I g l octets items used s
       → more ≤ length (drop used octets) →
       ((u : List ℕ) (t : List (Value × ℕ)) → I.stands items u t → I.stands after (u ++ take more (drop used octets)) (t ++ given_at value (length u + more))) →
@@ -98,18 +87,6 @@ module _ {X : Type 0} (I : Items X) (counted : (r : X) (u : List ℕ) (s : List 
       let a = rw (h.under, h.within, take-append-drop used octets) at (answers (take used octets) h.given h.stood other) in
       let early = refused_early (format_of I g l) reasons octets [] h.given r a.0 a.1 (refused octets r a.1) (settled octets []) in
       (plain h.given, subst (λ (x : List ℕ). IsRefused (format_of I g l) x (plain h.given) r) (append-nil octets) early.refused)
-
-  -- the end was a document's
-  pub taken_all : (items : X) (used : ℕ) (s : List Value) (last : Option Value) → IsTaken I g l octets items used s → length octets ≤ used →
-      ((u : List ℕ) (t : List (Value × ℕ)) → I.stands items u t → Finishes (I.trace (I.catalog items) (I.limits items)) u (Ok last)) →
-      ((u : List ℕ) (t : List (Value × ℕ)) → I.stands items u t → (I.trace (I.catalog items) (I.limits items) u).given ≡ t) →
-      ((t : List Value) → Streams (I.trace g l octets) t → I.denotes g l octets t) → I.denotes g l octets (s ++ option_to_list last)
-  taken_all items used s last h all ends given exact =
-      let stood = all_stood items used s h all in
-      let so_far = rw (h.under, h.within) at (given octets h.given stood) in
-      let end = rw (h.under, h.within) at (ends octets h.given stood) in
-      exact (s ++ option_to_list last)
-      (record { last = last; ends = end; values = ap (λ (x : List Value). x ++ option_to_list last) (sym (ap plain so_far ∙ h.values)) })
 
   -- the end was none of a document
   pub taken_stopped : (items : X) (used : ℕ) (s : List Value) (r : Refusal) → IsTaken I g l octets items used s → length octets ≤ used

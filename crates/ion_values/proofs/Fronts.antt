@@ -49,6 +49,7 @@ module _ {S X : Type 0} (R : Inlet S) (I : Items X) (g : Catalog) (l : Limits)
       subst (λ (x : List ℕ). traces.IsFront given (I.trace g l x).given) (awaited_parts u left more o begins.0 begins.1)
       (front_more given (I.trace g l (u ++ o ∷ [])).given _ some (grows (u ++ o ∷ []) (begins.0 ++ more)).given)
 
+  -- the values of a document that is open still are the front of the stream of what was heard
   pub front_open : (exact : (u : List ℕ) (s : List Value) → Streams (I.trace g l u) s ↔ I.denotes g l u s) (first now : S) (source : Source X) (s : List Value)
       → Begins (I.awaits source.items) (left_of source) → Reads R I g l first now source s → GivesFront R (format_of I g l) first now s
   front_open exact first now source s begins h =

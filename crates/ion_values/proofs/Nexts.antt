@@ -15,6 +15,7 @@ use Rattle.ion_streams.specs.declared.source.Standing.TheVariants.{Open, Ended, 
 use Rattle.ion_values.specs.Given.{IsRefused, GivesFront}
 use Rattle.ion_values.proofs.Fronts.{front_open, front_ended}
 
+-- where a document can't stand refused, it doesn't
 pub refused_not : {X : Type 0} (place : Standing X) → IfRefused place ⊥ → IsRefused place → ⊥
 refused_not (Open source) fine h = h
 refused_not Ended fine h = h

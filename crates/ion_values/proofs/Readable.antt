@@ -1,13 +1,10 @@
 -- A document that can be read on is ready, in either form.
-use Rattle.std.proofs.Common.{◌≡◌, ℕ, ◌==◌, List, [], ◌∷◌, ap, subst, refl, ◌∙◌, true, Option, Some, None, arith}
+use Rattle.std.proofs.Common.{◌≡◌, ℕ, ◌==◌, List, [], ◌∷◌, ap, refl, ◌∙◌, true, Option, Some, None, arith}
 use Rattle.std.proofs.lemmas.Bool.{false≢true}
 use Rattle.ion_symtab.specs.declared.items.Items.{Ghosts as Items}
 use Rattle.ion_streams.specs.reading.Read.{left_of, Begins, IsReady}
-use Rattle.ion_streams.specs.reading.Standing.{IfOpen}
 use Rattle.ion_streams.specs.declared.source.Source.{Source}
-use Rattle.ion_streams.specs.declared.source.Standing.{Standing}
-use Rattle.ion_streams.specs.declared.source.Standing.TheVariants.{Open, Ended, Refused}
-use Rattle.ion_values.specs.Readable.{begins_with, IsReadable, CanGoOn}
+use Rattle.ion_values.specs.Readable.{begins_with, IsReadable}
 
 begins_to : (awaits : Option ℕ) (octets : List ℕ) → begins_with awaits octets ≡ true → Begins awaits octets
 begins_to None octets h = tt
@@ -43,11 +40,3 @@ module _ {X : Type 0} (I : Items X) where
         begins_from (I.awaits source.items) (left_of source) h.begins;
     counted = h.counted;
   }
-
-  pub open_ready : (place : Standing X) → CanGoOn I place → IfOpen place (IsReady I)
-  open_ready (Open source) h = ready_of source (h source refl)
-  open_ready Ended h = tt
-  open_ready (Refused r) h = tt
-
-  pub can_go_on : (place : Standing X) → IfOpen place (IsReady I) → CanGoOn I place
-  can_go_on place h = λ source e. readable_of source (subst (λ (x : Standing X). IfOpen x (IsReady I)) e h)

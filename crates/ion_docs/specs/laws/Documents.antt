@@ -46,6 +46,7 @@ module _ (g : Catalog) (l : Limits) where
   one_pieces front following s t (binary_pieces h p) (text_pieces k q) = differ (is_binary (front ++ following)) h k
   one_pieces front following s t (text_pieces h p) (binary_pieces k q) = differ (is_binary (front ++ following)) k h
 
+  -- octets show one list of values
   pub one_shown : (u : List ℕ) (s t : List Value) → Shown (Pieces g l) u s → Shown (Pieces g l) u t → s ≡ t
   one_shown u s t a b = shown_once (Pieces g l) u s t (λ front following p q. one_pieces front following s t p q) a b
 
@@ -196,6 +197,7 @@ module _ (g : Catalog) (l : Limits) where
       let first = ap is_binary (sym k.parts) ∙ h in
       record { front = k.front; open_rest = k.open_rest; parts = k.parts; whole = text_pieces first k.whole; rest = text_rest first k.rest }
 
+  -- whole pieces that aren't empty are a document by themselves, whatever followed them
   pub whole_document : (u following : List ℕ) (s : List Value) → Pieces g l u following s → 0 < length u → Denotes g l u s
   whole_document [] following s p some = absurd (omega arith)
   whole_document (x ∷ u) following s (binary_pieces h p) some = in_binary h (binary_laws.pieces_are_documents g l (x ∷ u) following s p some)

@@ -18,6 +18,7 @@ pub binary_ends : (s : List Value) → puts nothing_yet s ++ opening (behind not
 unfolding bin_of
 binary_ends s = bin_puts nothing_yet s
 
+-- what values add one after another is the front of their binary document
 pub binary_fronts : (s : List Value) → IsFrontOf (puts nothing_yet s) (bin_of s)
 binary_fronts s = (opening (behind nothing_yet s).begun, binary_ends s)
 
@@ -25,6 +26,7 @@ binary_fronts s = (opening (behind nothing_yet s).begun, binary_ends s)
 pub puts_one : (p : Progress) (s : List Value) (v : Value) → puts p s ++ binary.adds (behind p s) v ≡ puts p (s ++ v ∷ [])
 puts_one p s v = ap (λ w. puts p s ++ w) (sym (append-nil (binary.adds (behind p s) v))) ∙ sym (puts_more p s (v ∷ []))
 
+-- the writer's progress behind values and one more is that behind all of them
 pub behind_one : (p : Progress) (s : List Value) (v : Value) → binary.after (behind p s) v ≡ behind p (s ++ v ∷ [])
 behind_one p s v = sym (behind_more p s (v ∷ []))
 
@@ -42,9 +44,11 @@ binary_fault s v failed Open h = absurd h
 pub text_fronts : (s : List Value) → IsFrontOf (text_of s) (text_of s)
 text_fronts s = ([], append-nil (text_of s))
 
+-- the text of a stream and a value's line are the text of the stream with that value
 pub text_one : (s : List Value) (v : Value) → text_of s ++ text.adds v ≡ text_of (s ++ v ∷ [])
 text_one s v = flat_map_more text.adds [] s v
 
+-- why a text writer writes no value is why an encoder puts none
 pub text_fault : (s : List Value) (failed : Bool) (fault : Fault) → text_writing.IsWritingFault failed fault → IsPuttingFault text_encoding s failed fault
 text_fault s failed Memory h = tt
 text_fault s failed Write h = h

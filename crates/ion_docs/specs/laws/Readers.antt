@@ -98,22 +98,28 @@ module _ (d : DocReader) where
   format_bounded (Binary r) u s h = subst (λ (l : Limits). kept_of (Binary r) ≤ l.item) h.2 (binary_stands.bounded r u s h.0)
   format_bounded (Text r) u s h = subst (λ (l : Limits). kept_of (Text r) ≤ l.item) h.2 (text_bounded.bounded r u s h.0)
 
+-- a reader that stands for octets has used just these
 pub doc_counted : (d : DocReader) (u : List ℕ) (s : List (Value × ℕ)) → DocStands d u s → taken_of d.format ≡ length u
 doc_counted d = format_counted d d.format
 
+-- a reader that stands for octets has answered no refusal
 pub doc_not_failed : (d : DocReader) (u : List ℕ) (s : List (Value × ℕ)) → DocStands d u s → failed_of d.format ≡ None
 doc_not_failed d = format_not_failed d d.format
 
+-- octets that a reader stands for aren't refused
 pub doc_not_refused : (d : DocReader) (u : List ℕ) (s : List (Value × ℕ)) → DocStands d u s → (chosen d.catalog.now d.limits u).refused ≡ None
 doc_not_refused d = format_not_refused d d.format
 
+-- where no octet is awaited, the octets show just the values that the reader gave
 pub doc_given : (d : DocReader) (u : List ℕ) (s : List (Value × ℕ)) → DocStands d u s → IsNone (awaits_of d.format) → (chosen d.catalog.now d.limits u).given
     ≡ s
 doc_given d = format_given d d.format
 
+-- where an octet is awaited, the octets and this one show the values that the reader gave first
 pub doc_given_next : (d : DocReader) (u : List ℕ) (s : List (Value × ℕ)) → DocStands d u s
     → IfSome (awaits_of d.format) (λ octet. IsFront s (chosen d.catalog.now d.limits (u ++ octet ∷ [])).given)
 doc_given_next d = format_given_next d d.format
 
+-- a reader keeps no more octets than an item may have
 pub doc_bounded : (d : DocReader) (u : List ℕ) (s : List (Value × ℕ)) → DocStands d u s → kept_of d.format ≤ d.limits.item
 doc_bounded d = format_bounded d d.format

@@ -20,6 +20,7 @@ Begins with_marker (first ∷ octets) = (first == 0xE0) ≡ with_marker
 abbrev pub Handed : DocReader → Bool → Limits → Catalog → Type 0 → List ℕ → Type 0
 Handed d with_marker limits catalog Stood u = Stood × Begins with_marker u × (limits ≡ d.limits) × (catalog ≡ d.catalog.now)
 
+-- a reader that holds this format stands for these octets, with which it gave these values
 abbrev pub FormatStands : DocReader → Format → List ℕ → List (Value × ℕ) → Type 0
 FormatStands d Unbegun u s = (u ≡ []) × (s ≡ [])
 FormatStands d (Refused refusal) u s = ⊥
@@ -30,26 +31,31 @@ FormatStands d (Text r) u s = Handed d false r.limits r.catalog.now (text.Stands
 abbrev pub DocStands : DocReader → List ℕ → List (Value × ℕ) → Type 0
 DocStands d u s = FormatStands d d.format u s
 
+-- how many octets the reader of a format has used
 abbrev pub taken_of : Format → ℕ
 taken_of Unbegun = 0
 taken_of (Refused _) = 0
 taken_of (Binary r) = r.used
 taken_of (Text r) = text.octets_used r
 
+-- the refusal that each call of a format's reader answers, if one came
 abbrev pub failed_of : Format → Option Refusal
 failed_of Unbegun = None
 failed_of (Refused refusal) = Some refusal
 failed_of (Binary r) = r.failed
 failed_of (Text r) = text.failed r
 
+-- the octet that a format's reader awaits, if it does
 abbrev pub awaits_of : Format → Option ℕ
 awaits_of (Text r) = r.awaited
 awaits_of _ = None
 
+-- how many values may come of a format's reader before another octet is used
 abbrev pub pending_of : Format → ℕ
 pending_of (Text r) = text.pending r
 pending_of _ = 0
 
+-- how many octets of what is open a format's reader keeps
 abbrev pub kept_of : Format → ℕ
 kept_of Unbegun = 0
 kept_of (Refused _) = 0

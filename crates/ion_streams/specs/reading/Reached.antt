@@ -12,11 +12,13 @@ use Rattle.ion_streams.specs.declared.source.Source.{Source}
 use Rattle.ion_streams.specs.declared.source.Reached.{Reached}
 use Rattle.ion_streams.specs.declared.source.Reached.TheVariants.{Value as AValue, End, Refused}
 
+-- so where a value is reached
 abbrev pub IfValue : {A : Type 0} → Reached A → Type 0 → Type 0
 IfValue (AValue found) P = P
 IfValue End P = Unit {0}
 IfValue (Refused refusal) P = Unit {0}
 
+-- so where the end is reached
 abbrev pub IfEnd : {A : Type 0} → Reached A → Type 0 → Type 0
 IfEnd (AValue found) P = Unit {0}
 IfEnd End P = P

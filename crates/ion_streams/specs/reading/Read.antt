@@ -88,6 +88,7 @@ module _ {S X : Type 0} (R : Inlet S) (I : Items X) (g : Catalog) (l : Limits) w
   abbrev pub Reads : S → S → Source X → List Value → Type 0
   Reads first now source s = Gave first now source.items (left_of source) false s
 
+  -- the same with the total of octets used when each value came
   abbrev pub ReadsEach : S → S → Source X → List (Value × ℕ) → Type 0
   ReadsEach first now source given = GaveEach first now source.items (left_of source) false given
 

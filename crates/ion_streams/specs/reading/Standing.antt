@@ -13,11 +13,13 @@ use Rattle.ion_streams.specs.declared.source.Source.{Source}
 use Rattle.ion_streams.specs.declared.source.Standing.{Standing}
 use Rattle.ion_streams.specs.declared.source.Standing.TheVariants.{Open, Ended, Refused}
 
+-- so of what is read, where the document is still being read
 abbrev pub IfOpen : {X : Type 0} → Standing X → (Source X → Type 0) → Type 0
 IfOpen (Open source) P = P source
 IfOpen Ended P = Unit {0}
 IfOpen (Refused refusal) P = Unit {0}
 
+-- the document is still being read
 abbrev pub IsOpen : {X : Type 0} → Standing X → Type 0
 IsOpen (Open source) = Unit {0}
 IsOpen Ended = ⊥
@@ -29,11 +31,13 @@ StandsUnread I (Open source) = HasToAsk I source
 StandsUnread I Ended = ⊥
 StandsUnread I (Refused refusal) = ⊥
 
+-- so where the document has ended, or was refused
 abbrev pub IfClosed : {X : Type 0} → Standing X → Type 0 → Type 0
 IfClosed (Open source) P = Unit {0}
 IfClosed Ended P = P
 IfClosed (Refused refusal) P = P
 
+-- the document has ended, and this is so; or it was refused, and this is so of the refusal
 abbrev pub MatchClosed : {X : Type 0} → Standing X → Type 0 → (Refusal → Type 0) → Type 0
 MatchClosed (Open source) P Q = ⊥
 MatchClosed Ended P Q = P
@@ -63,6 +67,7 @@ StoodEach R I g l first now (Open source) given = ReadsEach R I g l first now so
 StoodEach R I g l first now Ended given = ToldEach R (format_of I g l) first now given
 StoodEach R I g l first now (Refused refusal) given = ToldRefusedEach R (format_of I g l) first now given refusal
 
+-- so where the document was refused
 abbrev pub IfRefused : {X : Type 0} → Standing X → Type 0 → Type 0
 IfRefused (Open source) P = Unit {0}
 IfRefused Ended P = Unit {0}
