@@ -336,10 +336,7 @@ module _ (g : Catalog) (l l' : Limits) where
         (closed brackets.List (under g l') (spot_at end' start' c) fs) (closed_there brackets.List fs)
     ready_there fs ss (Mark' marks.SexpClose) = bare_there ss (closed brackets.Sexp (under g l) (spot_at end start c) fs)
         (closed brackets.Sexp (under g l') (spot_at end' start' c) fs) (closed_there brackets.Sexp fs)
-    ready_there fs ss (Mark' marks.FieldsClose) = tt
-    ready_there fs ss (Mark' marks.Comma) = tt
-    ready_there fs ss (Mark' marks.Colon) = tt
-    ready_there fs ss (Mark' marks.Colons) = tt
+    ready_there fs ss (Mark' _) = tt
 
     noted_there : (fs : List Frame) (ss : Symbols) (s : Result (Option (List ℕ)) Reason) → Turns (noted start c fs ss s) (noted start' c fs ss s)
     noted_there fs ss (Ok s) = record { begin = start'; end = 0; is = refl }
@@ -359,68 +356,19 @@ module _ (g : Catalog) (l l' : Limits) where
     named_there (frames.Named ss ms n ∷ fs) s = tt
 
     pending_there : (fs : List Frame) (ss : Symbols) (h : Held) (x : Content) → Turns (on_pending start c fs ss h x) (on_pending start' c fs ss h x)
-    pending_there fs ss h (Word w') = tt
-    pending_there fs ss h (Id id) = tt
-    pending_there fs ss h (Quoted w') = tt
-    pending_there fs ss h (Short w') = tt
-    pending_there fs ss h (Long w') = tt
-    pending_there fs ss h (Number' n) = tt
-    pending_there fs ss h (TypedNull k) = tt
-    pending_there fs ss h (Operator w') = tt
-    pending_there fs ss h (Clob w') = tt
-    pending_there fs ss h (Blob w') = tt
-    pending_there fs ss h (Mark' marks.FieldsOpen) = tt
-    pending_there fs ss h (Mark' marks.FieldsClose) = tt
-    pending_there fs ss h (Mark' marks.ListOpen) = tt
-    pending_there fs ss h (Mark' marks.ListClose) = tt
-    pending_there fs ss h (Mark' marks.SexpOpen) = tt
-    pending_there fs ss h (Mark' marks.SexpClose) = tt
-    pending_there fs ss h (Mark' marks.Comma) = tt
-    pending_there fs ss h (Mark' marks.Colon) = tt
     pending_there fs ss h (Mark' marks.Colons) = noted_there fs ss (held_symbol h)
+    pending_there fs ss h _ = tt
 
     on_long_there : (fs : List Frame) (ss : Symbols) (w : List ℕ) (x : Content)
         → Turns (on_long (spot_at end start c) fs ss w x) (on_long (spot_at end' start' c) fs ss w x)
-    on_long_there fs ss w (Word w') = tt
-    on_long_there fs ss w (Id id) = tt
-    on_long_there fs ss w (Quoted w') = tt
-    on_long_there fs ss w (Short w') = tt
     on_long_there fs ss w (Long w') = record { begin = start'; end = end'; is = refl }
-    on_long_there fs ss w (Number' n) = tt
-    on_long_there fs ss w (TypedNull k) = tt
-    on_long_there fs ss w (Operator w') = tt
-    on_long_there fs ss w (Clob w') = tt
-    on_long_there fs ss w (Blob w') = tt
-    on_long_there fs ss w (Mark' marks.FieldsOpen) = tt
-    on_long_there fs ss w (Mark' marks.FieldsClose) = tt
-    on_long_there fs ss w (Mark' marks.ListOpen) = tt
-    on_long_there fs ss w (Mark' marks.ListClose) = tt
-    on_long_there fs ss w (Mark' marks.SexpOpen) = tt
-    on_long_there fs ss w (Mark' marks.SexpClose) = tt
-    on_long_there fs ss w (Mark' marks.Comma) = tt
-    on_long_there fs ss w (Mark' marks.Colon) = tt
-    on_long_there fs ss w (Mark' marks.Colons) = tt
+    on_long_there fs ss w _ = tt
 
     after_there : (fs : List Frame) (x : Content) → Turns (on_after (under g l) (spot_at end start c) fs x) (on_after (under g l') (spot_at end' start' c) fs x)
-    after_there fs (Word w') = tt
-    after_there fs (Id id) = tt
-    after_there fs (Quoted w') = tt
-    after_there fs (Short w') = tt
-    after_there fs (Long w') = tt
-    after_there fs (Number' n) = tt
-    after_there fs (TypedNull k) = tt
-    after_there fs (Operator w') = tt
-    after_there fs (Clob w') = tt
-    after_there fs (Blob w') = tt
-    after_there fs (Mark' marks.FieldsOpen) = tt
     after_there fs (Mark' marks.FieldsClose) = closed_there brackets.Fields fs
-    after_there fs (Mark' marks.ListOpen) = tt
     after_there fs (Mark' marks.ListClose) = closed_there brackets.List fs
-    after_there fs (Mark' marks.SexpOpen) = tt
-    after_there fs (Mark' marks.SexpClose) = tt
     after_there fs (Mark' marks.Comma) = comma_there fs
-    after_there fs (Mark' marks.Colon) = tt
-    after_there fs (Mark' marks.Colons) = tt
+    after_there fs _ = tt
 
     name_there : (fs : List Frame) (x : Content) → Turns (on_name (under g l) (spot_at end start c) fs x) (on_name (under g l') (spot_at end' start' c) fs x)
     name_there fs (Word w') = by (is_keyword w')
@@ -434,62 +382,16 @@ module _ (g : Catalog) (l l' : Limits) where
     name_there fs (Quoted w') = record { begin = start'; end = 0; is = refl }
     name_there fs (Short w') = record { begin = start'; end = 0; is = refl }
     name_there fs (Long w') = record { begin = start'; end = 0; is = refl }
-    name_there fs (Number' n) = tt
-    name_there fs (TypedNull k) = tt
-    name_there fs (Operator w') = tt
-    name_there fs (Clob w') = tt
-    name_there fs (Blob w') = tt
-    name_there fs (Mark' marks.FieldsOpen) = tt
     name_there fs (Mark' marks.FieldsClose) = closed_there brackets.Fields fs
-    name_there fs (Mark' marks.ListOpen) = tt
-    name_there fs (Mark' marks.ListClose) = tt
-    name_there fs (Mark' marks.SexpOpen) = tt
-    name_there fs (Mark' marks.SexpClose) = tt
-    name_there fs (Mark' marks.Comma) = tt
-    name_there fs (Mark' marks.Colon) = tt
-    name_there fs (Mark' marks.Colons) = tt
+    name_there fs _ = tt
 
     long_name_there : (fs : List Frame) (w : List ℕ) (x : Content) → Turns (on_long_name start c fs w x) (on_long_name start' c fs w x)
-    long_name_there fs w (Word w') = tt
-    long_name_there fs w (Id id) = tt
-    long_name_there fs w (Quoted w') = tt
-    long_name_there fs w (Short w') = tt
     long_name_there fs w (Long w') = record { begin = start'; end = 0; is = refl }
-    long_name_there fs w (Number' n) = tt
-    long_name_there fs w (TypedNull k) = tt
-    long_name_there fs w (Operator w') = tt
-    long_name_there fs w (Clob w') = tt
-    long_name_there fs w (Blob w') = tt
-    long_name_there fs w (Mark' marks.FieldsOpen) = tt
-    long_name_there fs w (Mark' marks.FieldsClose) = tt
-    long_name_there fs w (Mark' marks.ListOpen) = tt
-    long_name_there fs w (Mark' marks.ListClose) = tt
-    long_name_there fs w (Mark' marks.SexpOpen) = tt
-    long_name_there fs w (Mark' marks.SexpClose) = tt
-    long_name_there fs w (Mark' marks.Comma) = tt
-    long_name_there fs w (Mark' marks.Colon) = tt
-    long_name_there fs w (Mark' marks.Colons) = tt
+    long_name_there fs w _ = tt
 
     keyed_there : (fs : List Frame) (s : Option (List ℕ)) (x : Content) → Turns (on_keyed start c fs s x) (on_keyed start' c fs s x)
-    keyed_there fs s (Word w') = tt
-    keyed_there fs s (Id id) = tt
-    keyed_there fs s (Quoted w') = tt
-    keyed_there fs s (Short w') = tt
-    keyed_there fs s (Long w') = tt
-    keyed_there fs s (Number' n) = tt
-    keyed_there fs s (TypedNull k) = tt
-    keyed_there fs s (Operator w') = tt
-    keyed_there fs s (Clob w') = tt
-    keyed_there fs s (Blob w') = tt
-    keyed_there fs s (Mark' marks.FieldsOpen) = tt
-    keyed_there fs s (Mark' marks.FieldsClose) = tt
-    keyed_there fs s (Mark' marks.ListOpen) = tt
-    keyed_there fs s (Mark' marks.ListClose) = tt
-    keyed_there fs s (Mark' marks.SexpOpen) = tt
-    keyed_there fs s (Mark' marks.SexpClose) = tt
-    keyed_there fs s (Mark' marks.Comma) = tt
     keyed_there fs s (Mark' marks.Colon) = named_there fs s
-    keyed_there fs s (Mark' marks.Colons) = tt
+    keyed_there fs s _ = tt
 
   turn_there : (start begin : ℕ) (c : List Slot) (fs : List Frame) (ss : Symbols) (now : Now) (end from to from' to' : ℕ) (x : Content)
       → Turns (turn g l (at start c fs ss now) (token_at from to x)) (turn g l' (at begin c fs ss (now_at end now)) (token_at from' to' x))

@@ -146,17 +146,10 @@ module _ (old new : TextReader) (moved : Scanner) (rest behind : Rest) (octets :
 -- A close.
 pub close_found : (x : Bracket) (fs : List Frame) (now : Now) (r : Rest) (octets : List ℕ) → closes x fs now ≡ true → 0 < length octets
     → slice_index octets 0 ≡ close_octet x → IsFound (place_in fs now) r octets (kinds.Mark (close_mark x)) [] 1 false
-close_found brackets.List [] now r octets h some first = absurd cc
 close_found brackets.List (frames.Items listings.List ss vs ∷ fs) now r octets h some first = list_close_found places.List r octets refl some first
-close_found brackets.List (frames.Items listings.Sexp ss vs ∷ fs) now r octets h some first = absurd cc
-close_found brackets.List (frames.Fields ss ms ∷ fs) now r octets h some first = absurd cc
-close_found brackets.List (frames.Named ss ms name ∷ fs) now r octets h some first = absurd cc
-close_found brackets.Sexp [] now r octets h some first = absurd cc
-close_found brackets.Sexp (frames.Items listings.List ss vs ∷ fs) now r octets h some first = absurd cc
 close_found brackets.Sexp (frames.Items listings.Sexp ss vs ∷ fs) now r octets h some first = sexp_close_found places.Sexp r octets refl some first
-close_found brackets.Sexp (frames.Fields ss ms ∷ fs) now r octets h some first = absurd cc
-close_found brackets.Sexp (frames.Named ss ms name ∷ fs) now r octets h some first = absurd cc
 close_found brackets.Fields fs now r octets h some first = fields_close_found (place_in fs now) r octets some first
+close_found _ _ now r octets h some first = absurd cc
 
 module _ (g : Catalog) (l : Limits) (begin end start : ℕ) (c : List Slot) where
   -- in such a state the mark closes, and nothing waits
@@ -166,39 +159,12 @@ module _ (g : Catalog) (l : Limits) (begin end start : ℕ) (c : List Slot) wher
       × IsStill now
 
   pub closing : (x : Bracket) (fs : List Frame) (now : Now) → closes x fs now ≡ true → MarkCloses x fs now
-  closing brackets.List [] now h = absurd cc
   closing brackets.List (frames.Items listings.List ss vs ∷ fs) nows.Ready h = (refl, tt)
-  closing brackets.List (frames.Items listings.List ss vs ∷ fs) (nows.Pending held e) h = absurd cc
-  closing brackets.List (frames.Items listings.List ss vs ∷ fs) (nows.Long w e) h = absurd cc
   closing brackets.List (frames.Items listings.List ss vs ∷ fs) nows.After h = (refl, tt)
-  closing brackets.List (frames.Items listings.List ss vs ∷ fs) nows.Name h = absurd cc
-  closing brackets.List (frames.Items listings.List ss vs ∷ fs) (nows.LongName w) h = absurd cc
-  closing brackets.List (frames.Items listings.List ss vs ∷ fs) (nows.Keyed name) h = absurd cc
-  closing brackets.List (frames.Items listings.Sexp ss vs ∷ fs) now h = absurd cc
-  closing brackets.List (frames.Fields ss ms ∷ fs) now h = absurd cc
-  closing brackets.List (frames.Named ss ms key ∷ fs) now h = absurd cc
-  closing brackets.Sexp [] now h = absurd cc
-  closing brackets.Sexp (frames.Items listings.List ss vs ∷ fs) now h = absurd cc
   closing brackets.Sexp (frames.Items listings.Sexp ss vs ∷ fs) nows.Ready h = (refl, tt)
-  closing brackets.Sexp (frames.Items listings.Sexp ss vs ∷ fs) (nows.Pending held e) h = absurd cc
-  closing brackets.Sexp (frames.Items listings.Sexp ss vs ∷ fs) (nows.Long w e) h = absurd cc
-  closing brackets.Sexp (frames.Items listings.Sexp ss vs ∷ fs) nows.After h = absurd cc
-  closing brackets.Sexp (frames.Items listings.Sexp ss vs ∷ fs) nows.Name h = absurd cc
-  closing brackets.Sexp (frames.Items listings.Sexp ss vs ∷ fs) (nows.LongName w) h = absurd cc
-  closing brackets.Sexp (frames.Items listings.Sexp ss vs ∷ fs) (nows.Keyed name) h = absurd cc
-  closing brackets.Sexp (frames.Fields ss ms ∷ fs) now h = absurd cc
-  closing brackets.Sexp (frames.Named ss ms key ∷ fs) now h = absurd cc
-  closing brackets.Fields [] now h = absurd cc
-  closing brackets.Fields (frames.Items listings.List ss vs ∷ fs) now h = absurd cc
-  closing brackets.Fields (frames.Items listings.Sexp ss vs ∷ fs) now h = absurd cc
-  closing brackets.Fields (frames.Fields ss ms ∷ fs) nows.Ready h = absurd cc
-  closing brackets.Fields (frames.Fields ss ms ∷ fs) (nows.Pending held e) h = absurd cc
-  closing brackets.Fields (frames.Fields ss ms ∷ fs) (nows.Long w e) h = absurd cc
   closing brackets.Fields (frames.Fields ss ms ∷ fs) nows.After h = (refl, tt)
   closing brackets.Fields (frames.Fields ss ms ∷ fs) nows.Name h = (refl, tt)
-  closing brackets.Fields (frames.Fields ss ms ∷ fs) (nows.LongName w) h = absurd cc
-  closing brackets.Fields (frames.Fields ss ms ∷ fs) (nows.Keyed name) h = absurd cc
-  closing brackets.Fields (frames.Named ss ms key ∷ fs) now h = absurd cc
+  closing _ _ _ h = absurd cc
 
 inner : (f : Frame) (fs : List Frame) → 1 < length (f ∷ fs) → is_top fs ≡ false
 inner f [] more = absurd (omega (arith, more))

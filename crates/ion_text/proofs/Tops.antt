@@ -500,7 +500,7 @@ walked_bare level octets count before after bracket w more opens low =
       used = omega arith;
       deep = omega arith;
       few = omega arith;
-      noted = container_noted places.Top m level octets count before after w more opens low;
+      noted = container_noted places.Top bracket level octets count before after w more opens low;
     }
 
 pub bare_scalar : (level : ℕ) (octets : List ℕ) (s : Scalar) (before after : Tally) (f : FoundScalar places.Top before.rest octets s) → s.waits ≡ false

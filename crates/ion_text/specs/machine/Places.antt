@@ -42,26 +42,7 @@ same_is places.List places.List h = refl
 same_is places.Sexp places.Sexp h = refl
 same_is places.Name places.Name h = refl
 same_is places.FieldValue places.FieldValue h = refl
-same_is places.Top places.List h = absurd cc
-same_is places.Top places.Sexp h = absurd cc
-same_is places.Top places.Name h = absurd cc
-same_is places.Top places.FieldValue h = absurd cc
-same_is places.List places.Top h = absurd cc
-same_is places.List places.Sexp h = absurd cc
-same_is places.List places.Name h = absurd cc
-same_is places.List places.FieldValue h = absurd cc
-same_is places.Sexp places.Top h = absurd cc
-same_is places.Sexp places.List h = absurd cc
-same_is places.Sexp places.Name h = absurd cc
-same_is places.Sexp places.FieldValue h = absurd cc
-same_is places.Name places.Top h = absurd cc
-same_is places.Name places.List h = absurd cc
-same_is places.Name places.Sexp h = absurd cc
-same_is places.Name places.FieldValue h = absurd cc
-same_is places.FieldValue places.Top h = absurd cc
-same_is places.FieldValue places.List h = absurd cc
-same_is places.FieldValue places.Sexp h = absurd cc
-same_is places.FieldValue places.Name h = absurd cc
+same_is _ _ h = absurd cc
 
 -- while a value waits, the place is that of a value
 pub pending_at : (fs : List Frame) (h : Held) (end : ℕ) → place_in fs (nows.Pending h end) ≡ place_in fs nows.Ready

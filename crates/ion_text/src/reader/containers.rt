@@ -2,8 +2,9 @@
 ghost use Rattle.std.specs.Prelude.{◌≡◌, [], ◌∷◌, None};
 ghost use Rattle.ion_text.specs.declared.state.Frame.TheVariants as frames;
 ghost use Rattle.ion_text.specs.declared.state.Now.TheVariants as nows;
+ghost use Rattle.ion_visiting.specs.declared.bracket.Bracket.TheVariants as brackets;
 ghost use Rattle.ion_atoms.specs.declared.refusal.Reason.TheVariants as reasons;
-ghost use Rattle.ion_text.specs.machine.EachToken.{at, goes, late, refuses, deeper, opening, closed, on_comma, named};
+ghost use Rattle.ion_text.specs.machine.EachToken.{at, goes, refuses, deeper, opening, closed, on_comma, named};
 ghost use Rattle.ion_text.specs.machine.Views.{setting_of, spot_of, open_frames, Does, SameSetting};
 
 use super::TextReader;
@@ -30,7 +31,7 @@ impl TextReader<'_> {
         }
     }
 
-    // Behind `[` or `(`.
+    /// Behind `[` or `(`.
     fn open_items(&mut self, listing: Listing) -> Result<Effect, Reason>
         requires { self.old.stage ≡ nows.Ready }
         ensures does { Does
@@ -50,14 +51,11 @@ impl TextReader<'_> {
         Ok(Effect::Goes)
     }
 
-    // Behind `{`.
+    /// Behind `{`.
     fn open_fields(&mut self) -> Result<Effect, Reason>
         ensures does { Does
-            (deeper self.old.limits.depth (open_frames self.old)
-            (goes (at self.old.start self.old.context
-            (frames.Fields self.old.notes [] ∷ open_frames self.old) [] nows.Name))
-            (late reasons.Depth (at self.old.start self.old.context
-            (frames.Fields self.old.notes [] ∷ open_frames self.old) [] nows.Name)))
+            (opening brackets.Fields self.old.limits.depth self.old.start self.old.context
+            (open_frames self.old) self.old.notes)
             result self.new }
         ensures setting { SameSetting self.old self.new }
     {

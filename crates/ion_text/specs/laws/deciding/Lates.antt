@@ -224,10 +224,7 @@ module _ (g : Catalog) (l : Limits) where
       (closed_late (LateAs (Mark' marks.ListClose)) (under g l) spot brackets.List fs)
   ready_late spot fs ss (Mark' marks.SexpClose) = bare_late (LateAs (Mark' marks.SexpClose)) ss _
       (closed_late (LateAs (Mark' marks.SexpClose)) (under g l) spot brackets.Sexp fs)
-  ready_late spot fs ss (Mark' marks.FieldsClose) = tt
-  ready_late spot fs ss (Mark' marks.Comma) = tt
-  ready_late spot fs ss (Mark' marks.Colon) = tt
-  ready_late spot fs ss (Mark' marks.Colons) = tt
+  ready_late spot fs ss (Mark' _) = tt
 
   noted_late : (start : ℕ) (c : List Slot) (fs : List Frame) (ss : Symbols) (r : Result (Option (List ℕ)) Reason)
       → TurnLate (LateAs (Mark' marks.Colons)) (noted start c fs ss r)

@@ -238,10 +238,7 @@ module _ (g : Catalog) (l : Limits) (sight : Sight) where
       ready_decided fs (s ∷ ss) (Mark' marks.ListClose) deep d says shown = λ i. absurd i
       ready_decided fs [] (Mark' marks.SexpClose) deep d says shown = items_decided start end c listings.Sexp fs
       ready_decided fs (s ∷ ss) (Mark' marks.SexpClose) deep d says shown = λ i. absurd i
-      ready_decided fs ss (Mark' marks.FieldsClose) deep d says shown = λ i. absurd i
-      ready_decided fs ss (Mark' marks.Comma) deep d says shown = λ i. absurd i
-      ready_decided fs ss (Mark' marks.Colon) deep d says shown = λ i. absurd i
-      ready_decided fs ss (Mark' marks.Colons) deep d says shown = λ i. absurd i
+      ready_decided fs ss (Mark' _) deep d says shown = λ i. absurd i
 
       before_apart : (fs : List Frame) (ss : Symbols) (h : Held) (d : PendingFor c fs ss h item) → (ends_long front && begins_as_long d.before) ≡ false
       before_apart fs ss h d = begins_so (ends_long front) d.before (d.token ∷ []) (subst (λ x. (ends_long front && begins_as_long x) ≡ false) d.whole apart)

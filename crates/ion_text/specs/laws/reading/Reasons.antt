@@ -145,10 +145,7 @@ module _ (g : Catalog) (l : Limits) where
   ready_decides spot fs ss (Mark' marks.FieldsOpen) = deeper_decides l.depth fs _ _ tt tt
   ready_decides spot fs ss (Mark' marks.ListClose) = bare_decides ss _ (closed_decides (under g l) spot brackets.List fs)
   ready_decides spot fs ss (Mark' marks.SexpClose) = bare_decides ss _ (closed_decides (under g l) spot brackets.Sexp fs)
-  ready_decides spot fs ss (Mark' marks.FieldsClose) = tt
-  ready_decides spot fs ss (Mark' marks.Comma) = tt
-  ready_decides spot fs ss (Mark' marks.Colon) = tt
-  ready_decides spot fs ss (Mark' marks.Colons) = tt
+  ready_decides spot fs ss (Mark' _) = tt
 
   noted_decides : (start : ℕ) (c : List Slot) (fs : List Frame) (ss : Symbols) (r : Result (Option (List ℕ)) Reason) → Decides r
       → TurnDecides (noted start c fs ss r)

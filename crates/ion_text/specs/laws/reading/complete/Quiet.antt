@@ -93,27 +93,7 @@ blank_idle _ _ (in_blank s o os s' e m) h = go (is_idle s.mode) refl (blank_idle
 long_is : (m : Mode) → is_idle m ≡ false → is_long_form (form_of m) ≡ true → (is_long_begun (Some (record { start = 0; end = 0; form = form_of m })) == 0)
     ≡ false → is_long_text m ≡ true
 long_is (modes.Text styles.LongString w) i h k = refl
-long_is modes.Quote i h k = absurd cc
-long_is modes.Quotes i h k = absurd cc
-long_is (modes.Text styles.ShortString w) i h k = absurd cc
-long_is (modes.Text styles.QuotedSymbol w) i h k = absurd cc
-long_is (modes.Text styles.ShortClob w) i h k = absurd cc
-long_is (modes.Text styles.LongClob w) i h k = absurd cc
-long_is modes.Blank i h k = absurd cc
-long_is modes.Slash i h k = absurd cc
-long_is modes.LineComment i h k = absurd cc
-long_is modes.BlockComment i h k = absurd cc
-long_is modes.BlockCommentStar i h k = absurd cc
-long_is modes.Colon i h k = absurd cc
-long_is modes.Word i h k = absurd cc
-long_is modes.KindName i h k = absurd cc
-long_is modes.Number i h k = absurd cc
-long_is modes.NumberSlash i h k = absurd cc
-long_is (modes.Operator e) i h k = absurd cc
-long_is modes.OperatorSlash i h k = absurd cc
-long_is (modes.Infinity n) i h k = absurd cc
-long_is modes.Brace i h k = absurd cc
-long_is (modes.Lob l) i h k = absurd cc
+long_is _ i h k = absurd cc
 
 module _ (g : Catalog) (l : Limits) where
   -- behind an element or a name a mark comes that is whole with its last octet, or a colon

@@ -20,27 +20,9 @@ never false e f = cc
 
 pub long_quoting : (m : Mode) → is_long_text m ≡ true → is_quoting m ≡ true
 long_quoting (modes.Text styles.LongString w) h = refl
-long_quoting (modes.Text styles.ShortString w) h = absurd cc
-long_quoting (modes.Text styles.QuotedSymbol w) h = absurd cc
-long_quoting (modes.Text styles.ShortClob w) h = absurd cc
-long_quoting (modes.Text styles.LongClob w) h = absurd cc
 long_quoting modes.Quote h = refl
 long_quoting modes.Quotes h = refl
-long_quoting modes.Blank h = absurd cc
-long_quoting modes.Slash h = absurd cc
-long_quoting modes.LineComment h = absurd cc
-long_quoting modes.BlockComment h = absurd cc
-long_quoting modes.BlockCommentStar h = absurd cc
-long_quoting modes.Colon h = absurd cc
-long_quoting modes.Word h = absurd cc
-long_quoting modes.KindName h = absurd cc
-long_quoting modes.Number h = absurd cc
-long_quoting modes.NumberSlash h = absurd cc
-long_quoting (modes.Operator x) h = absurd cc
-long_quoting modes.OperatorSlash h = absurd cc
-long_quoting (modes.Infinity n) h = absurd cc
-long_quoting modes.Brace h = absurd cc
-long_quoting (modes.Lob l) h = absurd cc
+long_quoting _ h = absurd cc
 
 quoting_goes : (m : Mode) → is_quoting m ≡ true → (is_idle m || is_quoting m) ≡ true
 quoting_goes m h = go (is_idle m) (is_quoting m) h

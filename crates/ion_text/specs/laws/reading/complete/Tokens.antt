@@ -150,23 +150,7 @@ name_goes top w start end k octets (Blob v) b = sym (segment_agree k octets (Blo
 
 closing_colons : (k : TokenKind) → is_closing k ≡ false → is_colons k ≡ false
 closing_colons (kinds.Mark marks.Colons) h = absurd cc
-closing_colons (kinds.Mark marks.Colon) h = refl
-closing_colons (kinds.Mark marks.Comma) h = refl
-closing_colons (kinds.Mark marks.FieldsOpen) h = refl
-closing_colons (kinds.Mark marks.FieldsClose) h = refl
-closing_colons (kinds.Mark marks.ListOpen) h = refl
-closing_colons (kinds.Mark marks.ListClose) h = refl
-closing_colons (kinds.Mark marks.SexpOpen) h = refl
-closing_colons (kinds.Mark marks.SexpClose) h = refl
-closing_colons kinds.Word h = refl
-closing_colons kinds.KindName h = refl
-closing_colons kinds.Number h = refl
-closing_colons kinds.Operator h = refl
-closing_colons kinds.QuotedSymbol h = refl
-closing_colons kinds.ShortString h = refl
-closing_colons kinds.LongString h = refl
-closing_colons kinds.Clob h = refl
-closing_colons kinds.Blob h = refl
+closing_colons _ h = refl
 
 or_false : (a b top : Bool) → a ≡ false → b ≡ false → (a || (top && b)) ≡ false
 or_false a b true h k = ap (λ x. x || b) h ∙ k

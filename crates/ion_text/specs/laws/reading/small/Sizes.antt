@@ -239,10 +239,7 @@ module _ (g : Catalog) (l : Limits) where
         (closed_weighs (under g l) spot brackets.List fs n (is_top fs) (omega (arith, h)))
     ready_weighs ss (Mark' marks.SexpClose) h = bare_weighs n l.item spot.start spot.end (is_top fs) ss _
         (closed_weighs (under g l) spot brackets.Sexp fs n (is_top fs) (omega (arith, h)))
-    ready_weighs ss (Mark' marks.FieldsClose) h = tt
-    ready_weighs ss (Mark' marks.Comma) h = tt
-    ready_weighs ss (Mark' marks.Colon) h = tt
-    ready_weighs ss (Mark' marks.Colons) h = tt
+    ready_weighs ss (Mark' _) h = tt
 
     noted_weighs : (ss : Symbols) (r : Result (Option (List ℕ)) Reason) → frames_nodes fs + length ss + 1 ≤ n
         → WeighsHere (noted spot.start spot.context fs ss r)

@@ -177,10 +177,7 @@ ready_deep setting spot fs ss (Mark' marks.SexpOpen) d = deeper_deep setting.lim
 ready_deep setting spot fs ss (Mark' marks.FieldsOpen) d = deeper_deep setting.limits.depth fs _ _ (λ k. (omega arith, d)) tt
 ready_deep setting spot fs ss (Mark' marks.ListClose) d = bare_deep setting.limits.depth ss _ (closed_deep setting.limits.depth setting spot brackets.List fs d)
 ready_deep setting spot fs ss (Mark' marks.SexpClose) d = bare_deep setting.limits.depth ss _ (closed_deep setting.limits.depth setting spot brackets.Sexp fs d)
-ready_deep setting spot fs ss (Mark' marks.FieldsClose) d = tt
-ready_deep setting spot fs ss (Mark' marks.Comma) d = tt
-ready_deep setting spot fs ss (Mark' marks.Colon) d = tt
-ready_deep setting spot fs ss (Mark' marks.Colons) d = tt
+ready_deep setting spot fs ss (Mark' _) d = tt
 
 noted_deep : (n start : ℕ) (c : List Slot) (fs : List Frame) (ss : Symbols) (r : Result (Option (List ℕ)) Reason) → Deep n fs
     → GoesDeep n (noted start c fs ss r)

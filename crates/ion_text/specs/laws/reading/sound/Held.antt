@@ -214,15 +214,7 @@ now_long g l begin end start c fs ss w (nows.Keyed s) = tt
 -- what a segment says
 pub segment_says : (k : TokenKind) (octets : List ℕ) (said : Content) → is_segment k ≡ true → IsBody k octets (Ok said) → said ≡ Long octets
 segment_says kinds.LongString octets said e h = h.0
-segment_says kinds.Word octets said e h = absurd cc
-segment_says kinds.KindName octets said e h = absurd cc
-segment_says kinds.Number octets said e h = absurd cc
-segment_says kinds.Operator octets said e h = absurd cc
-segment_says kinds.QuotedSymbol octets said e h = absurd cc
-segment_says kinds.ShortString octets said e h = absurd cc
-segment_says kinds.Clob octets said e h = absurd cc
-segment_says kinds.Blob octets said e h = absurd cc
-segment_says (kinds.Mark m) octets said e h = absurd cc
+segment_says _ octets said e h = absurd cc
 
 -- how a scanner stands to octets and tokens
 abbrev pub Scans : Type 1

@@ -339,10 +339,7 @@ module _ (g : Catalog) (l : Limits) where
   ready_sounds c fs (s ∷ ss) ts t (Mark' marks.ListClose) start dd d i n = tt
   ready_sounds c fs [] ts t (Mark' marks.SexpClose) start dd d i n = bare_sounds brackets.Sexp c fs ts t start dd d i
   ready_sounds c fs (s ∷ ss) ts t (Mark' marks.SexpClose) start dd d i n = tt
-  ready_sounds c fs ss ts t (Mark' marks.Comma) start dd d i n = tt
-  ready_sounds c fs ss ts t (Mark' marks.Colon) start dd d i n = tt
-  ready_sounds c fs ss ts t (Mark' marks.Colons) start dd d i n = tt
-  ready_sounds c fs ss ts t (Mark' marks.FieldsClose) start dd d i n = tt
+  ready_sounds c fs ss ts t (Mark' _) start dd d i n = tt
 
   -- `::` behind a symbol
   pub noted_sounds : (c : List Slot) (fs : List Frame) (ss : Symbols) (ts : List Placed) (t : Placed) (h : Held) (start end : ℕ)
@@ -416,25 +413,7 @@ module _ (g : Catalog) (l : Limits) where
       close_sounds brackets.List c fs ts t nows.After false start end (λ ss ms fs. refl) dd o i
   after_sounds c fs ts t (Mark' marks.FieldsClose) start end dd o i =
       close_sounds brackets.Fields c fs ts t nows.After false start end (λ ss ms fs. refl) dd o i
-  after_sounds c fs ts t (Word w) start end dd o i = tt
-  after_sounds c fs ts t (Id k) start end dd o i = tt
-  after_sounds c fs ts t (Quoted w) start end dd o i = tt
-  after_sounds c fs ts t (Short w) start end dd o i = tt
-  after_sounds c fs ts t (Long w) start end dd o i = tt
-  after_sounds c fs ts t (Number' k) start end dd o i = tt
-  after_sounds c fs ts t (TypedNull k) start end dd o i = tt
-  after_sounds c fs ts t (Operator w) start end dd o i = tt
-  after_sounds c fs ts t (Clob w) start end dd o i = tt
-  after_sounds c fs ts t (Blob w) start end dd o i = tt
-  after_sounds c fs ts t (Mark' marks.Colon) start end dd o i = tt
-  after_sounds c fs ts t (Mark' marks.Colons) start end dd o i = tt
-  after_sounds c fs ts t (Mark' marks.FieldsOpen) start end dd o i = tt
-  after_sounds c fs ts t (Mark' marks.ListOpen) start end dd o i = tt
-  after_sounds c fs ts t (Mark' marks.SexpOpen) start end dd o i = tt
-  after_sounds c fs ts t (Mark' marks.SexpClose) start end dd o i = tt
-  after_sounds c [] ts t (Mark' marks.Comma) start end dd o i = tt
-  after_sounds c (frames.Items listings.Sexp ss vs ∷ fs) ts t (Mark' marks.Comma) start end dd o i = tt
-  after_sounds c (frames.Named ss ms s ∷ fs) ts t (Mark' marks.Comma) start end dd o i = tt
+  after_sounds c fs ts t _ start end dd o i = tt
 
   pub name_sounds : (c : List Slot) (ss : Symbols) (ms : List Field) (fs : List Frame) (ts : List Placed) (t : Placed) (said : Content) (start end : ℕ)
       → Deep l.depth (frames.Fields ss ms ∷ fs) → Opened c (frames.Fields ss ms ∷ fs) ts true → Says places.Name t said
@@ -479,19 +458,7 @@ module _ (g : Catalog) (l : Limits) where
       ((refl, record { before = ts; name = t ∷ []; whole = refl; outer = o; struct = tt; is = segment t w i }), refl, tt)
   name_sounds c ss ms fs ts t (Mark' marks.FieldsClose) start end dd o i =
       close_sounds brackets.Fields c (frames.Fields ss ms ∷ fs) ts t nows.Name true start end (λ rs ns fs. refl) dd o i
-  name_sounds c ss ms fs ts t (TypedNull k) start end dd o i = tt
-  name_sounds c ss ms fs ts t (Number' n) start end dd o i = tt
-  name_sounds c ss ms fs ts t (Operator w) start end dd o i = tt
-  name_sounds c ss ms fs ts t (Clob w) start end dd o i = tt
-  name_sounds c ss ms fs ts t (Blob w) start end dd o i = tt
-  name_sounds c ss ms fs ts t (Mark' marks.Comma) start end dd o i = tt
-  name_sounds c ss ms fs ts t (Mark' marks.Colon) start end dd o i = tt
-  name_sounds c ss ms fs ts t (Mark' marks.Colons) start end dd o i = tt
-  name_sounds c ss ms fs ts t (Mark' marks.FieldsOpen) start end dd o i = tt
-  name_sounds c ss ms fs ts t (Mark' marks.ListOpen) start end dd o i = tt
-  name_sounds c ss ms fs ts t (Mark' marks.ListClose) start end dd o i = tt
-  name_sounds c ss ms fs ts t (Mark' marks.SexpOpen) start end dd o i = tt
-  name_sounds c ss ms fs ts t (Mark' marks.SexpClose) start end dd o i = tt
+  name_sounds c ss ms fs ts t _ start end dd o i = tt
 
   -- the colon behind a name
   pub keyed_sounds : (c : List Slot) (ss : Symbols) (ms : List Field) (fs : List Frame) (ts : List Placed) (t : Placed) (s : Option (List ℕ)) (start end : ℕ)
@@ -547,71 +514,18 @@ module _ (g : Catalog) (l : Limits) where
       → Sounds c (start_now now start t.lexeme.start fs ss) t.lexeme.end (ts ++ t ∷ []) (turn g l (at start c fs ss now) (token_of t.lexeme said))
   turn_sounds c fs ss nows.Ready ts t said start dd d i a = ready_sounds c fs ss ts t said (begun_at start t.lexeme.start fs ss) dd d i a
   turn_sounds c fs ss (nows.Pending h end) ts t (Mark' marks.Colons) start dd d i a =
-      noted_sounds c fs ss ts t h start t.lexeme.end (held_symbol h) d (subst (λ p. Says p t (Mark' marks.Colons)) (pending_at fs h end) i)
-      refl
-  turn_sounds c fs ss (nows.Pending h end) ts t (Mark' marks.Colon) start dd d i a = tt
-  turn_sounds c fs ss (nows.Pending h end) ts t (Mark' marks.Comma) start dd d i a = tt
-  turn_sounds c fs ss (nows.Pending h end) ts t (Mark' marks.FieldsOpen) start dd d i a = tt
-  turn_sounds c fs ss (nows.Pending h end) ts t (Mark' marks.FieldsClose) start dd d i a = tt
-  turn_sounds c fs ss (nows.Pending h end) ts t (Mark' marks.ListOpen) start dd d i a = tt
-  turn_sounds c fs ss (nows.Pending h end) ts t (Mark' marks.ListClose) start dd d i a = tt
-  turn_sounds c fs ss (nows.Pending h end) ts t (Mark' marks.SexpOpen) start dd d i a = tt
-  turn_sounds c fs ss (nows.Pending h end) ts t (Mark' marks.SexpClose) start dd d i a = tt
+      noted_sounds c fs ss ts t h start t.lexeme.end (held_symbol h) d (subst (λ p. Says p t (Mark' marks.Colons)) (pending_at fs h end) i) refl
+  turn_sounds c fs ss (nows.Pending h end) ts t _ start dd d i a = tt
   turn_sounds c fs ss (nows.Long v end) ts t (Long w) start dd d i a =
       joined_sounds c fs ss ts t v w start t.lexeme.end d (subst (λ p. Says p t (Long w)) (long_at fs v end) i)
-  turn_sounds c fs ss (nows.Long v end) ts t (Mark' m) start dd d i a = tt
+  turn_sounds c fs ss (nows.Long v end) ts t _ start dd d i a = tt
   turn_sounds c fs ss nows.After ts t said start dd d i a = after_sounds c fs ts t said start t.lexeme.end dd d.0 i
   turn_sounds c (frames.Fields rs ms ∷ fs) ss nows.Name ts t said start dd d i a = name_sounds c rs ms fs ts t said start t.lexeme.end dd d.0 i
   turn_sounds c (frames.Fields rs ms ∷ fs) ss (nows.LongName v) ts t (Long w) start dd d i a =
       long_name_sounds c (frames.Fields rs ms ∷ fs) ts t v w start t.lexeme.end d i
-  turn_sounds c (frames.Fields rs ms ∷ fs) ss (nows.LongName v) ts t (Mark' m) start dd d i a = tt
+  turn_sounds c (frames.Fields rs ms ∷ fs) ss (nows.LongName v) ts t _ start dd d i a = tt
   turn_sounds c (frames.Fields rs ms ∷ fs) ss (nows.Keyed s) ts t (Mark' marks.Colon) start dd d i a = keyed_sounds c rs ms fs ts t s start t.lexeme.end d i
-  turn_sounds c (frames.Fields rs ms ∷ fs) ss (nows.Keyed s) ts t (Mark' marks.Colons) start dd d i a = tt
-  turn_sounds c (frames.Fields rs ms ∷ fs) ss (nows.Keyed s) ts t (Mark' marks.Comma) start dd d i a = tt
-  turn_sounds c (frames.Fields rs ms ∷ fs) ss (nows.Keyed s) ts t (Mark' marks.FieldsOpen) start dd d i a = tt
-  turn_sounds c (frames.Fields rs ms ∷ fs) ss (nows.Keyed s) ts t (Mark' marks.FieldsClose) start dd d i a = tt
-  turn_sounds c (frames.Fields rs ms ∷ fs) ss (nows.Keyed s) ts t (Mark' marks.ListOpen) start dd d i a = tt
-  turn_sounds c (frames.Fields rs ms ∷ fs) ss (nows.Keyed s) ts t (Mark' marks.ListClose) start dd d i a = tt
-  turn_sounds c (frames.Fields rs ms ∷ fs) ss (nows.Keyed s) ts t (Mark' marks.SexpOpen) start dd d i a = tt
-  turn_sounds c (frames.Fields rs ms ∷ fs) ss (nows.Keyed s) ts t (Mark' marks.SexpClose) start dd d i a = tt
-  turn_sounds c fs ss (nows.Pending h end) ts t (Word w) start dd d i a = tt
-  turn_sounds c (frames.Fields rs ms ∷ fs) ss (nows.Keyed x) ts t (Word w) start dd d i a = tt
-  turn_sounds c fs ss (nows.Pending h end) ts t (Id k) start dd d i a = tt
-  turn_sounds c (frames.Fields rs ms ∷ fs) ss (nows.Keyed x) ts t (Id k) start dd d i a = tt
-  turn_sounds c fs ss (nows.Pending h end) ts t (Quoted w) start dd d i a = tt
-  turn_sounds c (frames.Fields rs ms ∷ fs) ss (nows.Keyed x) ts t (Quoted w) start dd d i a = tt
-  turn_sounds c fs ss (nows.Pending h end) ts t (Short w) start dd d i a = tt
-  turn_sounds c (frames.Fields rs ms ∷ fs) ss (nows.Keyed x) ts t (Short w) start dd d i a = tt
-  turn_sounds c fs ss (nows.Pending h end) ts t (Number' k) start dd d i a = tt
-  turn_sounds c (frames.Fields rs ms ∷ fs) ss (nows.Keyed x) ts t (Number' k) start dd d i a = tt
-  turn_sounds c fs ss (nows.Pending h end) ts t (TypedNull k) start dd d i a = tt
-  turn_sounds c (frames.Fields rs ms ∷ fs) ss (nows.Keyed x) ts t (TypedNull k) start dd d i a = tt
-  turn_sounds c fs ss (nows.Pending h end) ts t (Operator w) start dd d i a = tt
-  turn_sounds c (frames.Fields rs ms ∷ fs) ss (nows.Keyed x) ts t (Operator w) start dd d i a = tt
-  turn_sounds c fs ss (nows.Pending h end) ts t (Clob w) start dd d i a = tt
-  turn_sounds c (frames.Fields rs ms ∷ fs) ss (nows.Keyed x) ts t (Clob w) start dd d i a = tt
-  turn_sounds c fs ss (nows.Pending h end) ts t (Blob w) start dd d i a = tt
-  turn_sounds c (frames.Fields rs ms ∷ fs) ss (nows.Keyed x) ts t (Blob w) start dd d i a = tt
-  turn_sounds c fs ss (nows.Pending h end) ts t (Long w) start dd d i a = tt
-  turn_sounds c (frames.Fields rs ms ∷ fs) ss (nows.Keyed x) ts t (Long w) start dd d i a = tt
-  turn_sounds c fs ss (nows.Long v end) ts t (Word w) start dd d i a = tt
-  turn_sounds c (frames.Fields rs ms ∷ fs) ss (nows.LongName v) ts t (Word w) start dd d i a = tt
-  turn_sounds c fs ss (nows.Long v end) ts t (Id k) start dd d i a = tt
-  turn_sounds c (frames.Fields rs ms ∷ fs) ss (nows.LongName v) ts t (Id k) start dd d i a = tt
-  turn_sounds c fs ss (nows.Long v end) ts t (Quoted w) start dd d i a = tt
-  turn_sounds c (frames.Fields rs ms ∷ fs) ss (nows.LongName v) ts t (Quoted w) start dd d i a = tt
-  turn_sounds c fs ss (nows.Long v end) ts t (Short w) start dd d i a = tt
-  turn_sounds c (frames.Fields rs ms ∷ fs) ss (nows.LongName v) ts t (Short w) start dd d i a = tt
-  turn_sounds c fs ss (nows.Long v end) ts t (Number' k) start dd d i a = tt
-  turn_sounds c (frames.Fields rs ms ∷ fs) ss (nows.LongName v) ts t (Number' k) start dd d i a = tt
-  turn_sounds c fs ss (nows.Long v end) ts t (TypedNull k) start dd d i a = tt
-  turn_sounds c (frames.Fields rs ms ∷ fs) ss (nows.LongName v) ts t (TypedNull k) start dd d i a = tt
-  turn_sounds c fs ss (nows.Long v end) ts t (Operator w) start dd d i a = tt
-  turn_sounds c (frames.Fields rs ms ∷ fs) ss (nows.LongName v) ts t (Operator w) start dd d i a = tt
-  turn_sounds c fs ss (nows.Long v end) ts t (Clob w) start dd d i a = tt
-  turn_sounds c (frames.Fields rs ms ∷ fs) ss (nows.LongName v) ts t (Clob w) start dd d i a = tt
-  turn_sounds c fs ss (nows.Long v end) ts t (Blob w) start dd d i a = tt
-  turn_sounds c (frames.Fields rs ms ∷ fs) ss (nows.LongName v) ts t (Blob w) start dd d i a = tt
+  turn_sounds c (frames.Fields rs ms ∷ fs) ss (nows.Keyed s) ts t _ start dd d i a = tt
   turn_sounds c [] ss nows.Name ts t said start dd d i a = absurd d.1
   turn_sounds c (frames.Items listing rs vs ∷ fs) ss nows.Name ts t said start dd d i a = absurd d.1
   turn_sounds c (frames.Named rs ms y ∷ fs) ss nows.Name ts t said start dd d i a = absurd d.1

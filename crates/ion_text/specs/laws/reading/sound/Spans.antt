@@ -171,10 +171,7 @@ module _ (g : Catalog) (l : Limits) where
   ready_spans spot fs ss (Mark' marks.FieldsOpen) = deeper_spans (is_top fs) _ l.item spot.start spot.end l.depth fs _ _ (inl (inl refl, refl, tt)) tt
   ready_spans spot fs ss (Mark' marks.ListClose) = bare_spans (is_top fs) _ l.item spot.start spot.end ss _ (closed_spans (under g l) spot brackets.List fs)
   ready_spans spot fs ss (Mark' marks.SexpClose) = bare_spans (is_top fs) _ l.item spot.start spot.end ss _ (closed_spans (under g l) spot brackets.Sexp fs)
-  ready_spans spot fs ss (Mark' marks.FieldsClose) = tt
-  ready_spans spot fs ss (Mark' marks.Comma) = tt
-  ready_spans spot fs ss (Mark' marks.Colon) = tt
-  ready_spans spot fs ss (Mark' marks.Colons) = tt
+  ready_spans spot fs ss (Mark' _) = tt
 
   noted_spans : (spot : Spot) (fs : List Frame) (ss : Symbols) (r : Result (Option (List ℕ)) Reason)
       → Spans (is_top fs) (Mark' marks.Colons) l.item spot.start spot.end (noted spot.start spot.context fs ss r)

@@ -11,7 +11,7 @@ use Rattle.ion_tokens.specs.declared.mode.Place.{Place}
 use Rattle.ion_tokens.specs.declared.mode.Place.TheVariants as places
 use Rattle.ion_tokens.specs.declared.mode.TokenKind.{TokenKind}
 use Rattle.ion_tokens.specs.declared.mode.TokenKind.TheVariants as kinds
-use Rattle.ion_tokens.specs.Bodies.{Content, Word, Id, Quoted, Long, TypedNull, Operator, Clob, Blob, Mark', IsBody}
+use Rattle.ion_tokens.specs.Bodies.{Content, Word, Id, Quoted, Long, TypedNull, Mark', IsBody}
 use Rattle.ion_tokens.specs.Lexed.{Placed}
 use Rattle.ion_text.specs.declared.state.Held.{Held}
 use Rattle.ion_text.specs.declared.state.Held.TheVariants as helds
@@ -111,15 +111,7 @@ and_false true x h = h
 -- a token that says something else is no segment
 pub no_segment : (k : TokenKind) (octets : List ℕ) (said : Content) → ((w : List ℕ) → said ≡ Long w → ⊥) → IsBody k octets (Ok said) → is_segment k ≡ false
 no_segment kinds.LongString octets said n h = absurd (n octets h.0)
-no_segment kinds.Word octets said n h = refl
-no_segment kinds.KindName octets said n h = refl
-no_segment kinds.Number octets said n h = refl
-no_segment kinds.Operator octets said n h = refl
-no_segment kinds.QuotedSymbol octets said n h = refl
-no_segment kinds.ShortString octets said n h = refl
-no_segment kinds.Clob octets said n h = refl
-no_segment kinds.Blob octets said n h = refl
-no_segment (kinds.Mark m) octets said n h = refl
+no_segment _ octets said n h = refl
 
 pub symbol_no_long : (c : List Slot) (said : Content) (s : Option (List ℕ)) → IsSymbol c said s → (w : List ℕ) → said ≡ Long w → ⊥
 symbol_no_long c _ _ (is_word v h) w e = cc

@@ -107,15 +107,7 @@ feed_plainly p s o h = acts_plainly p s o (next p s.colon s.mode o) (table_plain
 mark_says : (k : TokenKind) (octets : List ℕ) (c : Content) → is_mark k ≡ true → said k octets ≡ Ok c → (m : Mark) × (c ≡ Mark' m)
 unfolding said
 mark_says (kinds.Mark m) octets c h e = (m, let f : Mark' m ≡ c = cc in sym f)
-mark_says kinds.Word octets c h e = absurd cc
-mark_says kinds.KindName octets c h e = absurd cc
-mark_says kinds.Number octets c h e = absurd cc
-mark_says kinds.Operator octets c h e = absurd cc
-mark_says kinds.QuotedSymbol octets c h e = absurd cc
-mark_says kinds.ShortString octets c h e = absurd cc
-mark_says kinds.LongString octets c h e = absurd cc
-mark_says kinds.Clob octets c h e = absurd cc
-mark_says kinds.Blob octets c h e = absurd cc
+mark_says _ octets c h e = absurd cc
 
 fields_say : (octets : List ℕ) (c : Content) → said (kinds.Mark marks.FieldsOpen) octets ≡ Ok c → c ≡ Mark' marks.FieldsOpen
 unfolding said
@@ -208,10 +200,7 @@ ready_stays setting spot [] (Mark' marks.ListClose) i = tt
 ready_stays setting spot (s ∷ ss) (Mark' marks.ListClose) i = tt
 ready_stays setting spot [] (Mark' marks.SexpClose) i = tt
 ready_stays setting spot (s ∷ ss) (Mark' marks.SexpClose) i = tt
-ready_stays setting spot ss (Mark' marks.FieldsClose) i = tt
-ready_stays setting spot ss (Mark' marks.Comma) i = tt
-ready_stays setting spot ss (Mark' marks.Colon) i = tt
-ready_stays setting spot ss (Mark' marks.Colons) i = tt
+ready_stays setting spot ss (Mark' _) i = tt
 
 noted_stays : (start : ℕ) (c : List Slot) (ss : Symbols) (s : Result (Option (List ℕ)) Reason) → OpensNone (noted start c [] ss s)
 noted_stays start c ss (Ok s) = (refl, tt)
@@ -247,10 +236,7 @@ ready_never setting spot [] marks.ListClose = tt
 ready_never setting spot (s ∷ ss) marks.ListClose = tt
 ready_never setting spot [] marks.SexpClose = tt
 ready_never setting spot (s ∷ ss) marks.SexpClose = tt
-ready_never setting spot ss marks.FieldsClose = tt
-ready_never setting spot ss marks.Comma = tt
-ready_never setting spot ss marks.Colon = tt
-ready_never setting spot ss marks.Colons = tt
+ready_never setting spot ss _ = tt
 
 noted_never : (start : ℕ) (c : List Slot) (ss : Symbols) (s : Result (Option (List ℕ)) Reason) → Never (noted start c [] ss s)
 noted_never start c ss (Ok s) = tt

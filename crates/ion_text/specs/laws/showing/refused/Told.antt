@@ -75,23 +75,7 @@ text_quotes p colon k s since more h e = go s.mode e h.mode
 
 colons_is : (k : TokenKind) → is_colons k ≡ true → k ≡ kinds.Mark marks.Colons
 colons_is (kinds.Mark marks.Colons) h = refl
-colons_is (kinds.Mark marks.Colon) h = absurd cc
-colons_is (kinds.Mark marks.Comma) h = absurd cc
-colons_is (kinds.Mark marks.ListOpen) h = absurd cc
-colons_is (kinds.Mark marks.ListClose) h = absurd cc
-colons_is (kinds.Mark marks.SexpOpen) h = absurd cc
-colons_is (kinds.Mark marks.SexpClose) h = absurd cc
-colons_is (kinds.Mark marks.FieldsOpen) h = absurd cc
-colons_is (kinds.Mark marks.FieldsClose) h = absurd cc
-colons_is kinds.Word h = absurd cc
-colons_is kinds.KindName h = absurd cc
-colons_is kinds.Number h = absurd cc
-colons_is kinds.Operator h = absurd cc
-colons_is kinds.QuotedSymbol h = absurd cc
-colons_is kinds.ShortString h = absurd cc
-colons_is kinds.LongString h = absurd cc
-colons_is kinds.Clob h = absurd cc
-colons_is kinds.Blob h = absurd cc
+colons_is _ h = absurd cc
 
 module _ (p : Place) (colon : Bool) (k : ℕ) (s : Known) (since : List ℕ) (o : ℕ) (h : Holds p colon k s since) where
   all : (more : List ℕ) → (since ++ o ∷ []) ++ more ≡ since ++ o ∷ more

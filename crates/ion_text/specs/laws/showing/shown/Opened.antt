@@ -66,15 +66,7 @@ lexed_from n (t ∷ ts) colon before octets after end rest g l k (q, b, h) =
 
 pub segment_is : (k : TokenKind) → is_segment k ≡ true → k ≡ kinds.LongString
 segment_is kinds.LongString h = refl
-segment_is kinds.Word h = absurd cc
-segment_is kinds.KindName h = absurd cc
-segment_is kinds.Number h = absurd cc
-segment_is kinds.Operator h = absurd cc
-segment_is kinds.QuotedSymbol h = absurd cc
-segment_is kinds.ShortString h = absurd cc
-segment_is kinds.Clob h = absurd cc
-segment_is kinds.Blob h = absurd cc
-segment_is (kinds.Mark m) h = absurd cc
+segment_is _ h = absurd cc
 
 -- a token behind a blank that begins with these octets
 pub blank_token : (more x octets left rest : List ℕ) (colon : Bool) (n : ℕ) (t : Placed) (b : BeginsWith colon n octets t rest) → b.token ≡ more ++ x

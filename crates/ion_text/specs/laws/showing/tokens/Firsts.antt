@@ -96,15 +96,7 @@ symbol_first p t said i h = symbol_kind t.lexeme.kind t.lexeme.octets said i.bod
 
 segment_opens : (k : TokenKind) → is_segment k ≡ true → opens_item k ≡ true
 segment_opens kinds.LongString h = refl
-segment_opens kinds.Word h = absurd cc
-segment_opens kinds.KindName h = absurd cc
-segment_opens kinds.Number h = absurd cc
-segment_opens kinds.Operator h = absurd cc
-segment_opens kinds.QuotedSymbol h = absurd cc
-segment_opens kinds.ShortString h = absurd cc
-segment_opens kinds.Clob h = absurd cc
-segment_opens kinds.Blob h = absurd cc
-segment_opens (kinds.Mark m) h = absurd cc
+segment_opens _ h = absurd cc
 
 long_first : (p : Place) (t : Placed) (w : List ℕ) → Says p t (Long w) → opens_item t.lexeme.kind ≡ true
 long_first p t w i = segment_opens t.lexeme.kind (segment_kind t.lexeme.kind t.lexeme.octets w i.body)
@@ -234,23 +226,7 @@ quotes_never p colon now used (o ∷ o' ∷ os) r more s e ran i q =
 -- the end of the input ends no long text
 long_end : (p : Place) (s : Known) (x : Lexeme) (m : Mode) → is_long_text m ≡ true → ends_at s (end_of p m) ≡ Ok (Some x) → ⊥
 long_end p s x (modes.Text y w) h k = cc
-long_end p s x modes.Quote h k = absurd cc
-long_end p s x modes.Quotes h k = absurd cc
-long_end p s x modes.Blank h k = absurd cc
-long_end p s x modes.Slash h k = absurd cc
-long_end p s x modes.LineComment h k = absurd cc
-long_end p s x modes.BlockComment h k = absurd cc
-long_end p s x modes.BlockCommentStar h k = absurd cc
-long_end p s x modes.Colon h k = absurd cc
-long_end p s x modes.Word h k = absurd cc
-long_end p s x modes.KindName h k = absurd cc
-long_end p s x modes.Number h k = absurd cc
-long_end p s x modes.NumberSlash h k = absurd cc
-long_end p s x (modes.Operator y) h k = absurd cc
-long_end p s x modes.OperatorSlash h k = absurd cc
-long_end p s x (modes.Infinity n) h k = absurd cc
-long_end p s x modes.Brace h k = absurd cc
-long_end p s x (modes.Lob l) h k = absurd cc
+long_end p s x _ h k = absurd cc
 
 -- a token that begins with `''` is a segment, or that symbol
 pub quotes_first : (colon : Bool) (k : ℕ) (octets w more : List ℕ) (t : Placed) (r : List ℕ) → BeginsWith colon k octets t r

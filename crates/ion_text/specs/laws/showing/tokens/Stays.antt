@@ -9,7 +9,7 @@ use Rattle.ion_tokens.specs.declared.mode.Mark.{Mark}
 use Rattle.ion_tokens.specs.declared.mode.Mark.TheVariants as marks
 use Rattle.ion_tokens.specs.declared.mode.Place.{Place}
 use Rattle.ion_tokens.specs.declared.mode.Place.TheVariants as places
-use Rattle.ion_tokens.specs.Bodies.{Content, Word, Id, Quoted, Short, Long, Number', TypedNull, Operator, Clob, Blob, Mark'}
+use Rattle.ion_tokens.specs.Bodies.{Content, Word, Id, Quoted, Short, Long, TypedNull, Mark'}
 use Rattle.ion_tokens.specs.Lexed.{Placed}
 use Rattle.ion_text.specs.declared.state.Held.{Held}
 use Rattle.ion_text.specs.declared.state.Held.TheVariants as helds
@@ -320,13 +320,7 @@ module _ (g : Catalog) (l : Limits) where
       ∙ ap (λ x. goes (at start c fs ss (nows.Pending x end))) (sym k.2)
   symbol_waits end start c fs ss (Quoted w) h e k = ap (λ x. goes (at start c fs ss (nows.Pending x end))) (sym k)
   symbol_waits end start c fs ss (TypedNull n) h e k = ap (λ x. goes (at start c fs ss (nows.Pending x end))) (sym k)
-  symbol_waits end start c fs ss (Short w) h e k = absurd cc
-  symbol_waits end start c fs ss (Long w) h e k = absurd cc
-  symbol_waits end start c fs ss (Number' w) h e k = absurd cc
-  symbol_waits end start c fs ss (Operator w) h e k = absurd cc
-  symbol_waits end start c fs ss (Clob w) h e k = absurd cc
-  symbol_waits end start c fs ss (Blob w) h e k = absurd cc
-  symbol_waits end start c fs ss (Mark' w) h e k = absurd cc
+  symbol_waits end start c fs ss _ h e k = absurd cc
 
   said_no_colons : (said : Content) → symbol_said said ≡ true → said ≡ Mark' marks.Colons → ⊥
   said_no_colons said h e = never (symbol_said said) (ap symbol_said e) h
