@@ -24,7 +24,6 @@ use Rattle.ion_tokens.specs.machine.Table.{next}
 use Rattle.ion_tokens.specs.machine.Views.{scanned, begun_in, behind, form_of}
 use Rattle.ion_tokens.specs.machine.Scanning as scanning
 use Rattle.ion_tokens.specs.machine.Scanning.{Known, Outcome, Next, Given, Left, Refused, start_of, go_to, cut, past, acts, blob_ends, feed, follow}
-use Rattle.ion_tokens.specs.Lexemes.{Lexeme}
 use Rattle.ion_tokens.proofs.runs.Runs.{feed_used, next_used}
 use Rattle.ion_tokens.proofs.runs.LastOctets.{IsLast, last_octet, refused_here}
 use Rattle.ion_text.specs.declared.state.Now.{Now}
