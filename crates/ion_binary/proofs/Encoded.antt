@@ -8,8 +8,8 @@ use Rattle.ion_model.specs.declared.value.Field.{Field}
 use Rattle.ion_model.specs.Kept.{KeptItems, no_items, KeptFields, no_fields}
 use Rattle.ion_model.specs.declared.value.Value.{Value}
 use Rattle.ion_model.specs.declared.value.Payload.TheViews.{out-Payload}
-use Rattle.ion_binary.specs.Output.{Names, framed, with_count, ids_octets, wrapped, value_octets}
-use Rattle.ion_binary.specs.laws.writing.Output.{layer_octets, octets-out}
+use Rattle.ion_binary.specs.Output.{Names, framed, with_count, ids_octets, wrapped, value_octets, layer_octets}
+use Rattle.ion_binary.specs.laws.writing.Output.{octets-out}
 use Rattle.ion_binary.specs.writer.Later.{IsLater}
 
 wrapped_none : (names ss : Names) (w : List ℕ) → length ss ≡ 0 → wrapped names ss w ≡ w

@@ -5,10 +5,10 @@ use Rattle.std.proofs.lemmas.List.{drop_more}
 use Rattle.std.proofs.lemmas.List.Sums.{fold-append}
 use Rattle.ion_model.specs.Symbols.{symbol_same}
 use Rattle.ion_symtab.specs.declared.fault.Fault.{Fault}
-use Rattle.ion_binary.specs.Output.{Names, with_name, with_names, names_after}
+use Rattle.ion_binary.specs.Output.{Names, with_name, with_names, names_after, layer_symbols}
 use Rattle.ion_model.specs.declared.value.Value.{Value}
 use Rattle.ion_model.specs.declared.value.Payload.TheViews.{out-Payload}
-use Rattle.ion_binary.specs.laws.writing.Output.{layer_symbols, symbols-out}
+use Rattle.ion_binary.specs.laws.writing.Output.{symbols-out}
 use Rattle.ion_binary.specs.Writing.{IsNumberingFault}
 
 longer_if : (names : Names) (s : Option (List ℕ)) (b : Bool) → length names ≤ length (if b then names else names ++ s ∷ [])

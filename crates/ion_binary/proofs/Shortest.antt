@@ -13,8 +13,7 @@ use Rattle.ion_scalar.specs.Positional.{positional_behind, positional_one}
 use Rattle.ion_symtab.specs.Slots.{Slot}
 use Rattle.ion_binary.specs.declared.form.Scalar.TheVariants as scalars
 use Rattle.ion_binary.specs.Grammar.{is_int, is_negative}
-use Rattle.ion_binary.specs.Output.{Names, with_names, framed, whole_octets}
-use Rattle.ion_binary.specs.laws.writing.Output.{layer_octets, layer_symbols}
+use Rattle.ion_binary.specs.Output.{Names, with_names, framed, whole_octets, layer_octets, layer_symbols}
 use Rattle.ion_binary.specs.laws.reading.GivesKept.{negative_whole}
 use Rattle.ion_binary.specs.machine.Transcribed.{IsShortest, TranscribedScalar}
 

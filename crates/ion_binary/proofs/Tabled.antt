@@ -5,8 +5,8 @@ use Rattle.ion_model.specs.declared.value.Payload.TheVariants as payloads
 use Rattle.ion_model.specs.declared.value.Payload.TheViews as views
 use Rattle.ion_model.specs.Measures.{Layer, bare}
 use Rattle.ion_scalar.specs.binary.Spellings.{uint_octets, var_uint_octets}
-use Rattle.ion_binary.specs.Output.{Names, id_of, framed, with_count, wrapped, named_octets, value_octets, name_text, string_value, table_value}
-use Rattle.ion_binary.specs.laws.writing.Output.{layer_octets, octets-out}
+use Rattle.ion_binary.specs.Output.{Names, id_of, framed, with_count, wrapped, named_octets, value_octets, name_text, string_value, table_value, layer_octets}
+use Rattle.ion_binary.specs.laws.writing.Output.{octets-out}
 use Rattle.ion_binary.specs.laws.writing.TableWritten.{table_word, imports_word, symbols_word, table_fields}
 
 string_octets : (names : Names) (s : Option (List ℕ)) → value_octets names (string_value s) ≡ framed 8 (name_text s)

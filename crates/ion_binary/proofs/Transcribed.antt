@@ -16,9 +16,8 @@ use Rattle.ion_model.specs.Measures.{Layer, bare, annotated, field_of}
 use Rattle.ion_scalar.specs.binary.Spellings.{uint_octets, var_uint_octets}
 use Rattle.ion_binary.specs.declared.transcription.Transcription.{Transcription}
 use Rattle.ion_visiting.specs.Visits.{Visited, bare_visited, annotated_visited, VisitedPayload, in_one, in_list, in_sexp, in_struct, VisitedItems, no_items, one_item, VisitedFields, no_fields, one_field, VisitedAnnotations, no_annotations, one_annotation}
-use Rattle.ion_binary.specs.Output.{Names, id_of, with_name, with_names, names_after, symbols_of, value_octets, framed, with_count, ids_octets, null_octet, truth_octet}
+use Rattle.ion_binary.specs.Output.{Names, id_of, with_name, with_names, names_after, symbols_of, value_octets, framed, with_count, ids_octets, null_octet, truth_octet, layer_octets, layer_symbols, field_octets, field_symbols}
 use Rattle.ion_binary.specs.visiting.Transcribing.{transcribing, AddsPart, AddsId, AddsPlace, Frames}
-use Rattle.ion_binary.specs.laws.writing.Output.{layer_octets, layer_symbols, field_octets, field_symbols}
 use Rattle.ion_binary.specs.machine.Transcribed.{Appends, HasId, Named, Transcribed}
 use Rattle.ion_binary.proofs.Encoded.{octets_bare, octets_wrapped, framed_at}
 use Rattle.ion_binary.proofs.Numbered.{of_bare, of_value}

@@ -19,8 +19,7 @@ use Rattle.ion_atoms.specs.Timestamps.{TimestampParts}
 use Rattle.ion_symtab.specs.Slots.{Slot, resolve}
 use Rattle.ion_binary.specs.declared.form.Scalar.{Scalar}
 use Rattle.ion_binary.specs.Grammar.{IsScalar, is_int, is_negative, is_decimal, is_timestamp, is_symbol, is_string, is_clob, is_blob}
-use Rattle.ion_binary.specs.Output.{Names, with_name, with_names, framed, with_count, whole_octets}
-use Rattle.ion_binary.specs.laws.writing.Output.{layer_octets, layer_symbols}
+use Rattle.ion_binary.specs.Output.{Names, with_name, with_names, framed, with_count, whole_octets, layer_octets, layer_symbols}
 use Rattle.ion_binary.specs.laws.reading.GivesKept.{negative_whole}
 use Rattle.ion_binary.specs.machine.Transcribed.{Named, HasId, TranscribedScalar}
 use Rattle.ion_binary.specs.declared.form.Scalar.TheVariants as scalars

@@ -1,16 +1,18 @@
 -- The one binary document that is written for a stream of values (Ion 1.0, "Ion Binary Encoding" and "Symbols").
-use Rattle.std.specs.Prelude.{if◌then◌else◌, ℕ, ℤ, pos, int_lt, unsigned_abs, ◌+◌, ◌*◌, Bool, true, false, nat_lt, List, [], ◌∷◌, ◌++◌, length, drop, map, Option, None, Some, codes}
+use Rattle.std.specs.Prelude.{if◌then◌else◌, ◌<◌, ◌≤◌, ℕ, suc, ℤ, pos, int_lt, unsigned_abs, ◌+◌, ◌*◌, Bool, true, false, nat_lt, List, [], ◌∷◌, ◌++◌, length, drop, map, Option, None, Some, codes}
 use Rattle.std.specs.List.{list_any, position_or_len, flat_map, fold}
 use Rattle.ion_atoms.specs.declared.kind.Kind.{Kind}
 use Rattle.ion_atoms.specs.declared.kind.Kind.TheVariants as kinds
 use Rattle.ion_model.specs.declared.value.Value.{Value}
+use Rattle.ion_model.specs.declared.value.Field.{Field}
 use Rattle.ion_model.specs.declared.value.Payload.TheVariants as payloads
 use Rattle.ion_model.specs.declared.value.Payload.TheOpen.{Payload-F}
 use Rattle.ion_model.specs.declared.value.Payload.TheFolds.{fold-Value}
-use Rattle.ion_model.specs.Measures.{bare, annotated, field_of}
+use Rattle.ion_model.specs.Measures.{Layer, depth, bare, annotated, field_of}
 use Rattle.ion_model.specs.Symbols.{symbol_same}
 use Rattle.ion_scalar.specs.binary.Spellings.{var_uint_octets, uint_octets, decimal_octets}
-use Rattle.ion_symtab.specs.Slots.{system_texts}
+use Rattle.ion_symtab.specs.declared.limits.Limits.{Limits}
+use Rattle.ion_symtab.specs.Slots.{system_texts, greatest_id}
 use Rattle.ion_binary.specs.Grammar.{the_marker}
 use Rattle.ion_scalar.specs.binary.TimestampSpellings.{timestamp_octets}
 
@@ -45,6 +47,18 @@ symbols_step _ = []
 -- the symbols of a value in the order of their use: its annotations, then its payload, a field's name before its value
 unfoldable pub symbols_of : Value → Names
 symbols_of v = fold-Value Names Names Names symbols_step (λ f. f.name ∷ f.value) (λ v. v.annotations ++ v.payload) v
+
+-- the name of a field, and the symbols of its value
+abbrev pub field_symbols : Field → Names
+field_symbols f = f.name ∷ symbols_of f.value
+
+-- the symbols of one level
+abbrev pub layer_symbols : Layer → Names
+layer_symbols (Payload-F.Symbol s) = s ∷ []
+layer_symbols (Payload-F.List vs) = flat_map symbols_of vs
+layer_symbols (Payload-F.Sexp vs) = flat_map symbols_of vs
+layer_symbols (Payload-F.Fields fs) = flat_map field_symbols fs
+layer_symbols _ = []
 
 -- 2. Octets.
 
@@ -115,6 +129,25 @@ unfoldable pub value_octets : Names → Value → List ℕ
 value_octets names v = fold-Value (List ℕ) (List ℕ) (List ℕ) (octets_step names) (λ f. named_octets names f.name f.value)
     (λ v. wrapped names v.annotations v.payload) v
 
+-- the id of a field's name, and the octets of its value
+abbrev pub field_octets : Names → Field → List ℕ
+field_octets names f = named_octets names f.name (value_octets names f.value)
+
+-- the octets of one level
+abbrev pub layer_octets : Names → Layer → List ℕ
+layer_octets names (Payload-F.Null k) = null_octet k ∷ []
+layer_octets names (Payload-F.Truth b) = truth_octet b ∷ []
+layer_octets names (Payload-F.Int z) = whole_octets z
+layer_octets names (Payload-F.Decimal d) = framed 5 (decimal_octets d)
+layer_octets names (Payload-F.Timestamp t) = framed 6 (timestamp_octets t)
+layer_octets names (Payload-F.Symbol s) = framed 7 (uint_octets (id_of names s))
+layer_octets names (Payload-F.Str text) = framed 8 text
+layer_octets names (Payload-F.Clob body) = framed 9 body
+layer_octets names (Payload-F.Blob body) = framed 10 body
+layer_octets names (Payload-F.List vs) = framed 11 (flat_map (value_octets names) vs)
+layer_octets names (Payload-F.Sexp vs) = framed 12 (flat_map (value_octets names) vs)
+layer_octets names (Payload-F.Fields fs) = framed 13 (flat_map (field_octets names) fs)
+
 -- 3. Tables ("Local Symbol Tables").
 
 -- a name as an element of `symbols`
@@ -177,3 +210,22 @@ nothing_yet = record { names = system_names; begun = false }
 -- the document of the stream
 unfoldable pub bin_of : List Value → List ℕ
 bin_of s = bin_from nothing_yet s
+
+-- 5. Limits.
+
+-- a value and the table before it are within the limits, and so are the ids
+pub record ValueFits (l : Limits) (names : Names) (v : Value) : Type 0 where
+  pub ids : length (names_after names v) ≤ suc greatest_id
+  pub table : length (table_octets names (names_after names v)) ≤ l.item
+  pub table_deep : length names < length (names_after names v) → 2 ≤ l.depth
+  pub value : length (value_octets (names_after names v) v) ≤ l.item
+  pub value_deep : depth v ≤ l.depth
+
+-- each value, behind these names
+abbrev pub FitBehind : Limits → Names → List Value → Type 0
+FitBehind l names [] = Unit {0}
+FitBehind l names (v ∷ vs) = ValueFits l names v × FitBehind l (names_after names v) vs
+
+-- a document of these values is within the limits
+abbrev pub FitsIn : Limits → List Value → Type 0
+FitsIn l s = FitBehind l system_names s

@@ -17,7 +17,7 @@ ghost use Rattle.ion_atoms.specs.declared.kind.Kind.TheVariants as kinds;
 ghost use Rattle.ion_symtab.specs.Took.{Took};
 ghost use Rattle.ion_binary.specs.declared.form.Opening.TheVariants.{Null, Truth};
 ghost use Rattle.ion_binary.specs.Opening.{opening_of};
-ghost use Rattle.ion_binary.specs.Output.{bin_of, nothing_yet, null_octet, truth_octet};
+ghost use Rattle.ion_binary.specs.Output.{bin_of, nothing_yet, null_octet, truth_octet, FitsIn};
 ghost use Rattle.ion_binary.specs.writer.Calls.{WritesEach};
 ghost use Rattle.ion_binary.specs.laws.reading.Rows.{AreDocuments, worked_documents};
 ghost use Rattle.ion_binary.specs.laws.writing.Rows.{worked};
@@ -27,7 +27,6 @@ ghost use Rattle.ion_atoms.specs.declared.refusal.Reason.{Reason};
 ghost use Rattle.ion_atoms.specs.declared.refusal.Reason.TheVariants.{Incomplete};
 ghost use Rattle.ion_binary.specs.machine.Run.{trace};
 ghost use Rattle.ion_binary.specs.Deciding.{Decides, Answers};
-ghost use Rattle.ion_binary.specs.laws.writing.RoundTrip.{FitsIn};
 
 use ion_symtab::Outlet;
 

@@ -6,12 +6,10 @@ use Rattle.ion_symtab.specs.declared.fault.Fault.TheVariants.{Memory, Read, Writ
 use Rattle.ion_symtab.specs.declared.limits.Limits.{Limits}
 use Rattle.ion_symtab.specs.declared.outlet.Outlet.{Ghosts as Outlet}
 use Rattle.ion_symtab.specs.Took.{Took, TookFront}
-use Rattle.ion_binary.specs.Output.{bin_of, nothing_yet}
+use Rattle.ion_binary.specs.Output.{bin_of, nothing_yet, FitsIn as FitsInBinary}
 use Rattle.ion_binary.specs.writer.Puts.{behind}
 use Rattle.ion_binary.specs.Writing.{NeedsLargeId}
-use Rattle.ion_binary.specs.laws.writing.RoundTrip.{FitsIn as FitsInBinary}
-use Rattle.ion_text.specs.Output.{text_of}
-use Rattle.ion_text.specs.laws.writing.RoundTrip.{FitsIn as FitsInText}
+use Rattle.ion_text.specs.Output.{text_of, FitsIn as FitsInText}
 use Rattle.ion_symtab.specs.declared.target.Target.{Target}
 use Rattle.ion_symtab.specs.declared.target.Target.TheVariants.{Binary, Text}
 

@@ -3,8 +3,8 @@ use Rattle.std.proofs.Common.{◌≡◌, ℕ, ◌+◌, ◌-◌, ◌<◌, ◌≤�
 use Rattle.std.proofs.lemmas.Bool.Decides.{nat_tests}
 use Rattle.std.proofs.lemmas.List.{drop_more, take_more, drop_all}
 use Rattle.ion_text.specs.declared.escape.Quotes.{Quotes}
-use Rattle.ion_text.specs.Output.{of_symbol, escape, escaped_text}
-use Rattle.ion_text.specs.laws.writing.RawRuns.{is_raw, raw_escape}
+use Rattle.ion_text.specs.Output.{of_symbol, escape, escaped_text, is_raw}
+use Rattle.ion_text.specs.laws.writing.RawRuns.{raw_escape}
 
 -- what is written of the octet at an index, and of what follows
 escaped_drop : (q : Quotes) (s : List ℕ) (i : ℕ) → i < length s → escaped_text q (drop i s) ≡ escape q (get_or s i 0) ++ escaped_text q (drop (i + 1) s)

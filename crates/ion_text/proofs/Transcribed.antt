@@ -17,8 +17,8 @@ use Rattle.ion_scalar.specs.declared.number.Number.TheVariants as numbers
 use Rattle.ion_scalar.specs.text.Texts.{number_text}
 use Rattle.ion_visiting.specs.declared.bracket.Bracket.{Bracket}
 use Rattle.ion_visiting.specs.Visits.{Visited, bare_visited, annotated_visited, VisitedPayload, in_one, in_list, in_sexp, in_struct, VisitedItems, no_items, one_item, VisitedFields, no_fields, one_field, VisitedAnnotations, no_annotations, one_annotation}
-use Rattle.ion_text.specs.Output.{known_text, symbol_text, notes_text, separated, enclosed, value_text}
-use Rattle.ion_text.specs.laws.writing.Output.{layer_text, field_text, text-out}
+use Rattle.ion_text.specs.Output.{known_text, symbol_text, notes_text, separated, enclosed, value_text, layer_text, field_text}
+use Rattle.ion_text.specs.laws.writing.Output.{text-out}
 use Rattle.ion_text.specs.declared.transcription.Transcription.{Transcription}
 use Rattle.ion_text.specs.declared.reader.walks.Tally.{Tally}
 use Rattle.ion_visiting.specs.Parts.{number_payload, payload_of}

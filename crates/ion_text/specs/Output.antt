@@ -1,15 +1,18 @@
 -- The one text document that is written for a stream of values (Ion 1.0, "Ion Text Encoding"): each value on a line of its own, in its
 -- one spelling.
-use Rattle.std.specs.Prelude.{ℕ, ◌+◌, ◌-◌, ◌/◌, ◌%◌, ◌==◌, Bool, true, false, not, ◌&&◌, ◌||◌, nat_le, nat_lt, List, [], ◌∷◌, ◌++◌, Option, None, Some, codes, if◌then◌else◌}
+use Rattle.std.specs.Prelude.{ℕ, ◌≤◌, ◌+◌, ◌-◌, ◌/◌, ◌%◌, ◌==◌, Bool, true, false, not, ◌&&◌, ◌||◌, nat_le, nat_lt, List, [], ◌∷◌, ◌++◌, length, map, Option, None, Some, codes, if◌then◌else◌}
 use Rattle.std.specs.List.{flat_map, list_all}
 use Rattle.ion_atoms.specs.declared.kind.Kind.{Kind}
 use Rattle.ion_atoms.specs.declared.kind.Kind.TheVariants as kinds
 use Rattle.ion_atoms.specs.Kinds.{kind_name}
 use Rattle.ion_model.specs.declared.value.Value.{Value}
+use Rattle.ion_model.specs.declared.value.Field.{Field}
 use Rattle.ion_model.specs.declared.value.Payload.TheOpen.{Payload-F}
 use Rattle.ion_model.specs.declared.value.Payload.TheFolds.{fold-Value}
+use Rattle.ion_model.specs.Measures.{Layer, depth}
 use Rattle.ion_scalar.specs.declared.number.Number.TheVariants as numbers
 use Rattle.ion_scalar.specs.text.Texts.{number_text}
+use Rattle.ion_symtab.specs.declared.limits.Limits.{Limits}
 use Rattle.ion_tokens.specs.Ascii.{tab, line_feed, carriage_return, space, double_quote, single_quote, digit_0, backslash, underscore, lower_a, lower_n, lower_r, lower_t, delete}
 use Rattle.ion_tokens.specs.Octets.{is_letter, is_word_octet}
 use Rattle.ion_tokens.specs.Blobs.{base64_of}
@@ -48,6 +51,10 @@ hexadecimal_escape o = codes "\\x" ++ hexadecimal_of (o / 16) ∷ hexadecimal_of
 -- an octet without such a letter stands as it is from the space on, but for 7F and, in ASCII, those from 80 on
 abbrev pub stands_raw : Bool → ℕ → Bool
 stands_raw ascii o = nat_le space o && (not (o == delete) && not (ascii && nat_le 0x80 o))
+
+-- no escape stands for the octet
+abbrev pub is_raw : Quotes → ℕ → Bool
+is_raw quotes o = not (o == backslash) && (not (o == quotes.delimiter) && stands_raw quotes.ascii o)
 
 abbrev pub escape_by : Bool → ℕ → Option ℕ → List ℕ
 escape_by ascii o (Some letter) = codes "\\" ++ letter ∷ []
@@ -138,6 +145,25 @@ text_step (Payload-F.Fields fs) = enclosed (codes "{") (codes ",") (codes "}") f
 unfoldable pub value_text : Value → List ℕ
 value_text v = fold-Value (List ℕ) (List ℕ) (List ℕ) text_step (λ f. named_text f.name f.value) (λ v. notes_text v.annotations ++ v.payload) v
 
+-- a field's name and the text of its value
+abbrev pub field_text : Field → List ℕ
+field_text f = named_text f.name (value_text f.value)
+
+-- the text of one level
+abbrev pub layer_text : Layer → List ℕ
+layer_text (Payload-F.Null k) = null_text k
+layer_text (Payload-F.Truth b) = truth_text b
+layer_text (Payload-F.Int z) = number_text (numbers.Int z)
+layer_text (Payload-F.Decimal d) = number_text (numbers.Decimal d)
+layer_text (Payload-F.Timestamp t) = number_text (numbers.Timestamp t)
+layer_text (Payload-F.Symbol s) = symbol_text s
+layer_text (Payload-F.Str text) = quoted of_string text
+layer_text (Payload-F.Clob octets) = clob_text octets
+layer_text (Payload-F.Blob octets) = blob_text octets
+layer_text (Payload-F.List vs) = enclosed (codes "[") (codes ",") (codes "]") (map value_text vs)
+layer_text (Payload-F.Sexp vs) = enclosed (codes "(") (codes " ") (codes ")") (map value_text vs)
+layer_text (Payload-F.Fields fs) = enclosed (codes "{") (codes ",") (codes "}") (map field_text fs)
+
 -- 4. Streams.
 
 -- what a value adds to the document: its text and LF
@@ -147,3 +173,15 @@ adds v = value_text v ++ codes "\n"
 -- the document of the stream
 abbrev pub text_of : List Value → List ℕ
 text_of s = flat_map adds s
+
+-- 5. Limits.
+
+-- a value as it is written is within the limits
+pub record ValueFits (l : Limits) (v : Value) : Type 0 where
+  pub long : length (value_text v) ≤ l.item
+  pub deep : depth v ≤ l.depth
+
+-- each value is
+abbrev pub FitsIn : Limits → List Value → Type 0
+FitsIn l [] = Unit {0}
+FitsIn l (v ∷ vs) = ValueFits l v × FitsIn l vs

@@ -5,8 +5,7 @@ ghost use Rattle.std.specs.Prelude.{◌≡◌, ◌<◌, ◌++◌, OnOk, IsOkUnle
 ghost use Rattle.std.specs.List.{take_while};
 ghost use Rattle.std.specs.Simd.Lanes.{mask_l};
 ghost use Rattle.ion_symtab.specs.declared.fault.Fault.TheVariants as faults;
-ghost use Rattle.ion_text.specs.laws.writing.RawRuns.{is_raw};
-ghost use Rattle.ion_text.specs.Output.{hexadecimal_of, letter_for, stands_raw, escape, escaped_text, quoted};
+ghost use Rattle.ion_text.specs.Output.{hexadecimal_of, letter_for, stands_raw, escape, escaped_text, quoted, is_raw};
 
 use ion_symtab::Fault;
 use std::simd::prelude::*;

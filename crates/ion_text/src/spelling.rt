@@ -6,8 +6,7 @@ ghost use Rattle.std.specs.List.{flat_map};
 ghost use Rattle.ion_model.specs.declared.value.Payload.TheViews.{out-Payload};
 ghost use Rattle.ion_model.specs.Kept.{IsText, AreTexts, IsKept, KeptItems, KeptFields, KeptLayer};
 ghost use Rattle.ion_symtab.specs.declared.fault.Fault.TheVariants as faults;
-ghost use Rattle.ion_text.specs.Output.{value_text, notes_text, separated, enclosed};
-ghost use Rattle.ion_text.specs.laws.writing.Output.{layer_text, field_text};
+ghost use Rattle.ion_text.specs.Output.{value_text, notes_text, separated, enclosed, layer_text, field_text};
 
 use crate::escape::{OF_STRING, put_quoted};
 use crate::scalar::{put_blob, put_clob, put_null, put_numeral, put_symbol, put_truth};

@@ -10,8 +10,7 @@ use Rattle.ion_scalar.specs.binary.Fields.{positional}
 use Rattle.ion_symtab.specs.Slots.{Slot}
 use Rattle.ion_binary.specs.declared.form.Scalar.{Scalar}
 use Rattle.ion_binary.specs.Grammar.{IsScalar, Binary}
-use Rattle.ion_binary.specs.Output.{Names, id_of, with_name, with_names, names_after, value_octets}
-use Rattle.ion_binary.specs.laws.writing.Output.{layer_octets, layer_symbols}
+use Rattle.ion_binary.specs.Output.{Names, id_of, with_name, with_names, names_after, value_octets, layer_octets, layer_symbols}
 
 -- the symbols have ids among the names already
 abbrev pub Named : Names → Names → Type 0

@@ -6,9 +6,8 @@ use Rattle.ion_model.specs.Kept.{IsText, KeptPayload}
 use Rattle.ion_scalar.specs.binary.Spellings.{var_uint_octets}
 use Rattle.ion_binary.specs.declared.transcription.Transcription.{Transcription}
 use Rattle.ion_visiting.specs.Visits.{Event, part, annotation, name, Visits}
-use Rattle.ion_binary.specs.Output.{id_of, with_name, framed, with_count}
+use Rattle.ion_binary.specs.Output.{id_of, with_name, framed, with_count, layer_octets, layer_symbols}
 use Rattle.ion_binary.specs.visiting.Brackets.{code_in}
-use Rattle.ion_binary.specs.laws.writing.Output.{layer_octets, layer_symbols}
 use Rattle.ion_binary.specs.machine.Transcribed.{Named}
 
 -- the payload has what the types keep, its symbols have ids, and its octets were appended

@@ -11,7 +11,6 @@ use Rattle.ion_model.specs.Kept.{IsText, AreTexts}
 use Rattle.ion_symtab.specs.Slots.{Slot, system_texts, system_slots, slot_symbol, resolve}
 use Rattle.ion_symtab.specs.Next.{local_slot}
 use Rattle.ion_binary.specs.Output.{Names, system_names, id_of, with_name, with_names}
-use Rattle.ion_binary.specs.laws.writing.Written.{Resolves}
 
 -- 1. Symbols among names.
 
@@ -110,6 +109,11 @@ stays_either s names more false h later = ap (λ (n : ℕ). 1 + n) (later h)
 pub id_stays : (s : Option (List ℕ)) (names more : Names) → IsAmong names s → id_of (names ++ more) s ≡ id_of names s
 id_stays s [] more h = cc
 id_stays s (x ∷ names) more h = stays_either s names more (symbol_same s x) h (id_stays s names more)
+
+-- each of these symbols has its id in the context, and ids are small
+abbrev pub Resolves : List Slot → Names → Names → Type 0
+Resolves c names [] = Unit {0}
+Resolves c names (s ∷ ss) = ((resolve c (id_of names s) ≡ Ok s) × (id_of names s < 2 ^ 63)) × Resolves c names ss
 
 -- names resolve, in the context of their slots
 pub names_resolve : (names ss : Names) → Starts names → AreAmong names ss → length names < 2 ^ 63 → Resolves (slots names) names ss

@@ -10,9 +10,8 @@ ghost use Rattle.std.specs.Prelude.{◌≡◌, ◌<◌, ◌++◌, IfErr, OnOk};
 ghost use Rattle.std.specs.List.{flat_map};
 ghost use Rattle.ion_model.specs.declared.value.Payload.TheViews.{out-Payload};
 ghost use Rattle.ion_model.specs.Kept.{AreTexts, IsKept, KeptItems, KeptFields, KeptLayer};
-ghost use Rattle.ion_binary.specs.Output.{Names as SymbolsById, value_octets, framed, with_count, ids_octets, with_names, names_after, symbols_of};
+ghost use Rattle.ion_binary.specs.Output.{Names as SymbolsById, value_octets, framed, with_count, ids_octets, with_names, names_after, symbols_of, layer_octets, field_octets, field_symbols, layer_symbols};
 ghost use Rattle.ion_binary.specs.Writing.{IsNumberingFault};
-ghost use Rattle.ion_binary.specs.laws.writing.Output.{layer_octets, field_octets, field_symbols, layer_symbols};
 ghost use Rattle.ion_binary.specs.writer.Later.{IsLater};
 
 use super::framing::{

@@ -6,8 +6,7 @@ use Rattle.ion_model.specs.Kept.{IsText, KeptPayload}
 use Rattle.ion_visiting.specs.declared.bracket.Bracket.{Bracket}
 use Rattle.ion_visiting.specs.declared.bracket.Bracket.TheVariants as brackets
 use Rattle.ion_visiting.specs.Visits.{Event, part, annotation, name, Visits}
-use Rattle.ion_text.specs.Output.{symbol_text}
-use Rattle.ion_text.specs.laws.writing.Output.{layer_text}
+use Rattle.ion_text.specs.Output.{symbol_text, layer_text}
 use Rattle.ion_text.specs.declared.transcription.Transcription.{Transcription}
 
 -- what opens a list, an s-expression or a struct, what closes it, and what stands between its items

@@ -9,10 +9,10 @@ use Rattle.ion_symtab.specs.Slots.{Slot}
 use Rattle.ion_symtab.specs.Tables.{Table}
 use Rattle.ion_symtab.specs.laws.ContextTexts.{AreTextSlots, AreTextTables, TextAnswer, system_are_texts, next_texts}
 use Rattle.ion_binary.specs.Grammar.{the_marker, Pieces, begins, marked, skips, turns, holds, Document}
-use Rattle.ion_binary.specs.Output.{bin_of}
+use Rattle.ion_binary.specs.Output.{bin_of, FitsIn}
 use Rattle.ion_binary.specs.laws.reading.GivesKept.{binary_kept}
 use Rattle.ion_binary.specs.laws.reading.Promises.{pieces_values}
-use Rattle.ion_binary.specs.laws.writing.RoundTrip.{FitsIn, round_trip}
+use Rattle.ion_binary.specs.laws.writing.RoundTrip.{round_trip}
 
 module _ (g : List Table) (l : Limits) (h : AreTextTables g) where
   pub pieces_kept : (u : List ℕ) (s : List Value) (c : List Slot) → AreOctets u → Pieces g l u s c → AreKept s × AreTextSlots c

@@ -9,8 +9,8 @@ use Rattle.ion_model.specs.declared.value.Payload.TheViews as views
 use Rattle.ion_model.specs.Measures.{Layer, annotated}
 use Rattle.ion_model.specs.laws.Kept.{texts_both}
 use Rattle.ion_model.specs.Kept.{AreTexts, IsKept, kept, KeptPayload, kept_null, kept_truth, kept_int, kept_decimal, kept_timestamp, kept_symbol, kept_string, kept_clob, kept_blob, kept_list, kept_sexp, kept_fields, KeptItems, no_items, an_item, KeptFields, no_fields, a_field}
-use Rattle.ion_binary.specs.Output.{symbols_of}
-use Rattle.ion_binary.specs.laws.writing.Output.{layer_symbols, field_symbols, symbols-out}
+use Rattle.ion_binary.specs.Output.{symbols_of, layer_symbols, field_symbols}
+use Rattle.ion_binary.specs.laws.writing.Output.{symbols-out}
 
 by_layer : (p : Payload) (d : Layer) → views.out-Payload p ≡ d → AreTexts (layer_symbols d) → AreTexts (layer_symbols (views.out-Payload p))
 by_layer p d e h = subst (λ (d : Layer). AreTexts (layer_symbols d)) (sym e) h

@@ -9,15 +9,9 @@ use Rattle.ion_model.specs.declared.value.Payload.TheViews as views
 use Rattle.ion_model.specs.declared.value.Payload.TheOpen.{Payload-F}
 use Rattle.ion_model.specs.declared.value.Payload.TheFolds.{fold_out-Payload, fold_out-Value, fold_out-Field, fold-Payload, fold-Field, map-Payload}
 use Rattle.ion_model.specs.Measures.{Layer}
-use Rattle.ion_scalar.specs.binary.Spellings.{uint_octets, decimal_octets}
-use Rattle.ion_binary.specs.Output.{Names, id_of, symbols_step, symbols_of, framed, null_octet, truth_octet, whole_octets, wrapped, named_octets, octets_step, value_octets}
-use Rattle.ion_scalar.specs.binary.TimestampSpellings.{timestamp_octets}
+use Rattle.ion_binary.specs.Output.{Names, symbols_step, symbols_of, field_symbols, layer_symbols, framed, wrapped, named_octets, octets_step, value_octets, field_octets, layer_octets}
 
 -- 1. Symbols.
-
--- the name of a field, and the symbols of its value
-abbrev pub field_symbols : Field → Names
-field_symbols f = f.name ∷ symbols_of f.value
 
 abbrev payload_symbols_fold : Payload → Names
 payload_symbols_fold = fold-Payload Names Names Names symbols_step (λ f. f.name ∷ f.value) (λ v. v.annotations ++ v.payload)
@@ -29,14 +23,6 @@ fields_symbols : (fs : List Field) → map field_symbols_fold fs ≡ map field_s
 unfolding symbols_of
 fields_symbols [] = refl
 fields_symbols (f ∷ fs) = rw (fold_out-Field Names Names Names symbols_step (λ f. f.name ∷ f.value) (λ v. v.annotations ++ v.payload) f, fields_symbols fs)
-
--- the symbols of one level
-abbrev pub layer_symbols : Layer → Names
-layer_symbols (Payload-F.Symbol s) = s ∷ []
-layer_symbols (Payload-F.List vs) = flat_map symbols_of vs
-layer_symbols (Payload-F.Sexp vs) = flat_map symbols_of vs
-layer_symbols (Payload-F.Fields fs) = flat_map field_symbols fs
-layer_symbols _ = []
 
 symbols_step-layer : (d : Layer) → symbols_step (map-Payload Payload Field Value Names Names Names payload_symbols_fold field_symbols_fold symbols_of d)
     ≡ layer_symbols d
@@ -55,10 +41,6 @@ symbols-out v =
 
 -- 2. Octets.
 
--- the id of a field's name, and the octets of its value
-abbrev pub field_octets : Names → Field → List ℕ
-field_octets names f = named_octets names f.name (value_octets names f.value)
-
 module _ (names : Names) where
   abbrev payload_fold : Payload → List ℕ
   payload_fold = fold-Payload (List ℕ) (List ℕ) (List ℕ) (octets_step names) (λ f. named_octets names f.name f.value)
@@ -76,30 +58,15 @@ module _ (names : Names) where
     fields_octets fs,
   )
 
-  -- the octets of one level
-  abbrev pub layer_octets : Layer → List ℕ
-  layer_octets (Payload-F.Null k) = null_octet k ∷ []
-  layer_octets (Payload-F.Truth b) = truth_octet b ∷ []
-  layer_octets (Payload-F.Int z) = whole_octets z
-  layer_octets (Payload-F.Decimal d) = framed 5 (decimal_octets d)
-  layer_octets (Payload-F.Timestamp t) = framed 6 (timestamp_octets t)
-  layer_octets (Payload-F.Symbol s) = framed 7 (uint_octets (id_of names s))
-  layer_octets (Payload-F.Str text) = framed 8 text
-  layer_octets (Payload-F.Clob body) = framed 9 body
-  layer_octets (Payload-F.Blob body) = framed 10 body
-  layer_octets (Payload-F.List vs) = framed 11 (flat_map (value_octets names) vs)
-  layer_octets (Payload-F.Sexp vs) = framed 12 (flat_map (value_octets names) vs)
-  layer_octets (Payload-F.Fields fs) = framed 13 (flat_map (field_octets names) fs)
-
   octets_step-layer : (d : Layer) → octets_step names (map-Payload Payload Field Value (List ℕ) (List ℕ) (List ℕ) payload_fold field_fold (value_octets names)
-      d) ≡ layer_octets d
+      d) ≡ layer_octets names d
   octets_step-layer (Payload-F.List vs) = ap (framed 11) (flat_map-map (λ w. w) (value_octets names) vs)
   octets_step-layer (Payload-F.Sexp vs) = ap (framed 12) (flat_map-map (λ w. w) (value_octets names) vs)
   octets_step-layer (Payload-F.Fields fs) = ap (framed 13) (ap (λ ws. flat_map (λ w. w) ws) (fields_octets fs) ∙ flat_map-map (λ w. w) (field_octets names) fs)
   octets_step-layer _ = refl
 
   -- the octets of a value by one level
-  pub octets-out : (v : Value) → value_octets names v ≡ wrapped names v.annotations (layer_octets (views.out-Payload v.payload))
+  pub octets-out : (v : Value) → value_octets names v ≡ wrapped names v.annotations (layer_octets names (views.out-Payload v.payload))
   unfolding value_octets
   octets-out v =
       fold_out-Value (List ℕ) (List ℕ) (List ℕ) (octets_step names) (λ f. named_octets names f.name f.value) (λ v. wrapped names v.annotations v.payload) v

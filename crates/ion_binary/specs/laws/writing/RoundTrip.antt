@@ -2,35 +2,17 @@
 use Rattle.std.proofs.Common.{◌≡◌, ℕ, suc, ◌≤◌, ◌<◌, true, false, List, [], ◌∷◌, ◌++◌, length, refl, sym, ap, subst, ◌∙◌, arith, append_assoc, append-nil}
 use Rattle.ion_model.specs.declared.value.Value.{Value}
 use Rattle.ion_model.specs.Kinds.{is_table}
-use Rattle.ion_model.specs.Measures.{depth}
 use Rattle.ion_model.specs.Kept.{IsKept, AreKept}
 use Rattle.ion_symtab.specs.declared.limits.Limits.{Limits}
 use Rattle.ion_symtab.specs.declared.catalog.Catalog.{Catalog}
 use Rattle.ion_symtab.specs.Slots.{greatest_id, system_texts}
 use Rattle.ion_symtab.specs.Promises.{NoTables}
 use Rattle.ion_binary.specs.Grammar.{the_marker, Pieces, begins, holds, Document}
-use Rattle.ion_binary.specs.Output.{Names, Progress, system_names, symbols_of, value_octets, table_octets, names_after, bin_from, bin_of}
+use Rattle.ion_binary.specs.Output.{Names, Progress, system_names, symbols_of, value_octets, table_octets, names_after, bin_from, bin_of, ValueFits, FitBehind, FitsIn}
 use Rattle.ion_binary.specs.laws.writing.KeptTexts.{value_texts}
 use Rattle.ion_binary.specs.laws.writing.Written.{value_is}
 use Rattle.ion_binary.specs.writer.Names.{AreAmong, all_among_more, Starts, starts_more, unknown_among, slots, slots_system, names_resolve, AreKnown, Grown, grown}
 use Rattle.ion_binary.specs.laws.writing.TableWritten.{table_symbols, names_turn}
-
--- a value and the table before it are within the limits, and so are the ids
-pub record ValueFits (l : Limits) (names : Names) (v : Value) : Type 0 where
-  pub ids : length (names_after names v) ≤ suc greatest_id
-  pub table : length (table_octets names (names_after names v)) ≤ l.item
-  pub table_deep : length names < length (names_after names v) → 2 ≤ l.depth
-  pub value : length (value_octets (names_after names v) v) ≤ l.item
-  pub value_deep : depth v ≤ l.depth
-
--- each value, behind these names
-abbrev pub FitBehind : Limits → Names → List Value → Type 0
-FitBehind l names [] = Unit {0}
-FitBehind l names (v ∷ vs) = ValueFits l names v × FitBehind l (names_after names v) vs
-
--- a document of these values is within the limits
-abbrev pub FitsIn : Limits → List Value → Type 0
-FitsIn l s = FitBehind l system_names s
 
 -- behind a marker
 abbrev begun : Names → Progress

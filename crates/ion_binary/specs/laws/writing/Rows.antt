@@ -15,8 +15,8 @@ use Rattle.ion_scalar.specs.binary.Shifted.{moved}
 use Rattle.ion_scalar.specs.binary.Spellings.{uint_octets}
 use Rattle.ion_scalar.specs.binary.TimestampSpellings.{timestamp_octets}
 use Rattle.ion_symtab.specs.Slots.{system_texts}
-use Rattle.ion_binary.specs.Output.{Names, system_names, id_of, with_names, symbols_of, value_octets, framed, wrapped, named_octets, name_text, string_value, table_value, table_octets, opening, bin_from, bin_of}
-use Rattle.ion_binary.specs.laws.writing.Output.{layer_symbols, layer_octets, symbols-out, octets-out}
+use Rattle.ion_binary.specs.Output.{Names, system_names, id_of, with_names, symbols_of, value_octets, framed, wrapped, named_octets, name_text, string_value, table_value, table_octets, opening, bin_from, bin_of, layer_symbols, layer_octets}
+use Rattle.ion_binary.specs.laws.writing.Output.{symbols-out, octets-out}
 
 -- 1. The values.
 

@@ -21,10 +21,10 @@ use Rattle.ion_symtab.specs.Slots.{Slot, system_slots, greatest_id}
 use Rattle.ion_symtab.specs.Fields.{symbol_of, layer_symbol, elements_in}
 use Rattle.ion_symtab.specs.Next.{and_then, joined, appends_in, imported, local_slot, local_slots, next_layer, next}
 use Rattle.ion_binary.specs.Grammar.{Pieces, turns}
-use Rattle.ion_binary.specs.Output.{Names, symbols_of, value_octets, name_text, string_value, table_value, table_octets}
-use Rattle.ion_binary.specs.laws.writing.Output.{layer_symbols, symbols-out}
-use Rattle.ion_binary.specs.laws.writing.Written.{Resolves, value_is}
-use Rattle.ion_binary.specs.writer.Names.{AreAmong, Starts, slots, AreKnown, names_resolve_still, slots_more}
+use Rattle.ion_binary.specs.Output.{Names, symbols_of, value_octets, name_text, string_value, table_value, table_octets, layer_symbols}
+use Rattle.ion_binary.specs.laws.writing.Output.{symbols-out}
+use Rattle.ion_binary.specs.laws.writing.Written.{value_is}
+use Rattle.ion_binary.specs.writer.Names.{Resolves, AreAmong, Starts, slots, AreKnown, names_resolve_still, slots_more}
 
 -- the texts of its symbols
 abbrev pub table_word : Option (List ℕ)

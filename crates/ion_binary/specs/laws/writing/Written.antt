@@ -32,9 +32,10 @@ use Rattle.ion_binary.specs.declared.form.Form.TheVariants as forms
 use Rattle.ion_binary.specs.Opening.{opening_of}
 use Rattle.ion_binary.specs.Grammar.{IsScalar, is_int, is_negative, is_decimal, is_timestamp, is_symbol, is_string, is_clob, is_blob, Ids, no_ids, one_id, listed, Plain, is_null, is_truth, is_scalar, is_listing, is_struct, Binary, unannotated, wrapped, Sequence, nothing, one_more, Fields, one_field, padded_field}
 use Rattle.ion_binary.specs.laws.reading.Complete.{length_VarUInt, binary_some, plain_some, pad_some}
-use Rattle.ion_binary.specs.Output.{Names, id_of, symbols_of, framed, with_count, null_octet, truth_octet, whole_octets, ids_octets, value_octets, header}
+use Rattle.ion_binary.specs.Output.{Names, id_of, symbols_of, framed, with_count, null_octet, truth_octet, whole_octets, ids_octets, value_octets, header, layer_symbols, layer_octets, field_symbols, field_octets}
 use Rattle.ion_binary.specs.Output as output
-use Rattle.ion_binary.specs.laws.writing.Output.{layer_symbols, layer_octets, field_symbols, field_octets, symbols-out, octets-out}
+use Rattle.ion_binary.specs.laws.writing.Output.{symbols-out, octets-out}
+use Rattle.ion_binary.specs.writer.Names.{Resolves}
 use Rattle.ion_binary.specs.HeaderRows.{type_code, IsBodyLength}
 use Rattle.ion_binary.specs.laws.writing.Headers.{header_is, framed_long}
 use Rattle.ion_binary.specs.Grammar as grammar
@@ -130,11 +131,6 @@ never_one c _ _ (padded_field us id w ms k q n b) e =
     let i = length_VarUInt id k n in
     let j = pad_some w b in
     omega arith
-
--- each of these symbols has its id in the context, and ids are small
-abbrev pub Resolves : List Slot → Names → Names → Type 0
-Resolves c names [] = Unit {0}
-Resolves c names (s ∷ ss) = ((resolve c (id_of names s) ≡ Ok s) × (id_of names s < 2 ^ 63)) × Resolves c names ss
 
 module _ (c : List Slot) (names : Names) where
   pub resolves_front : (ss ts : Names) → Resolves c names (ss ++ ts) → Resolves c names ss

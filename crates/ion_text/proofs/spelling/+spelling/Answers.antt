@@ -1,8 +1,8 @@
 use Rattle.std.proofs.Common.{◌∙◌, ◌++◌, ap, sym, subst, arith}
 use Rattle.ion_model.specs.Kept.{AreTexts}
 use Rattle.ion_model.specs.laws.Kept.{items_at, fields_at, value_kept}
-use Rattle.ion_text.specs.Output.{value_text, notes_text}
-use Rattle.ion_text.specs.laws.writing.Output.{text-out, field_text}
+use Rattle.ion_text.specs.Output.{value_text, notes_text, field_text}
+use Rattle.ion_text.specs.laws.writing.Output.{text-out}
 use Rattle.ion_text.proofs.Appended.{appended_two, separated_end}
 use Rattle.ion_text.proofs.Gone.{text_at, items_end, fields_end, items_from, fields_from, items_none, fields_none}
 use Rattle.ion_text.proofs.spelling.+spelling.Goals as goal

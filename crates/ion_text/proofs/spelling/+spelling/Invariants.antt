@@ -1,8 +1,7 @@
 use Rattle.std.proofs.Common.{◌≡◌, ◌∷◌, ◌++◌, drop}
 use Rattle.std.specs.List.{flat_map}
 use Rattle.ion_model.specs.Kept.{KeptItems, KeptFields}
-use Rattle.ion_text.specs.Output.{value_text}
-use Rattle.ion_text.specs.laws.writing.Output.{field_text}
+use Rattle.ion_text.specs.Output.{value_text, field_text}
 use Rattle.ion_text.proofs.spelling.+spelling.Given as goal
 
 -- what is written and what is left are all; and where those that are left are kept, all are

@@ -17,8 +17,8 @@ use Rattle.ion_tokens.specs.declared.mode.Place.{Place}
 use Rattle.ion_tokens.specs.Bodies.{Content}
 use Rattle.ion_tokens.specs.Lexed.{Placed}
 use Rattle.ion_text.specs.Grammar.{Says, IsSymbol, is_word, is_id, is_quoted, IsScalar, is_null, is_typed_null, is_true, is_false, is_int, is_decimal, is_timestamp, is_symbol, is_operator, is_short, is_clob, is_blob, Annotations, no_annotation, one_annotation, Segments, segment, joined, IsName, by_symbol, by_short, by_long, Plain, one_token, long_string, is_list, is_sexp, is_struct, Means, means, Elements, no_element, element, comma, Row, no_item, item, Members, no_field, field, field_comma, Pieces, begins, marked, turns, holds, Document}
-use Rattle.ion_text.specs.Output.{text_of}
-use Rattle.ion_text.specs.laws.writing.RoundTrip.{FitsIn, round_trip}
+use Rattle.ion_text.specs.Output.{text_of, FitsIn}
+use Rattle.ion_text.specs.laws.writing.RoundTrip.{round_trip}
 use Rattle.ion_tokens.specs.laws.TokensKept.{IsLobKept, IsContentKept, body_kept, AreLobsKept, lobs_front, lobs_rest, lexes_lobs}
 
 -- 1. The tokens of octets: what their lobs hold are octets.

@@ -1,6 +1,6 @@
 -- Octets that stand for themselves between quotes.
 use Rattle.std.proofs.Common.{◌≡◌, ℕ, suc, Bool, true, false, cond, List, [], ◌∷◌, ◌++◌, take, drop, None, refl, sym, ap, ap₂, ◌∙◌, append_assoc, arith, ◌+◌, length, subst}
-use Rattle.std.specs.Prelude.{◌==◌, ◌&&◌, not, nat_le}
+use Rattle.std.specs.Prelude.{◌==◌, not, nat_le}
 use Rattle.std.specs.List.{AllByRecursion, prefix_len, take_while}
 use Rattle.std.proofs.lemmas.List.Folds.{length-prefix_len}
 use Rattle.std.proofs.lemmas.Bool.{and_parts}
@@ -8,11 +8,7 @@ use Rattle.std.proofs.lemmas.Bool.Decides.{nat_tests}
 use Rattle.std.proofs.lemmas.Grind.{flat_map-append}
 use Rattle.std.proofs.lemmas.List.{take-append-drop}
 use Rattle.ion_text.specs.declared.escape.Quotes.{Quotes}
-use Rattle.ion_text.specs.Output.{letter_for, stands_raw, escape_by, escape, escaped_text, hexadecimal_escape}
-
--- no escape stands for the octet
-abbrev pub is_raw : Quotes → ℕ → Bool
-is_raw quotes o = not (o == 92) && (not (o == quotes.delimiter) && stands_raw quotes.ascii o)
+use Rattle.ion_text.specs.Output.{letter_for, is_raw, escape_by, escape, escaped_text, hexadecimal_escape}
 
 abbrev pub AreRaw : Quotes → List ℕ → Type 0
 AreRaw quotes octets = AllByRecursion (λ o. is_raw quotes o ≡ true) octets

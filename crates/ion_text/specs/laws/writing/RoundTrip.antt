@@ -1,12 +1,11 @@
 -- What is written of a stream of values is a document with these values.
-use Rattle.std.proofs.Common.{◌≡◌, ℕ, ◌+◌, ◌≤◌, Bool, true, false, List, [], ◌∷◌, ◌++◌, length, inl, refl, sym, ◌∙◌, subst, arith, append_assoc, append-nil}
+use Rattle.std.proofs.Common.{◌≡◌, ℕ, ◌+◌, Bool, true, false, List, [], ◌∷◌, ◌++◌, length, inl, refl, sym, ◌∙◌, subst, arith, append_assoc, append-nil}
 use Rattle.std.specs.Prelude.{◌==◌, ◌||◌, ◌&&◌}
 use Rattle.std.specs.List.{flat_map, AllByRecursion}
 use Rattle.std.proofs.lemmas.Bool.{false≢true}
 use Rattle.std.proofs.lemmas.Bool.Decides.{nat_tests}
 use Rattle.ion_model.specs.declared.value.Value.{Value}
 use Rattle.ion_model.specs.Kinds.{is_table}
-use Rattle.ion_model.specs.Measures.{depth}
 use Rattle.ion_symtab.specs.declared.limits.Limits.{Limits}
 use Rattle.ion_symtab.specs.declared.catalog.Catalog.{Catalog}
 use Rattle.ion_symtab.specs.Slots.{system_slots}
@@ -20,20 +19,10 @@ use Rattle.ion_tokens.specs.Blanks.{BlankPiece, IsBlank, IsBlankPiece, blank_spe
 use Rattle.ion_tokens.specs.Lexemes.{IsLexeme}
 use Rattle.ion_tokens.specs.Lexed.{Placed, LexesTo, Lexes}
 use Rattle.ion_text.specs.Grammar.{Means, ends_long, begins_as_long, is_version, is_version_word, Pieces, begins, holds, Document}
-use Rattle.ion_text.specs.Output.{value_text, text_of}
+use Rattle.ion_text.specs.Output.{value_text, text_of, ValueFits, FitsIn}
 use Rattle.ion_model.specs.Kept.{IsKept, AreKept}
 use Rattle.ion_text.specs.laws.writing.Written.{NoneLong, none_long, Written, tokens, span_within, white_before, lexes_end}
 use Rattle.ion_text.specs.laws.writing.ValuesWritten.{value_written, value_no_colon, starts_badly, bad_octet, either_false, line_stops}
-
--- a value as it is written is within the limits
-pub record ValueFits (l : Limits) (v : Value) : Type 0 where
-  pub long : length (value_text v) ≤ l.item
-  pub deep : depth v ≤ l.depth
-
--- each value is
-abbrev pub FitsIn : Limits → List Value → Type 0
-FitsIn l [] = Unit {0}
-FitsIn l (v ∷ vs) = ValueFits l v × FitsIn l vs
 
 -- 1. No value is written as the marker of a version.
 

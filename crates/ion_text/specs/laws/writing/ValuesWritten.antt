@@ -29,8 +29,8 @@ use Rattle.ion_tokens.specs.Bodies.{Content, Word, Number', Short, Clob, Blob, M
 use Rattle.ion_tokens.specs.Lexemes.{begins, begins_number, mark_spelling, MarkStands, MarkEnds}
 use Rattle.ion_tokens.specs.Lexed.{Placed, LexesTo}
 use Rattle.ion_text.specs.Grammar.{Says, IsSymbol, IsName, by_symbol, IsScalar, is_null, is_typed_null, is_true, is_false, is_int, is_decimal, is_timestamp, is_symbol, is_short, is_clob, is_blob, Annotations, no_annotation, one_annotation, is_long, ends_long, begins_long, close_place, Plain, one_token, is_list, is_sexp, is_struct, Means, means, Elements, no_element, element, comma, Row, no_item, item, Members, no_field, field, field_comma}
-use Rattle.ion_text.specs.Output.{of_string, of_symbol, symbol_text, known_text, is_identifier, is_unquoted, quoted, escaped_text, null_text, truth_text, clob_text, blob_text, notes_text, separated, named_text, value_text}
-use Rattle.ion_text.specs.laws.writing.Output.{field_text, layer_text, text-out}
+use Rattle.ion_text.specs.Output.{of_string, of_symbol, symbol_text, known_text, is_identifier, is_unquoted, quoted, escaped_text, null_text, truth_text, clob_text, blob_text, notes_text, separated, named_text, value_text, field_text, layer_text}
+use Rattle.ion_text.specs.laws.writing.Output.{text-out}
 use Rattle.ion_model.specs.Kept.{IsText, AreTexts, IsKept, kept, KeptPayload, kept_null, kept_truth, kept_int, kept_decimal, kept_timestamp, kept_symbol, kept_string, kept_clob, kept_blob, kept_list, kept_sexp, kept_fields, KeptItems, no_items, an_item, KeptFields, no_fields, a_field}
 use Rattle.ion_tokens.specs.laws.Numerals.{numeric_run}
 use Rattle.ion_text.specs.laws.writing.Spelled.{EndsWords, EndsNumbers, Spelling, symbol_spelled, number_spelled, string_spelled, truth_spelled, null_said, null_spelled, clob_spelled, blob_spelled}

@@ -3,8 +3,7 @@ use Rattle.ion_model.specs.Kept.{AreTexts}
 use Rattle.ion_model.specs.laws.Kept.{items_at, fields_at, no_texts, value_kept}
 use Rattle.ion_model.specs.declared.value.Payload.TheViews.{out-Payload}
 use Rattle.ion_scalar.specs.binary.Spellings.{var_uint_octets}
-use Rattle.ion_binary.specs.Output.{Names, id_of, with_count, ids_octets, symbols_of, value_octets, with_names}
-use Rattle.ion_binary.specs.laws.writing.Output.{layer_octets, layer_symbols, field_octets, field_symbols}
+use Rattle.ion_binary.specs.Output.{Names, id_of, with_count, ids_octets, symbols_of, value_octets, with_names, layer_octets, layer_symbols, field_octets, field_symbols}
 use Rattle.ion_binary.proofs.Encoded.{octets_bare_later, octets_wrapped, octets_at, all_items, all_fields, framed_at, longer_by}
 use Rattle.ion_binary.proofs.Later.{later_self, later_by}
 use Rattle.ion_binary.proofs.Numbered.{fault_at, fault_more, left, of_bare, of_value}

@@ -1,8 +1,7 @@
 use Rattle.std.proofs.Common.{◌≡◌, ◌≤◌, ◌++◌, drop, length}
 use Rattle.std.specs.List.{flat_map}
 use Rattle.ion_model.specs.Kept.{KeptItems, KeptFields}
-use Rattle.ion_binary.specs.Output.{Names, symbols_of, value_octets, with_names}
-use Rattle.ion_binary.specs.laws.writing.Output.{field_octets, field_symbols}
+use Rattle.ion_binary.specs.Output.{Names, symbols_of, value_octets, with_names, field_octets, field_symbols}
 use Rattle.ion_binary.specs.writer.Later.{IsLater}
 use Rattle.ion_binary.proofs.writer.encoding.+encoding.Given as goal
 

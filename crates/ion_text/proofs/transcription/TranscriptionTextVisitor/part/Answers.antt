@@ -1,6 +1,6 @@
 use Rattle.std.proofs.Common.{rules, ◌≡◌, ◌++◌}
 use Rattle.ion_model.specs.declared.value.Payload.TheViews.{out-Payload}
-use Rattle.ion_text.specs.laws.writing.Output.{layer_text}
+use Rattle.ion_text.specs.Output.{layer_text}
 use Rattle.ion_visiting.specs.Parts.{payload_of}
 use Rattle.ion_text.specs.visiting.Transcribing.{front}
 use Rattle.ion_text.proofs.Transcribed.{part_added}
