@@ -24,6 +24,7 @@ same_anywhere c d body _ _ other (is_string h) = is_string h
 same_anywhere c d body _ _ other is_clob = is_clob
 same_anywhere c d body _ _ other is_blob = is_blob
 
+-- a scalar on one side is that of the same body on the other, unless it is a symbol
 pub alike_scalar : (c d : List Slot) (t : Scalar) (body beside : List ℕ) → body ≡ beside → (t ≡ scalars.Symbol → ⊥) → WalkedScalar c t body
     → AlikeScalar c d t body beside
 alike_scalar c d t body beside e other s = record {
@@ -32,6 +33,7 @@ alike_scalar c d t body beside e other s = record {
   other = subst (λ w. IsScalar d w t s.payload) e (same_anywhere c d body t s.payload other s.is);
 }
 
+-- bodies whose ids stand for the same symbol, each on its side, are that symbol
 pub alike_symbol : (c d : List Slot) (body beside : List ℕ) (id k : ℕ) (s : Option (List ℕ)) → id ≡ positional 256 body → k ≡ positional 256 beside
     → id < 2 ^ 64 → k < 2 ^ 64 → resolve c id ≡ Ok s → resolve d k ≡ Ok s
     → AlikeScalar c d scalars.Symbol body beside

@@ -14,6 +14,7 @@ module _ {T : Type 0} (W : Outlet T) where
   puts_each p old (v ∷ vs) new (mid, first, rest) = Took-trans W.took W.written old mid new (adds p v) (puts (after p v) vs) first
       (puts_each (after p v) mid vs new rest)
 
+  -- a `put` for each value of a stream, and then `finish`, write its document
   pub writes_each : (s : List Value) (old new : T) → WritesEach W nothing_yet old s new → Took W.took W.written old new (bin_of s)
   unfolding bin_of
   writes_each s old new h =

@@ -96,6 +96,7 @@ module _ (c : List Slot) (w : List ℕ) where
       subst (Found Q a) (sym x.same) done
 
   mutual
+    -- the octets that were gone over for a value are this value
     pub value_found : (v : Value) (a b : Comparison) → Visited comparing v a b → StandsWithin a → Found (λ x. Binary c x v) a b
     value_found _ _ _ (bare_visited p a b i) h = let f = payload_found p a b i h in record { here = f.here; ahead = f.ahead; is = unannotated _ p f.is }
     value_found _ _ _ (annotated_visited ss p k a m n x y b some o i t j u) h =
@@ -187,9 +188,11 @@ header_there w rest at used n size form o some is e r heads =
     subst (λ z. Header form (at + 1 + used + n - (at + 1 + used)) z) (sym octets)
     (subst (λ k. Header form k (get_or w at 0 ∷ take used rest)) (sym count) (heads form (get_or w at 0) (sym is ∙ e)))
 
+-- an octet that opens a null is this null
 pub null_there : (k : Kind) (a b : Comparison) → IsOne a b (Null k) → IsPlain a b (payloads.Null k)
 null_there k a b h = record { moves = h.moves; is = subst (λ x. Plain a.context.now x (payloads.Null k)) (sym h.octets) (is_null h.octet k (sym h.is)) }
 
+-- an octet that opens a bool is this bool
 pub truth_there : (t : Bool) (a b : Comparison) → IsOne a b (Truth t) → IsPlain a b (payloads.Truth t)
 truth_there t a b h = record { moves = h.moves; is = subst (λ x. Plain a.context.now x (payloads.Truth t)) (sym h.octets) (is_truth h.octet t (sym h.is)) }
 

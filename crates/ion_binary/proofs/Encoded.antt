@@ -20,9 +20,11 @@ wrapped_some : (names ss : Names) (w : List ℕ) → 0 < length ss → wrapped n
 wrapped_some names [] w h = absurd (omega (arith, h))
 wrapped_some names (s ∷ ss) w h = refl
 
+-- without annotations, the octets of a value are those of its payload
 pub octets_bare : (names : Names) (v : Value) → length v.annotations ≡ 0 → value_octets names v ≡ layer_octets names (out-Payload v.payload)
 octets_bare names v e = octets-out names v ∙ wrapped_none names v.annotations _ e
 
+-- with annotations, the octets of a value are a wrapper of their ids and its payload
 pub octets_wrapped : (names : Names) (v : Value) → 0 < length v.annotations
     → value_octets names v ≡ framed 14 (with_count (ids_octets names v.annotations) ++ layer_octets names (out-Payload v.payload))
 octets_wrapped names v h = octets-out names v ∙ wrapped_some names v.annotations _ h
@@ -41,14 +43,17 @@ octets_at f body new all xs i x small is e so_far =
     ap (λ w. w ++ flat_map f (drop (i + 1) xs)) (e ∙ ap (λ y. body ++ f y) is) ∙ append_assoc body (f (get_or xs i x)) (flat_map f (drop (i + 1) xs))
     ∙ ap (λ ys. body ++ flat_map f ys) (sym (drop_more xs i x small)) ∙ so_far
 
+-- what has more octets behind it is as long as before at least
 pub longer_by : (n : ℕ) (old new body : List ℕ) → new ≡ old ++ body → n ≤ length old → n ≤ length new
 longer_by n old new body e h = omega (arith, h, ap length e, length-append old body)
 
 -- what is kept once all was gone over
 
+-- items are kept where nothing is left behind those that were gone over
 pub all_items : (vs : List Value) (i : ℕ) → length vs ≤ i → (KeptItems (drop i vs) → KeptItems vs) → KeptItems vs
 all_items vs i past h = h (subst KeptItems (sym (drop_of_length-le vs past)) no_items)
 
+-- fields are kept where nothing is left behind those that were gone over
 pub all_fields : (ms : List Field) (i : ℕ) → length ms ≤ i → (KeptFields (drop i ms) → KeptFields ms) → KeptFields ms
 all_fields ms i past h = h (subst KeptFields (sym (drop_of_length-le ms past)) no_fields)
 

@@ -28,6 +28,7 @@ digit_next w all i n le some e =
     digit_inserted w (digits_of 128 (n / 128)) i (n % 128) le
     ∙ ap (λ (d : List ℕ). take i w ++ (d ++ drop i w)) (sym (digits_of_step 128 n (omega arith) some)) ∙ e
 
+-- where no digit is left to be inserted, the octets are as they should be
 pub digits_done : (w all : List ℕ) (i n : ℕ) → n ≡ 0 → take i w ++ (digits_of 128 n ++ drop i w) ≡ all → w ≡ all
 digits_done w all i n none e = sym (take_append w i) ∙ ap (λ (k : ℕ). take i w ++ (digits_of 128 k ++ drop i w)) (sym none) ∙ e where
   take_append : (w : List ℕ) (i : ℕ) → take i w ++ drop i w ≡ w

@@ -25,6 +25,7 @@ abbrev pub with_phase : Spot → List Frame → List ℕ → Phase → Machine
 with_phase spot fs kept phase = record { spot = spot; frames = fs; phase = phase; body = body_so_far phase kept }
 
 module _ (g : Catalog) (l : Limits) (spot : Spot) (fs : List Frame) (kept : List ℕ) where
+  -- over octets at the front of a piece that don't end a pad, the machine goes on in it
   pub pad_led : (n k : ℕ) (phase : Phase) (piece : List ℕ) → phase ≡ InPad n → k ≤ length piece → k ≤ n →
       run g l spot.used (with_phase spot fs kept phase) (take k piece) ≡ led (at (moved spot (spot.used + k)) fs (InPad (n - k)))
   pad_led n k phase piece e within few =
@@ -33,6 +34,7 @@ module _ (g : Catalog) (l : Limits) (spot : Spot) (fs : List Frame) (kept : List
       ∙ (pad_goes g l spot fs n (take k piece) (omega arith)
       ∙ ap (λ j. led (at (moved spot (spot.used + j)) fs (InPad (n - j)))) size)
 
+  -- over octets at the front of a piece that don't end a body, the machine goes on and keeps them
   pub body_led : (t : Scalar) (n k : ℕ) (phase : Phase) (piece : List ℕ) → phase ≡ InBody t n → k ≤ length piece → k ≤ n →
       run g l spot.used (with_phase spot fs kept phase) (take k piece) ≡ led (in_body (moved spot (spot.used + k)) fs t (n - k) (kept ++ take k piece))
   body_led t n k phase piece e within few =

@@ -18,6 +18,7 @@ module _ {W : Type 0} (O : Outlet W) (names : Names) (begun : Bool) (new : Writi
   adds_known : opening begun ++ octets ≡ adds (record { names = names; begun = begun }) v
   adds_known = rw (named, no_table names) (ap (λ w. opening begun ++ w) is)
 
+  -- a value's octets alone, or behind a marker, are what it adds where its symbols have ids already
   pub wrote_known : (answer : Result (Unit {0}) Fault) → OnOk answer (Took O.took O.written before now (opening begun ++ octets))
       → OnErr answer (TookFront O.took O.written before now (opening begun ++ octets))
       → IfErr answer (λ fault. (fault ≡ Write) × (O.has_failed now ≡ true))

@@ -6,6 +6,7 @@ use Rattle.ion_binary.specs.Output.{Names, id_of, with_name, with_names}
 use Rattle.ion_binary.specs.writer.Later.{IsLater}
 use Rattle.ion_binary.specs.writer.Names.{IsAmong, among_last, id_stays}
 
+-- names are themselves with nothing behind them
 pub later_self : (names : Names) → IsLater names names
 later_self names = ([], sym (append-nil names))
 

@@ -26,6 +26,7 @@ fault_more names ss whole f e (inr (t, l)) = inr (t, omega (arith, no_fewer name
 
 -- the items of a list one by one
 module _ {X : Type 0} (h : X → Names) where
+  -- behind the symbols of an item, those of the items left lead to the names that all of them lead to
   pub left : (names old : Names) (xs : List X) (i : ℕ) (x : X) → i < length xs → x ≡ get_or xs i x → with_names names (flat_map h (drop i xs))
       ≡ with_names old (flat_map h xs)
       → with_names (with_names names (h x)) (flat_map h (drop (i + 1) xs)) ≡ with_names old (flat_map h xs)
@@ -35,6 +36,7 @@ module _ {X : Type 0} (h : X → Names) where
       ∙ ap (λ ys. with_names names (flat_map h ys)) (sym (drop_more xs i x small))
       ∙ so_far
 
+  -- why the symbols of one item got no ids is why those of all the items got none
   pub fault_at : (names old : Names) (xs : List X) (i : ℕ) (x : X) (f : Fault) → i < length xs → x ≡ get_or xs i x → with_names names (flat_map h (drop i xs))
       ≡ with_names old (flat_map h xs)
       → IsNumberingFault (with_names names (h x)) f → IsNumberingFault (with_names old (flat_map h xs)) f
@@ -47,6 +49,7 @@ pub left_symbols : (names old ss : Names) (i : ℕ) (s : Option (List ℕ)) → 
 left_symbols names old ss i s small is so_far =
     ap (λ t. with_names (with_name names t) (drop (i + 1) ss)) is ∙ ap (with_names names) (sym (drop_more ss i s small)) ∙ so_far
 
+-- why one of the symbols got no id is why all of them together got none
 pub fault_at_symbol : (names old ss : Names) (i : ℕ) (s : Option (List ℕ)) (f : Fault) → i < length ss → s ≡ get_or ss i s → with_names names (drop i ss)
     ≡ with_names old ss
     → IsNumberingFault (with_name names s) f → IsNumberingFault (with_names old ss) f

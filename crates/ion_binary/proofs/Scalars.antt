@@ -17,6 +17,7 @@ resolve_past c id h =
     cond-false _ _ _ (ne_eqb id 0 (λ e. omega arith))
     ∙ ap symbol_at (slice_get_past c (id - 1) (omega arith))
 
+-- a symbol whose id is above the greatest is refused as out of range
 pub symbol_past : (c : List Slot) (id : ℕ) (r : Result ℕ Reason) → r ≡ Ok id → length c < id → symbol_of c r ≡ Err SymbolRange
 symbol_past c id r e h = ap (symbol_of c) e ∙ ap as_symbol (resolve_past c id h)
 
@@ -28,5 +29,6 @@ no_text_by : (body : List ℕ) (b : Bool) → is_utf8 body ≡ b → ¬ (IsUtf8 
 no_text_by body true e h = absurd (h (IsUtf8-from_is_utf8 body e))
 no_text_by body false e h = cond-false _ _ _ e
 
+-- octets that aren't UTF-8 are refused as a string
 pub no_text : (body : List ℕ) → ¬ (IsUtf8 body) → text_of body ≡ Err BadUtf8
 no_text body h = no_text_by body (is_utf8 body) refl h

@@ -70,6 +70,7 @@ negative_octets zero h = absurd (omega arith)
 negative_octets (suc n) h = refl
 
 module _ (c : List Slot) (names : Names) (body before after : List ℕ) (o : AreOctets body) (h : IsShortest body) where
+  -- an int that isn't negative, in its shortest spelling, is written as it stands
   pub int_as_it_stands : after ≡ before ++ framed 2 body → TranscribedScalar c names scalars.Int body before after
   int_as_it_stands e = record {
     payload = payloads.Int (pos (positional 256 body));
@@ -81,6 +82,7 @@ module _ (c : List Slot) (names : Names) (body before after : List ℕ) (o : Are
         ∙ ap (λ d. before ++ layer_octets names d) (sym (views.outs-Int (pos (positional 256 body))))));
   }
 
+  -- a negative int in its shortest spelling is written as it stands
   pub negative_as_it_stands : after ≡ before ++ framed 3 body → TranscribedScalar c names scalars.NegativeInt body before after
   negative_as_it_stands e =
       let n = positional 256 body in

@@ -213,6 +213,7 @@ null_added k a b e o = record {
       o ∙ ap (λ d. a.out.items ++ layer_octets a.names.now d) (sym (views.outs-Null k));
 }
 
+-- the octet of a bool, appended, is what is written of it
 pub truth_added : {S H : Type 0} (t : Bool) (a b : Transcription S H) → b.names.now ≡ a.names.now → b.out.items ≡ a.out.items ++ truth_octet t ∷ []
     → AddsPart a b (payloads.Truth t)
 truth_added t a b e o = record {
@@ -225,6 +226,7 @@ truth_added t a b e o = record {
 
 -- payloads that have no symbols
 module _ {S H : Type 0} (a b : Transcription S H) (p : Payload) (d : Layer) (is : views.out-Payload p ≡ d) where
+  -- a payload without symbols is written by its octets alone
   pub none_added : layer_symbols d ≡ [] → KeptPayload p → b.names.now ≡ a.names.now → b.out.items ≡ a.out.items ++ layer_octets a.names.now d → AddsPart a b p
   none_added none kept names octets = record {
     names = names;
@@ -242,14 +244,4 @@ symbol_added s id a b kept has names octets = record {
   named = ap (λ d. with_names a.names.now (layer_symbols d)) (views.outs-Symbol s) ∙ has.named;
   octets = octets ∙ (ap (λ (k : ℕ). a.out.items ++ framed 7 (uint_octets k)) has.is
       ∙ ap (λ d. a.out.items ++ layer_octets a.names.now d) (sym (views.outs-Symbol s)));
-}
-
--- an id
-pub id_appended : {S H : Type 0} (s : Option (List ℕ)) (id : ℕ) (a b : Transcription S H) → IsText s → HasId a.names.now s id → b.names.now ≡ a.names.now
-    → b.out.items ≡ a.out.items ++ var_uint_octets id → AddsId a b s
-id_appended s id a b kept has names octets = record {
-  names = names;
-  kept = kept;
-  named = has.named;
-  octets = octets ∙ ap (λ (k : ℕ). a.out.items ++ var_uint_octets k) has.is;
 }

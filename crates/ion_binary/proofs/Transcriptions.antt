@@ -27,21 +27,25 @@ use Rattle.ion_binary.proofs.Slotted.{symbol_is}
 
 -- results that are asked for their value alone
 
+-- what follows from a result that is `Ok` holds for its value, where that alone is asked for
 pub ok_some : {A E P Q : Type 0} (r : Result A E) (o : Option A) → o ≡ result_ok r → OnOk r P → (P → Q) → IfSome o (λ _. Q)
 ok_some (Ok x) o e p f = rw e (f p)
 ok_some (Err f') o e p f = rw e tt
 
 -- symbols that have ids
 
+-- where symbols have ids, and others do, all of them have
 pub named_both : (names ss ts : Names) → Named names ss → Named names ts → Named names (ss ++ ts)
 named_both names ss ts h k = fold-append with_name names ss ts ∙ (ap (λ (n : Names). with_names n ts) h ∙ k)
 
+-- where the symbols of items have ids, and those of one more do, all of them have
 pub named_more : {X : Type 0} (f : X → Names) (names : Names) (xs : List X) (x : X) → Named names (flat_map f xs) → Named names (f x)
     → Named names (flat_map f (xs ++ x ∷ []))
 named_more f names xs x h k = subst (Named names) (flat_map_more f [] xs x) (named_both names (flat_map f xs) (f x) h k)
 
 -- octets behind octets
 
+-- what is written of one item more stands behind what is written of the items before
 pub written_more : {X : Type 0} (f : X → List ℕ) (first now later : List ℕ) (xs : List X) (x : X) → now ≡ first ++ flat_map f xs → later ≡ now ++ f x
     → later ≡ first ++ flat_map f (xs ++ x ∷ [])
 written_more f first now later xs x e h = h ∙ (ap (λ w. w ++ f x) e ∙ flat_map_more f first xs x)
@@ -70,6 +74,7 @@ kept_scalar c body _ _ is_clob o h = kept_clob body o
 kept_scalar c body _ _ is_blob o h = kept_blob body o
 
 module _ (c : List Slot) (names : Names) (body before after : List ℕ) where
+  -- a string is written again with the body that it has
   pub text_again : IsUtf8 body → after ≡ before ++ framed 8 body → TranscribedScalar c names scalars.Str body before after
   text_again utf8 e = record {
     payload = payloads.Str body;
@@ -79,6 +84,7 @@ module _ (c : List Slot) (names : Names) (body before after : List ℕ) where
     octets = e ∙ ap (λ d. before ++ layer_octets names d) (sym (views.outs-Str body));
   }
 
+  -- a clob is written again with the body that it has
   pub clob_again : AreOctets body → after ≡ before ++ framed 9 body → TranscribedScalar c names scalars.Clob body before after
   clob_again o e = record {
     payload = payloads.Clob body;
@@ -88,6 +94,7 @@ module _ (c : List Slot) (names : Names) (body before after : List ℕ) where
     octets = e ∙ ap (λ d. before ++ layer_octets names d) (sym (views.outs-Clob body));
   }
 
+  -- a blob is written again with the body that it has
   pub blob_again : AreOctets body → after ≡ before ++ framed 10 body → TranscribedScalar c names scalars.Blob body before after
   blob_again o e = record {
     payload = payloads.Blob body;
@@ -97,6 +104,7 @@ module _ (c : List Slot) (names : Names) (body before after : List ℕ) where
     octets = e ∙ ap (λ d. before ++ layer_octets names d) (sym (views.outs-Blob body));
   }
 
+  -- a symbol is written again by the id that it has among the names
   pub symbol_again : (n id : ℕ) (s : Option (List ℕ)) → n ≡ positional 256 body → n < 2 ^ 64 → resolve c n ≡ Ok s → IsText s → HasId names s id
       → after ≡ before ++ framed 7 (uint_octets id) → TranscribedScalar c names scalars.Symbol body before after
   symbol_again n id s is small found text has e = record {
@@ -109,6 +117,7 @@ module _ (c : List Slot) (names : Names) (body before after : List ℕ) where
 
   -- numbers
   module _ (t : Scalar) (p : Payload) (is : IsScalar c body t p) (o : AreOctets body) where
+    -- an int is written again as the magnitude that was read, under its sign
     pub int_again : (z : ℤ) → p ≡ payloads.Int z → after ≡ before ++ whole_octets z → TranscribedScalar c names t body before after
     int_again z same e = record {
       payload = p;
@@ -119,6 +128,7 @@ module _ (c : List Slot) (names : Names) (body before after : List ℕ) where
           ∙ ap (λ x. before ++ layer_octets names (views.out-Payload x)) (sym same));
     }
 
+    -- a decimal is written again as what was read
     pub decimal_again : (d : DecimalParts) → p ≡ payloads.Decimal d → after ≡ before ++ framed 5 (decimal_octets d)
         → TranscribedScalar c names t body before after
     decimal_again z same e = record {
@@ -130,6 +140,7 @@ module _ (c : List Slot) (names : Names) (body before after : List ℕ) where
           ∙ ap (λ x. before ++ layer_octets names (views.out-Payload x)) (sym same));
     }
 
+    -- a timestamp is written again as what was read
     pub timestamp_again : (d : TimestampParts) → p ≡ payloads.Timestamp d → after ≡ before ++ framed 6 (timestamp_octets d)
         → TranscribedScalar c names t body before after
     timestamp_again z same e = record {

@@ -23,9 +23,11 @@ use Rattle.ion_binary.specs.laws.reading.Small.{scalar_nodes}
 use Rattle.ion_binary.specs.machine.Walked.{Walked, WalkedPlain, WalkedBody, WalkedWrapper, WalkedListing, WalkedStruct, WalkedIds}
 use Rattle.ion_binary.proofs.Wholes.{framed_scalar, framed_listing, framed_struct, framed_ordered, wraps, depth_wrapped}
 
+-- a null has no depth and is one node
 pub part_null : (k : Kind) → IsPart (payloads.Null k)
 part_null k = record { flat = depth-Null k; one = nodes-Null k }
 
+-- a bool has no depth and is one node
 pub part_truth : (b : Bool) → IsPart (payloads.Truth b)
 part_truth b = record { flat = depth-Truth b; one = nodes-Truth b }
 
@@ -34,6 +36,7 @@ some_symbols c _ _ no_ids h = absurd (omega (arith, h))
 some_symbols c _ _ (one_id us w ss k s i v r) h = omega (arith, length-append ss (s ∷ []))
 
 module _ {S M : Type 0} (h : Visits S M) (c : List Slot) where
+  -- a body is gone over where it is a scalar that the visitor took
   pub walked_scalar : (form : Form) (t : Scalar) (level : ℕ) (body : List ℕ) (a b : S) (p : Payload) → form ≡ forms.Scalar t → IsScalar c body t p
       → h.takes a (part p) b → WalkedBody h c form level body a b
   walked_scalar form t level body a b p e s x =
@@ -46,6 +49,7 @@ module _ {S M : Type 0} (h : Visits S M) (c : List Slot) where
             in_one p a b (record { flat = flat; one = scalar_nodes c body t p s }) x;
       }
 
+  -- the body of a list or an s-expression is gone over where its items were
   pub walked_listing : (form : Form) (x : Listing) (level : ℕ) (body : List ℕ) (a b : S) → form ≡ forms.Listing x → WalkedListing h c x level body a b
       → WalkedBody h c form level body a b
   walked_listing form x level body a b e s =
@@ -58,6 +62,7 @@ module _ {S M : Type 0} (h : Visits S M) (c : List Slot) where
         visited = s.visited;
       }
 
+  -- the body of a struct is gone over where its fields were
   pub walked_struct : (form : Form) (level : ℕ) (body : List ℕ) (a b : S) → form ≡ forms.Struct → WalkedStruct h c level body a b
       → WalkedBody h c form level body a b
   walked_struct form level body a b e s =
@@ -70,6 +75,7 @@ module _ {S M : Type 0} (h : Visits S M) (c : List Slot) where
         visited = s.visited;
       }
 
+  -- the body of a struct that announces their order is gone over where its fields were, if not empty
   pub walked_ordered : (form : Form) (level : ℕ) (body : List ℕ) (a b : S) → form ≡ forms.OrderedStruct → 0 < length body → WalkedStruct h c level body a b
       → WalkedBody h c form level body a b
   walked_ordered form level body a b e some s =
@@ -101,6 +107,7 @@ module _ {S M : Type 0} (h : Visits S M) (c : List Slot) where
     visited = bare_visited t.payload a b t.visited;
   }
 
+  -- the body of a wrapper is gone over where its annotations were, and its value behind them
   pub walked_wrapper : (level : ℕ) (body ids inner : List ℕ) (used size n : ℕ) (k : M) (a m i x y b : S) → ids ≡ take size (drop used body)
       → inner ≡ drop (used + size) body → VarUInt (take used body) size → 0 < size → used + size ≤ length body → length ids ≡ size
       → h.opens_wrapper a k m → WalkedIds h c ids m i → h.ends_annotations i k x → WalkedPlain h c level (take n inner) x y → length inner ≤ n

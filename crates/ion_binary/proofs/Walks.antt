@@ -38,9 +38,11 @@ use Rattle.ion_binary.proofs.Wholes.{whole_runs, whole_some}
 
 -- scalars
 
+-- a body that is a scalar of one form is one of the same form by another name
 pub as_form : (c : List Slot) (t x : Scalar) (body : List ℕ) → t ≡ x → WalkedScalar c x body → WalkedScalar c t body
 as_form c t x body e s = subst (λ t. WalkedScalar c t body) (sym e) s
 
+-- a number that isn't refused is below 2^127
 pub uint_kept : (body : List ℕ) → is_ok (uint_field body) ≡ true → positional 256 body < 2 ^ 127
 uint_kept body h =
     elim (cases_lt (positional 256 body) (2 ^ 127)) [
@@ -56,9 +58,11 @@ uint_some (octet ∷ rest) first =
     let more : 1 * 256 ^ length rest ≤ octet * 256 ^ length rest = mul-le-mul_right (256 ^ length rest) first in
     omega (arith, one, more)
 
+-- a body whose number is below 2^127 is an int
 pub walked_int : (c : List Slot) (body : List ℕ) (n : ℕ) → n ≡ positional 256 body → n < 2 ^ 127 → WalkedScalar c scalars.Int body
 walked_int c body n e h = record { payload = payloads.Int (pos n); is = int_is c body n (pos n) e h refl }
 
+-- a body whose number is below 2^127 and not 0 is a negative int
 pub walked_negative : (c : List Slot) (body : List ℕ) (n : ℕ) → n ≡ positional 256 body → n < 2 ^ 127 → 0 < n → WalkedScalar c scalars.NegativeInt body
 walked_negative c body n e h some = record { payload = payloads.Int (neg_ℤ (pos n)); is = negative_is c body n (neg_ℤ (pos n)) e h some refl }
 
@@ -66,6 +70,7 @@ decimal_on : (c : List Slot) (body : List ℕ) (r : Result DecimalParts Reason) 
 decimal_on c body (Ok d) e h = record { payload = payloads.Decimal d; is = decimal_is c body d e }
 decimal_on c body (Err reason) e h = absurd cc
 
+-- a body that is read as a decimal without refusal is one
 pub walked_decimal : (c : List Slot) (body : List ℕ) → is_ok (decimal_of_body body) ≡ true → WalkedScalar c scalars.Decimal body
 walked_decimal c body h = decimal_on c body (decimal_of_body body) refl h
 
@@ -74,24 +79,30 @@ timestamp_on : (c : List Slot) (body : List ℕ) (r : Result TimestampParts Reas
 timestamp_on c body (Ok t) e h = record { payload = payloads.Timestamp t; is = timestamp_is c body t e }
 timestamp_on c body (Err reason) e h = absurd cc
 
+-- a body that is read as a timestamp without refusal is one
 pub walked_timestamp : (c : List Slot) (body : List ℕ) → is_ok (timestamp_of_body body) ≡ true → WalkedScalar c scalars.Timestamp body
 walked_timestamp c body h = timestamp_on c body (timestamp_of_body body) refl h
 
+-- a body whose number is an id with a symbol is a symbol
 pub walked_symbol : (c : List Slot) (body : List ℕ) (id : ℕ) (s : Option (List ℕ)) → id ≡ positional 256 body → id < 2 ^ 64 → resolve c id ≡ Ok s
     → WalkedScalar c scalars.Symbol body
 walked_symbol c body id s e small found = record { payload = payloads.Symbol s; is = symbol_is c body id s e small found }
 
+-- a body in UTF-8 is a string
 pub walked_text : (c : List Slot) (body : List ℕ) → IsUtf8 body → WalkedScalar c scalars.Str body
 walked_text c body h = record { payload = payloads.Str body; is = is_string h }
 
+-- whatever its octets, a body is a clob
 pub walked_clob : (c : List Slot) (body : List ℕ) → WalkedScalar c scalars.Clob body
 walked_clob c body = record { payload = payloads.Clob body; is = is_clob }
 
+-- whatever its octets, a body is a blob
 pub walked_blob : (c : List Slot) (body : List ℕ) → WalkedScalar c scalars.Blob body
 walked_blob c body = record { payload = payloads.Blob body; is = is_blob }
 
 -- kinds
 
+-- the kind of a scalar is that of its form
 pub scalar_kind : (c : List Slot) (body : List ℕ) (t : Scalar) (p : Payload) → IsScalar c body t p → kind_of (bare p) ≡ kind_of_scalar t
 scalar_kind c body _ _ (is_int h) = ap layer_kind (views.outs-Int (pos (positional 256 body)))
 scalar_kind c body _ _ (is_negative h k) = ap layer_kind (views.outs-Int (neg_ℤ (pos (positional 256 body))))
@@ -102,14 +113,15 @@ scalar_kind c body _ _ (is_string h) = ap layer_kind (views.outs-Str body)
 scalar_kind c body _ _ is_clob = ap layer_kind (views.outs-Clob body)
 scalar_kind c body _ _ is_blob = ap layer_kind (views.outs-Blob body)
 
+-- without annotations no value is a local symbol table
 pub no_table_in_none : NoTable []
 no_table_in_none k = refl
 
+-- an annotation more that names no table makes no value a local symbol table
 pub no_table_more : (ss : List (Option (List ℕ))) (s : Option (List ℕ)) → NoTable ss → names_table s ≡ false → NoTable (ss ++ s ∷ [])
 no_table_more [] s h e = λ k. ap (λ b. b && is_fields k) e
 no_table_more (x ∷ xs) s h e = λ k. h k
 
--- the machine over the octets of a value at the top level
 -- where an item of the top level may end, it may end earlier
 pub fits_earlier : (item start to n : ℕ) → unfit item start [] forms.Wrapper to ≡ None → n ≤ to → unfit item start [] forms.Wrapper n ≡ None
 fits_earlier item start to n h few = go (nat_le to (start + item)) refl h
@@ -118,6 +130,7 @@ fits_earlier item start to n h few = go (nat_le to (start + item)) refl h
     go true e k = ap (λ b. or_else (cond b None (Some ItemTooLong)) None) (let most = leb-true to (start + item) e in le-leb n (start + item) (omega arith))
     go false e k = absurd cc
 
+-- the machine over the octets of a value at the top level
 pub walk_gives : (g : Catalog) (l : Limits) (spot : Spot) (fs : List Frame) (kept : List ℕ) (phase : Phase) (piece : List ℕ) (n : ℕ) → phase ≡ Ready → fs ≡ []
     → n ≤ length piece → (v : Value) → Binary spot.context (take n piece) v → depth v ≤ l.depth → is_table v ≡ false
     → unfit l.item spot.start fs forms.Wrapper (spot.used + n) ≡ None

@@ -42,9 +42,11 @@ use Rattle.ion_binary.proofs.Insides.{with_phase}
 pub slice_of : (used n : ℕ) (w : List ℕ) → take (used + n - used) (drop used w) ≡ take n (drop used w)
 slice_of used n w = ap (λ k. take k (drop used w)) (let e : used + n - used ≡ n = omega arith in e)
 
+-- as many octets as are left at most end within the body
 pub within_more : (body : List ℕ) (at n : ℕ) → at ≤ length body → n ≤ length (take (length body - at) (drop at body)) → at + n ≤ length body
 within_more body at n h k = omega (arith, length-take {A = ℕ}, length-drop {A = ℕ})
 
+-- as many octets as a body has, or more, are all of it
 pub take_whole : (body : List ℕ) (at : ℕ) → length body ≤ at → take at body ≡ body
 take_whole body at h = grind (arith, common_steps)
 
@@ -64,19 +66,23 @@ one_digit (b ∷ bs) some last octet =
 
 -- one octet
 
+-- an octet that opens a null, at the front, is that null
 pub plain_null : (c : List Slot) (octets : List ℕ) (k : Kind) → 0 < length octets → opening_of (get_or octets 0 0) ≡ Null k
     → Plain c (take 1 octets) (payloads.Null k)
 plain_null c [] k h e = absurd (omega arith)
 plain_null c (b ∷ bs) k h e = is_null b k e
 
+-- an octet that opens a bool, at the front, is that bool
 pub plain_truth : (c : List Slot) (octets : List ℕ) (t : Bool) → 0 < length octets → opening_of (get_or octets 0 0) ≡ Truth t
     → Plain c (take 1 octets) (payloads.Truth t)
 plain_truth c [] t h e = absurd (omega arith)
 plain_truth c (b ∷ bs) t h e = is_truth b t e
 
+-- a null has no depth
 pub flat_null : (k : Kind) → depth (bare (payloads.Null k)) ≡ 0
 flat_null k = depth-out (bare (payloads.Null k)) ∙ ap layer_depth (views.outs-Null k)
 
+-- a bool has no depth
 pub flat_truth : (t : Bool) → depth (bare (payloads.Truth t)) ≡ 0
 flat_truth t = depth-out (bare (payloads.Truth t)) ∙ ap layer_depth (views.outs-Truth t)
 
@@ -95,18 +101,22 @@ headed (b ∷ bs) rest body form size used n some e er fits heads eb P framed =
 
 -- bodies
 
+-- behind each header of its form, a body that is a scalar is that scalar
 pub framed_scalar : (c : List Slot) (form : Form) (t : Scalar) (body : List ℕ) (p : Payload) → form ≡ forms.Scalar t → IsScalar c body t p
     → Framed c form body p
 framed_scalar c form t body p e i h d = is_scalar h body t p (subst (λ f. Header f (length body) h) e d) i
 
+-- behind each header of its form, a body of items is their list or s-expression
 pub framed_listing : (c : List Slot) (form : Form) (x : Listing) (body : List ℕ) (p : Payload) → form ≡ forms.Listing x → IsListing c x body p
     → Framed c form body p
 framed_listing c form x body p e l h d = subst (Plain c (h ++ body)) (sym l.same)
     (is_listing h body x l.values (subst (λ f. Header f (length body) h) e d) l.items)
 
+-- behind each header of a struct, a body of fields is their struct
 pub framed_struct : (c : List Slot) (form : Form) (body : List ℕ) (p : Payload) → form ≡ forms.Struct → IsStructBody c body p → Framed c form body p
 framed_struct c form body p e l h d = subst (Plain c (h ++ body)) (sym l.same) (is_struct h body l.fields (subst (λ f. Header f (length body) h) e d) l.items)
 
+-- behind each header that announces their order, a body of fields is their struct, if not empty
 pub framed_ordered : (c : List Slot) (form : Form) (body : List ℕ) (p : Payload) → form ≡ forms.OrderedStruct → 0 < length body → IsStructBody c body p
     → Framed c form body p
 framed_ordered c form body p e some l h d = subst (Plain c (h ++ body)) (sym l.same)
@@ -120,12 +130,14 @@ bare_some c octets a p (Some n) e h = subst (λ a. Binary c (take n octets) (ann
 
 -- items one behind the other
 
+-- a value behind items is one item more
 pub sequence_more : (c : List Slot) (body rest : List ℕ) (at n : ℕ) (vs : List Value) (v : Value) → rest ≡ drop at body → Sequence c (take at body) vs
     → Binary c (take n rest) v → Sequence c (take (at + n) body) (vs ++ v ∷ [])
 sequence_more c body rest at n vs v e s b =
     subst (λ w. Sequence c w (vs ++ v ∷ [])) (sym (take-add at n body))
     (one_more (take at body) (take n (drop at body)) vs v s (subst (λ w. Binary c (take n w) v) e b))
 
+-- a pad behind items adds none
 pub sequence_padded : (c : List Slot) (body rest : List ℕ) (at n : ℕ) (vs : List Value) → rest ≡ drop at body → Sequence c (take at body) vs
     → IsPad (take n rest) → Sequence c (take (at + n) body) vs
 sequence_padded c body rest at n vs e s b =
@@ -141,6 +153,7 @@ two_parts body rest behind at used n e eb =
     ∙ (ap (λ w. take at body ++ (take used w ++ take n (drop (at + used) body))) (sym e)
     ∙ ap (λ w. take at body ++ (take used rest ++ take n w)) (sym eb))))
 
+-- a name's id and a value behind fields are one field more
 pub fields_more : (c : List Slot) (body rest behind : List ℕ) (at used n : ℕ) (k : ℕ) (s : Option (List ℕ)) (ms : List Field) (v : Value) → rest ≡ drop at body
     → behind ≡ drop (at + used) body
     → Fields c (take at body) ms → VarUInt (take used rest) k → resolve c k ≡ Ok s → Binary c (take n behind) v
@@ -149,11 +162,13 @@ fields_more c body rest behind at used n k s ms v e eb f i r b =
     subst (λ w. Fields c w (ms ++ field_of s v ∷ [])) (sym (two_parts body rest behind at used n e eb))
     (one_field (take at body) (take used rest) (take n behind) ms k s v f i r b)
 
+-- a name's id and a pad behind fields add none
 pub fields_padded : (c : List Slot) (body rest behind : List ℕ) (at used n : ℕ) (k : ℕ) (ms : List Field) → rest ≡ drop at body → behind ≡ drop (at + used) body
     → Fields c (take at body) ms → VarUInt (take used rest) k → IsPad (take n behind) → Fields c (take (at + used + n) body) ms
 fields_padded c body rest behind at used n k ms e eb f i b =
     subst (λ w. Fields c w ms) (sym (two_parts body rest behind at used n e eb)) (padded_field (take at body) (take used rest) (take n behind) ms k f i b)
 
+-- an id behind others is one symbol more
 pub ids_more : (c : List Slot) (ids rest : List ℕ) (at used k : ℕ) (s : Option (List ℕ)) (ss : List (Option (List ℕ))) → rest ≡ drop at ids
     → Ids c (take at ids) ss → VarUInt (take used rest) k → resolve c k ≡ Ok s → Ids c (take (at + used) ids) (ss ++ s ∷ [])
 ids_more c ids rest at used k s ss e i v r =
@@ -162,28 +177,35 @@ ids_more c ids rest at used k s ss e i v r =
 
 -- depths
 
+-- with one value more, the deepest is as deep as the bound at most
 pub depths_more : (vs : List Value) (v : Value) (k : ℕ) → depths vs ≤ k → depth v ≤ k → depths (vs ++ v ∷ []) ≤ k
 depths_more vs v k h j = omega (arith, deepest-more vs v)
 
+-- with one field more, the deepest is as deep as the bound at most
 pub field_depths_more : (ms : List Field) (m : Field) (k : ℕ) → field_depths ms ≤ k → depth m.value ≤ k → field_depths (ms ++ m ∷ []) ≤ k
 field_depths_more ms m k h j = omega (arith, field_deepest-more ms m)
 
+-- items of at most a level less make a list or an s-expression within the levels
 pub depth_listing : (x : Listing) (vs : List Value) (level : ℕ) → 0 < level → depths vs ≤ level - 1 → depth (bare (listed x vs)) ≤ level
 depth_listing x vs level some h = omega (arith, depth-listed x vs)
 
+-- fields of at most a level less make a struct within the levels
 pub depth_struct : (ms : List Field) (level : ℕ) → 0 < level → field_depths ms ≤ level - 1 → depth (bare (payloads.Fields ms)) ≤ level
 depth_struct ms level some h = omega (arith, depth-fields ms)
 
+-- annotations make a value no deeper
 pub depth_wrapped : (ss : List (Option (List ℕ))) (p : Payload) (level : ℕ) → depth (bare p) ≤ level → depth (annotated ss p) ≤ level
 depth_wrapped ss p level h = omega (arith, depth-annotated ss p)
 
 -- the last of a list that has grown by one
 
+-- to replace the last item is to put the other in its place
 pub set_last : {A : Type 0} (xs new : List A) (b v : A) (n : ℕ) → new ≡ xs ++ b ∷ [] → length new ≡ n → set new (n - 1) v ≡ xs ++ v ∷ []
 set_last xs new b v n e l =
     let k : n - 1 ≡ length xs = omega (arith, ap length e, length-append xs (b ∷ [])) in
     ap (λ i. set new i v) k ∙ (ap (λ w. set w (length xs) v) e ∙ set-append_seam xs b [] v)
 
+-- the last item is the one that was put there
 pub last_was : {A : Type 0} (xs new : List A) (b d : A) (n : ℕ) → new ≡ xs ++ b ∷ [] → length new ≡ n → get_or new (n - 1) d ≡ b
 last_was xs new b d n e l =
     let k : n - 1 ≡ length xs = omega (arith, ap length e, length-append xs (b ∷ [])) in
@@ -210,6 +232,7 @@ either_none : (o p : Option Reason) → or_else o p ≡ None → (o ≡ None) ×
 either_none None p h = (refl, h)
 either_none (Some e) p h = absurd cc
 
+-- over the octets of a value that fits here, the machine comes to deliver it
 pub whole_runs : (g : Catalog) (l : Limits) (spot : Spot) (fs : List Frame) (kept : List ℕ) (phase : Phase) (piece : List ℕ) (n : ℕ) (v : Value) → phase ≡ Ready
     → n ≤ length piece → Binary spot.context (take n piece) v → unfit l.item spot.start fs forms.Wrapper (spot.used + n) ≡ None → depth v + levels fs ≤ l.depth
     → run g l spot.used (with_phase spot fs kept phase) (take n piece) ≡ run_after (spot.used + n) (deliver (under g l) (moved spot (spot.used + n)) fs v)
@@ -221,6 +244,7 @@ whole_runs g l spot fs kept phase piece n v e within b fits deep =
     ∙ binary_run g l spot fs (spot.used + n) (take n piece) v b (record { fitting = first.0; named = rest.1 }) (omega arith)
     (ends_back l spot.start fs forms.Wrapper (spot.used + n) refl (misfits_ends l spot.start fs forms.Wrapper (spot.used + n) rest.0)) deep
 
+-- a value has an octet
 pub whole_some : (c : List Slot) (piece : List ℕ) (n : ℕ) (v : Value) → Binary c (take n piece) v → 0 < n
 whole_some c piece n v b =
     let some = binary_some c (take n piece) v b in

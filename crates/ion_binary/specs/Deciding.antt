@@ -40,6 +40,7 @@ pub data Container : Type 0 where
   -- a wrapper, behind its annotations
   Noted : ℕ → Container
 
+-- so many octets of the document reach up to the end of the container
 abbrev pub container_end : Container → ℕ
 container_end (Items end) = end
 container_end (Names end) = end
@@ -85,6 +86,7 @@ pub record Headed (l : Limits) (c : List Slot) (start : ℕ) (Outer : List ℕ �
   pub ends : end ≡ length u + n
   pub reaches : MayReach l start ks (is_pad form) end
 
+-- a struct, whether its header announces the order of its fields or not
 abbrev pub IsStruct : Form → Type 0
 IsStruct forms.Struct = Unit {0}
 IsStruct forms.OrderedStruct = Unit {0}
@@ -145,6 +147,7 @@ Open g l c start (Noted end ∷ ks) u =
 
 -- 2. VarUInts outside of a body.
 
+-- what a VarUInt stands for
 pub data Number : Type 0 where
   -- the octets of a body of this form
   Length : Form → Number
@@ -216,6 +219,7 @@ module _ (g : Catalog) (l : Limits) (c : List Slot) (start : ℕ) where
         → Reaches ks false (length u + 1) (u ++ b ∷ [])
     a_body : (u : List ℕ) (form : Form) (n : ℕ) → EndsHeader ks form n u → Reaches ks (is_pad form) (length u + n) u
 
+-- a list, an s-expression or a struct
 abbrev pub IsContainer : Form → Type 0
 IsContainer (forms.Listing x) = Unit {0}
 IsContainer form = IsStruct form

@@ -8,5 +8,6 @@ use Rattle.ion_model.specs.Measures.{depth, greatest}
 abbrev pub depths : List Value → ℕ
 depths vs = greatest (map depth vs)
 
+-- how deep the deepest value among fields goes
 abbrev pub field_depths : List Field → ℕ
 field_depths ms = greatest (map (λ f. depth f.value) ms)

@@ -7,6 +7,7 @@ use Rattle.ion_binary.specs.declared.form.Listing.TheVariants as listings
 use Rattle.ion_binary.specs.declared.form.Form.{Form}
 use Rattle.ion_binary.specs.declared.form.Form.TheVariants as forms
 
+-- the type code by which a form is told
 abbrev pub type_code : Form → ℕ
 type_code forms.Pad = 0
 type_code (forms.Scalar scalars.Int) = 2

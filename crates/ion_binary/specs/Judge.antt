@@ -20,6 +20,7 @@ int_of negative (Err e) = Err e
 int_of false (Ok n) = Ok (payloads.Int (pos n))
 int_of true (Ok n) = if n == 0 then Err Malformed else Ok (payloads.Int (neg_ℤ (pos n)))
 
+-- the symbol that was looked up, or why there is none
 abbrev pub as_symbol : Result (Option (List ℕ)) Reason → Result Payload Reason
 as_symbol (Ok s) = Ok (payloads.Symbol s)
 as_symbol (Err e) = Err e
@@ -29,10 +30,12 @@ abbrev pub symbol_of : List Slot → Result ℕ Reason → Result Payload Reason
 symbol_of c (Err e) = Err e
 symbol_of c (Ok id) = as_symbol (resolve c id)
 
+-- the decimal that was read, or why it was refused
 abbrev pub as_decimal : Result DecimalParts Reason → Result Payload Reason
 as_decimal (Ok d) = Ok (payloads.Decimal d)
 as_decimal (Err e) = Err e
 
+-- the timestamp that was read, or why it was refused
 abbrev pub as_timestamp : Result TimestampParts Reason → Result Payload Reason
 as_timestamp (Ok t) = Ok (payloads.Timestamp t)
 as_timestamp (Err e) = Err e

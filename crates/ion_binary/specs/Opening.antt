@@ -39,6 +39,7 @@ body_of code size =
     else if code == 14 then Sized forms.Wrapper size
     else Refused Malformed
 
+-- what a descriptor opens that was told apart, or why it opens nothing
 abbrev pub opens : Result Descriptor Reason → Opening
 opens (Err reason) = Refused reason
 opens (Ok descriptors.Marker) = Marker
@@ -73,10 +74,12 @@ kind_of_form forms.Struct = kinds.Fields
 kind_of_form forms.OrderedStruct = kinds.Fields
 kind_of_form forms.Wrapper = kinds.Null
 
+-- the form is that of a pad
 abbrev pub is_pad : Form → Bool
 is_pad forms.Pad = true
 is_pad _ = false
 
+-- the form is that of a wrapper, which holds annotations and a value
 abbrev pub is_wrapper : Form → Bool
 is_wrapper forms.Wrapper = true
 is_wrapper _ = false

@@ -18,6 +18,7 @@ use Rattle.ion_scalar.specs.binary.TimestampSpellings.{timestamp_octets}
 
 -- 1. Ids. A list of names has the symbol of each id at its place: first, of the id 0, the one of unknown text.
 
+-- symbols, each at the place of its id
 abbrev pub Names : Type 0
 Names = List (Option (List ℕ))
 
@@ -33,6 +34,7 @@ id_of names s = position_or_len (symbol_same s) names
 abbrev pub with_name : Names → Option (List ℕ) → Names
 with_name names s = if list_any (symbol_same s) names then names else names ++ s ∷ []
 
+-- the names with each of these at the end, unless it is there
 abbrev pub with_names : Names → List (Option (List ℕ)) → Names
 with_names names ss = fold with_name names ss
 
@@ -66,6 +68,7 @@ layer_symbols _ = []
 abbrev pub header : ℕ → ℕ → List ℕ
 header code n = if nat_lt n 14 then (16 * code + n) ∷ [] else (16 * code + 14) ∷ var_uint_octets n
 
+-- a body behind its descriptor and its length
 abbrev pub framed : ℕ → List ℕ → List ℕ
 framed code body = header code (length body) ++ body
 
@@ -73,6 +76,7 @@ framed code body = header code (length body) ++ body
 abbrev pub with_count : List ℕ → List ℕ
 with_count w = var_uint_octets (length w) ++ w
 
+-- the octet of a null of this kind
 abbrev pub null_octet : Kind → ℕ
 null_octet kinds.Null = 0x0F
 null_octet kinds.Bool = 0x1F
@@ -88,6 +92,7 @@ null_octet kinds.List = 0xBF
 null_octet kinds.Sexp = 0xCF
 null_octet kinds.Fields = 0xDF
 
+-- the octet of a bool
 abbrev pub truth_octet : Bool → ℕ
 truth_octet false = 0x10
 truth_octet true = 0x11
@@ -155,6 +160,7 @@ abbrev pub name_text : Option (List ℕ) → List ℕ
 name_text None = []
 name_text (Some t) = t
 
+-- a name as a string, which is empty for unknown text
 abbrev pub string_value : Option (List ℕ) → Value
 string_value s = bare (payloads.Str (name_text s))
 
@@ -196,6 +202,7 @@ adds p v =
     let names = names_after p.names v in
     opening p.begun ++ (table_octets p.names names ++ value_octets names v)
 
+-- what the rest depends on behind a value
 abbrev pub after : Progress → Value → Progress
 after p v = record { names = names_after p.names v; begun = true }
 
@@ -204,6 +211,7 @@ abbrev pub bin_from : Progress → List Value → List ℕ
 bin_from p [] = opening p.begun
 bin_from p (v ∷ vs) = adds p v ++ bin_from (after p v) vs
 
+-- what a document depends on from its beginning
 abbrev pub nothing_yet : Progress
 nothing_yet = record { names = system_names; begun = false }
 

@@ -11,7 +11,6 @@ use Rattle.ion_tokens.specs.declared.mode.Mode.TheVariants as modes
 use Rattle.ion_tokens.specs.declared.scanner.Scanner.{Scanner}
 use Rattle.ion_tokens.specs.declared.plain_tokens.Rest.{Rest}
 use Rattle.ion_tokens.specs.machine.Rests.{resting}
-use Rattle.ion_tokens.specs.machine.Scanning.{Known}
 use Rattle.ion_tokens.specs.machine.Views.{scanned, failure}
 use Rattle.ion_text.specs.declared.reader.TextReader.{TextReader}
 use Rattle.ion_text.specs.declared.state.Now.TheVariants as nows
@@ -23,7 +22,6 @@ use Rattle.ion_text.specs.machine.Walked.{rested}
 use Rattle.ion_text.specs.machine.Alike.{IsFront, IsTop}
 use Rattle.ion_text.proofs.Elsewhere.{state_at, one_value}
 use Rattle.ion_text.proofs.Further.{step_stands}
-use Rattle.ion_text.proofs.Arms.{blank_used}
 use Rattle.ion_text.proofs.Pendings.{step_progress}
 use Rattle.ion_text.proofs.Tops.{gone_on, top_advances}
 
@@ -46,6 +44,7 @@ alike_values g l l' octets beside count before after before' after' v w colons s
     mine (ap (λ m. run g l' b.used m (take count octets)) there ∙ (ap (run g l' b.used (rested b 0 [] [] [] nows.Ready)) same ∙ others))
     ∙ u.gives)
 
+-- the same octets that are an item at both fronts give both readers the same value
 pub both_tops : (g : Catalog) (l l' : Limits) (octets beside : List ℕ) (count count' : ℕ) (before after before' after' : Rest) → count' ≡ count
     → before.colon ≡ before'.colon → take count octets ≡ take count beside → length octets ≤ l.item → length beside ≤ l'.item
     → ((v : Value) × IsTop l.depth octets count before after v) → ((w : Value) × IsTop l'.depth beside count' before' after' w) → (v : Value)
@@ -62,18 +61,7 @@ module _ (old : TextReader) (piece item : List ℕ) (blank count : ℕ) (rest be
   pub size : length item ≡ min (length piece - blank) old.limits.item
   size = ap (λ (w : List ℕ). length w) is ∙ omega (arith, length-take {A = ℕ}, length-drop {A = ℕ})
 
-  pub side_used : (behind.used ≡ (scanned old.scanner).used + (blank + count)) × (blank + count ≤ length piece)
-  side_used =
-      let s = size in
-      let within = f.within in
-      let fits = t.walked.within in
-      let used = t.walked.used in
-      let first : t.first.rest.used ≡ f.before.used + blank =
-      ap (λ (r : Rest). r.used) t.begins ∙ (ap (λ (r : Rest). r.used) f.rests ∙ blank_used f.before blank) in
-      let last : t.last.rest.used ≡ behind.used = ap (λ (r : Rest). r.used) t.ends in
-      let now : (scanned old.scanner).used ≡ f.before.used = ap (λ (s : Known). s.used) f.fresh.rests in
-      (omega arith, omega arith)
-
+  -- a reader behind a blank and an item went on as a run over them does, which gives the item's value
   pub side_advances : (moved : Scanner) → scanned moved ≡ resting behind
       → Advances old.catalog.now old.limits (is_some old.awaited) (scanned old.scanner).used (state_of old) piece
       (Ok (record { used = blank + count; value = Some v })) old.awaited (state_of (gone_on old moved old.beside))
@@ -151,6 +139,7 @@ module _ (old new : TextReader) (piece : List ℕ) (none : failed old ≡ None) 
 module _ (old new other later : TextReader) (piece beside : List ℕ) (none : failed old ≡ None) (fine : IsFine old → IsFine new) (steady : StaysSteady old new)
     (same : SameSettings old new)
     (none' : failed other ≡ None) (fine' : IsFine other → IsFine later) (steady' : StaysSteady other later) (same' : SameSettings other later) where
+  -- where both readers went past the same value, each took it up with its last octet
   pub both_take_up : (r : Option (ℕ × ℕ)) → IfSome r (λ n. (v : Value) × Moves old new piece none fine steady same n.0 v
       × Moves other later beside none' fine' steady' same' n.1 v)
       → IfSome r (λ n. octets_used new ≡ octets_used old + n.0) → IfSome r (λ n. octets_used later ≡ octets_used other + n.1)

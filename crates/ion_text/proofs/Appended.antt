@@ -5,9 +5,11 @@ use Rattle.std.specs.List.{flat_map}
 use Rattle.std.proofs.lemmas.List.Folds.{flat_map-map}
 use Rattle.ion_text.specs.Output.{separated}
 
+-- octets appended twice are both parts appended at once
 pub appended_two : (out a b x y : List ℕ) → a ≡ out ++ x → b ≡ a ++ y → b ≡ out ++ (x ++ y)
 appended_two out a b x y e f = rw (f, e) (append_assoc out x y)
 
+-- octets appended three times are the three parts appended at once
 pub appended_three : (out a b c x y z : List ℕ) → a ≡ out ++ x → b ≡ a ++ y → c ≡ b ++ z → c ≡ out ++ (x ++ (y ++ z))
 appended_three out a b c x y z e f g = rw (g, f, e) (append_assoc (out ++ x) y z ∙ append_assoc out x (y ++ z))
 

@@ -49,6 +49,7 @@ begun_inner start begin [] ss h = absurd cc
 begun_inner start begin (f ∷ fs) ss h = refl
 
 module _ (g : Catalog) (l : Limits) where
+  -- where a value may come in an open container, a token does what it does within the open item
   pub ready_turns : (r : Reading) (x : Lexeme) (c : Content) → r.now ≡ nows.Ready → is_top r.frames ≡ false → turn g l r (token_of x c)
       ≡ on_ready (under g l) (spot_in r x.end) r.frames r.notes c
   ready_turns r x c now inner =
@@ -67,11 +68,13 @@ reading_in : Turn → Reading → Reading
 reading_in (goes q) d = q
 reading_in _ d = d
 
+-- what holds of where one turn goes on holds of where an equal turn does
 pub went : (P : Reading → Type 0) (a b : Reading) → goes a ≡ goes b → P a → P b
 unfolding reading_in
 went P a b e h = subst P (ap (λ t. reading_in t a) e) h
 
 module _ (setting : Setting) (spot : Spot) (q : Reading) where
+  -- a value that ends in an open container leaves it open, in the same item, with nothing waiting
   pub ended_stays : (fs : List Frame) (v : Value) → is_top fs ≡ false → ended setting spot fs v ≡ goes q → StaysIn spot.start q
   ended_stays [] v h e = absurd cc
   ended_stays (frames.Items listings.List ss vs ∷ fs) v h e = went (StaysIn spot.start) _ q e (refl, refl, tt)
@@ -90,6 +93,7 @@ module _ (setting : Setting) (spot : Spot) (q : Reading) where
 module _ (g : Catalog) (l : Limits) (r : Reading) (still : settle g l r ≡ goes r) (rest : Rest) (octets : List ℕ) (kind : TokenKind) (kept : List ℕ) (n : ℕ)
     (c : Content) (q : Reading)
     (says : said kind kept ≡ Ok c) (turns : turn g l r (token_of (lexeme_at rest kind kept n) c) ≡ goes q) where
+  -- a token found there, whose end the octet behind it shows, leads the run behind it
   pub left_found : IsFound (place r) rest octets kind kept n true → Quiet g l r (place r) (resting rest) (take n octets)
       → Passes g l (with_scan (resting rest) r) octets n (with_scan (resting (past_token (place r) rest kind n)) q)
   left_found f quiet =
@@ -97,6 +101,7 @@ module _ (g : Catalog) (l : Limits) (r : Reading) (still : settle g l r ≡ goes
       passes_left g l r still (resting rest) f.known (resting (past_token (place r) rest kind n)) octets n (lexeme_at rest kind kept n) c q shown quiet f.ran
       says turns refl refl f.ends
 
+  -- a token found there, whose last octet shows its end, leads the run behind it if nothing is refused then
   pub given_found : IsFound (place r) rest octets kind kept n false → Quiet g l r (place r) (resting rest) (take (n - 1) octets) → (most : ℕ)
       → NoticesNothing l q most → rest.used + length octets ≤ most
       → Passes g l (with_scan (resting rest) r) octets n (with_scan (resting (past_token (place r) rest kind n)) q)
@@ -114,19 +119,23 @@ module _ (g : Catalog) (l : Limits) (r : Reading) (inner : is_top r.frames ≡ f
     (kind : TokenKind) (kept : List ℕ) (n : ℕ) (c : Content) (q : Reading)
     (says : said kind kept ≡ Ok c) (turns : turn g l r (token_of (lexeme_at rest kind kept n) c) ≡ goes q)
     (room : rest.used + length octets ≤ l.item + r.start) where
+  -- in an open container a token leads the run behind it that the octet behind it ends
   pub left_passes : IsFound (place r) rest octets kind kept n true → Quiet g l r (place r) (resting rest) (take n octets)
       → Passes g l (with_scan (resting rest) r) octets n (with_scan (resting (past_token (place r) rest kind n)) q)
   left_passes f quiet = left_found g l r still rest octets kind kept n c q says turns f quiet
 
+  -- a token that its last octet ends leads the run behind it where a container of its item stays open
   pub given_leads : IsFound (place r) rest octets kind kept n false → Quiet g l r (place r) (resting rest) (take (n - 1) octets) → is_top q.frames ≡ false
       → q.start ≡ r.start → Passes g l (with_scan (resting rest) r) octets n (with_scan (resting (past_token (place r) rest kind n)) q)
   given_leads f quiet inside same = given_found g l r still rest octets kind kept n c q says turns f quiet (l.item + q.start) (inner_notices l q inside)
       (omega arith)
 
+  -- a token that its last octet ends leads the run behind it where the item goes on and nothing waits
   pub given_passes : IsFound (place r) rest octets kind kept n false → Quiet g l r (place r) (resting rest) (take (n - 1) octets) → StaysIn r.start q
       → Passes g l (with_scan (resting rest) r) octets n (with_scan (resting (past_token (place r) rest kind n)) q)
   given_passes f quiet stays = given_leads f quiet stays.0 stays.1
 
+-- the reader with this scanner in place of its own
 abbrev pub with_scanner : TextReader → Scanner → TextReader
 with_scanner r s = record {
   alloc = r.alloc;
@@ -174,6 +183,7 @@ module _ (old new : TextReader) (moved : Scanner) (rest behind : Rest) (octets :
     same = record { catalog = setting.catalog; limits = setting.limits; awaited = setting.awaited; failed = setting.failed };
   }
 
+  -- these octets stay within the limit on the open item
   pub room : rest.used + length octets ≤ old.limits.item + old.start
   room = subst (λ (s : Known). s.used + length octets ≤ old.limits.item + old.start) rests inside.fits
 
@@ -198,23 +208,28 @@ module _ (old new : TextReader) (moved : Scanner) (rest behind : Rest) (octets :
     by false f m = given_passes old.catalog.now old.limits (reading_of old) inside.inner (still_settles old.catalog.now old.limits (reading_of old) still) rest
         octets kind kept n c (reading_of new) says turns room f (quiet (n - 1) (omega arith) m) stays
 
+    -- a token found whole in an open container is taken up at once
     pub token_strides : Strides old new octets n
     token_strides =
         moved_strides n within (ap (λ (k : Rest). k.used) there) stays
         (subst (λ (k : Rest). Passes old.catalog.now old.limits (with_scan (resting rest) (reading_of old)) octets n (with_scan (resting k) (reading_of new)))
         (sym there) (by left found may))
 
+-- a token of a mark says this mark
 pub mark_says : (m : Mark) → said (kinds.Mark m) [] ≡ Ok (Mark' m)
 unfolding said
 mark_says m = refl
 
+-- a token of a number says the number that its octets are read as
 pub number_says : (octets : List ℕ) (n : Number) → Ok n ≡ number_read octets → said kinds.Number octets ≡ Ok (Number' n)
 unfolding said
 number_says octets n e = ap number_said (sym e)
 
+-- what octets spell is said where they are UTF-8
 pub spelled_utf8 : (c : Content) (octets : List ℕ) → IsUtf8 octets → spelled c octets ≡ Ok c
 spelled_utf8 c octets h = ap (λ b. if b then Ok c else Err reasons.BadUtf8) (is_utf8-from_IsUtf8 octets h)
 
+-- the token of a short string in UTF-8 says its octets
 pub short_says : (octets : List ℕ) → IsUtf8 octets → said kinds.ShortString octets ≡ Ok (Short octets)
 unfolding said
 short_says octets h = spelled_utf8 (Short octets) octets h
@@ -226,13 +241,16 @@ no_id (o ∷ os) h = ap (λ b. if b && nat_lt 0 (length os) && list_all is_digit
     differs : (o : ℕ) → o ≢ 36 → (o == 36) ≡ false
     differs o h = grind (arith, nat_tests)
 
+-- the token of a word that doesn't begin with `$` says its octets
 pub word_says : (octets : List ℕ) → IsUtf8 octets → get_or octets 0 0 ≢ 36 → said kinds.Word octets ≡ Ok (Word octets)
 unfolding said
 word_says octets h first = ap (word_said octets) (no_id octets first) ∙ spelled_utf8 (Word octets) octets h
 
+-- some octets and their front, at least one octet long, begin with the same octet
 pub first_of : (n : ℕ) (w : List ℕ) → 0 < n → get_or (take n w) 0 0 ≡ get_or w 0 0
 first_of n w h = grind (arith, common_steps)
 
+-- behind a blank of so many octets the scanner has used so many more
 pub blank_used : (r : Rest) (n : ℕ) → (past_blank r n).used ≡ r.used + n
 blank_used r n = by (n == 0) refl
   where
@@ -243,6 +261,7 @@ blank_used r n = by (n == 0) refl
         is_zero n e = grind (arith, nat_tests)
     by false e = refl
 
+-- a blank doesn't change whether a colon may stand behind the token before it
 pub blank_colon : (r : Rest) (n : ℕ) → (past_blank r n).colon ≡ r.colon
 blank_colon r n = by (n == 0)
   where
@@ -282,6 +301,7 @@ value_strides old new moved rest behind octets kind kept n left c v inside rests
     (ready_turns old.catalog.now old.limits (reading_of old) (lexeme_at rest kind kept n) c now inside.inner ∙ (same ∙ does))
     (ended_stays (setting_of old) (spot_of old (rest.used + n)) (reading_of new) (open_frames old) v inside.inner does)
 
+-- the comma behind an element or a field is taken up at once
 pub comma_strides : (old new : TextReader) (moved : Scanner) (rest behind : Rest) (octets : List ℕ) → Inside old octets → scanned old.scanner ≡ resting rest
     → Moved old.scanner moved behind → SameSetting (with_scanner old moved) new
     → 1 < length octets → get_or octets 0 0 ≡ 44 → behind ≡ past_token (place (reading_of old)) rest (kinds.Mark marks.Comma) 1 → old.stage ≡ nows.After
@@ -296,32 +316,38 @@ comma_strides old new moved rest behind octets inside rests move setting within 
 -- where a value or a name stands
 
 module _ (setting : Setting) (spot : Spot) (q : Reading) where
+  -- behind a value of an open container the place is the one where the value stood
   pub ended_place : (fs : List Frame) (v : Value) → is_top fs ≡ false → ended setting spot fs v ≡ goes q → place q ≡ place_in fs nows.Ready
   ended_place [] v h e = absurd cc
   ended_place (frames.Items listing ss vs ∷ fs) v h e = went (λ x. place x ≡ item_place listing) _ q e refl
   ended_place (frames.Named ss ms name ∷ fs) v h e = went (λ x. place x ≡ places.FieldValue) _ q e refl
   ended_place (frames.Fields ss ms ∷ fs) v h e = absurd cc
 
+  -- behind a field's name and its colon the struct is open, in the same item, with nothing waiting
   pub named_stays : (fs : List Frame) (s : Option (List ℕ)) → named spot.start spot.context fs s ≡ goes q → StaysIn spot.start q
   named_stays [] s e = absurd cc
   named_stays (frames.Items listing ss vs ∷ fs) s e = absurd cc
   named_stays (frames.Named ss ms name ∷ fs) s e = absurd cc
   named_stays (frames.Fields ss ms ∷ fs) s e = went (StaysIn spot.start) _ q e (refl, refl, tt)
 
+-- in an open container what was held is taken for a value, even a word of a version marker's form
 pub released_inner : (setting : Setting) (spot : Spot) (fs : List Frame) (ss : Symbols) (h : Held) → is_top fs ≡ false → released setting spot fs ss h
     ≡ paid setting spot fs ss (held_payload h)
 released_inner setting spot [] ss h e = absurd cc
 released_inner setting spot (f ∷ fs) ss h e = refl
 
+-- what waits for `::` stands in the place where a value may come
 pub same_place_in : (fs : List Frame) (n m : Now) → (n ≡ nows.Ready) → (h : Held) (e : ℕ) → m ≡ nows.Pending h e → place_in fs m ≡ place_in fs nows.Ready
 same_place_in fs n m a h e i = ap (place_in fs) i ∙ pending_at fs h e
 
+-- where a colon is to come behind a field's name, the place is that of the name
 pub name_place : (fs : List Frame) (s : Option (List ℕ)) → place_in fs (nows.Keyed s) ≡ place_in fs nows.Name
 name_place [] s = refl
 name_place (frames.Items listing ss vs ∷ fs) s = refl
 name_place (frames.Named ss ms name ∷ fs) s = refl
 name_place (frames.Fields ss ms ∷ fs) s = refl
 
+-- the first octet behind so many others is the one at that number
 pub at_drop : (k : ℕ) (w : List ℕ) → get_or (drop k w) 0 0 ≡ get_or w k 0
 at_drop zero w = refl
 at_drop (suc k) [] = refl

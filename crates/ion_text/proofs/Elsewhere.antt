@@ -70,6 +70,7 @@ now_at end (nows.Keyed s) = nows.Keyed s
 abbrev reading_at : ℕ → ℕ → Reading → Reading
 reading_at start end r = at start r.context r.frames r.notes (now_at end r.now)
 
+-- the same state, with other numbers for the octets used and for where token, item and what waits stand
 abbrev pub state_at : ℕ → ℕ → ℕ → ℕ → State → State
 state_at start used begin end m = with_scan (known_at start used m.scan) (reading_at begin end m.reading)
 

@@ -28,6 +28,7 @@ module _ (g : Catalog) (l : Limits) (used : ℕ) where
   open_same x e (refuses f) = refl
   open_same x e (late f r) = refl
 
+  -- where the end ends no token, it settles what waited
   pub waiting_none : (x : Result (Option Lexeme) Reason) (t : Turn) (result : Result (Option Value) Reason) → Ends used x (Ok None)
       → DidEnd used (end_settled used t) result → DidEnd used (end_waiting g l used x t) result
   waiting_none (Ok None) t result h d = d
@@ -41,6 +42,7 @@ module _ (g : Catalog) (l : Limits) (used : ℕ) where
       (d Memory)
   opens (Err e) t result h d = d e
 
+  -- where a token ends with the octets, what waited answers as where one is refused there
   pub waiting_token : (x : Result (Option Lexeme) Reason) (t : Turn) (found : Found) (result : Result (Option Value) Reason) → Ends used x (Ok (Some found))
       → ((e : Reason) → DidEnd used (end_waiting g l used (Err e) t) result) → DidEnd used (end_waiting g l used x t) result
   waiting_token x t found result h d = opens x t result (λ e. some (subst (λ (y : Result (Option Lexeme) Reason). Ends used y (Ok (Some found))) e h)) d
@@ -48,11 +50,13 @@ module _ (g : Catalog) (l : Limits) (used : ℕ) where
       some : Some found ≡ None → ⊥
       some e = cc
 
+  -- where the scanner refuses at the end, what waited answers the same for whatever reason
   pub waiting_refused : (x : Result (Option Lexeme) Reason) (t : Turn) (r : Refusal) (result : Result (Option Value) Reason) → Ends used x (Err r)
       → r.reason ≢ Memory → ((e : Reason) → DidEnd used (end_waiting g l used (Err e) t) result) → DidEnd used (end_waiting g l used x t) result
   waiting_refused x t r result h other d = opens x t result (λ e. subst (λ (y : Result (Option Lexeme) Reason). Ends used y (Err r)) e h other) d
 
   module _ (r : Reading) where
+    -- where nothing waits, what the scanner refuses at the end is refused
     pub ready_refused : (x : Result (Option Lexeme) Reason) (refusal : Refusal) → Ends used x (Err refusal)
         → DidEnd used (end_ready g l used r x) (Err refusal.reason)
     ready_refused (Ok None) refusal h = λ other. absurd (h other)
@@ -60,6 +64,7 @@ module _ (g : Catalog) (l : Limits) (used : ℕ) where
         (one_body x.kind x.octets (said x.kind x.octets) (Err refusal.reason) (says x.kind x.octets) (h other).says)
     ready_refused (Err e) refusal h = λ other. ap (λ (q : Refusal). Err (record { offset = used; reason = q.reason })) (sym (h other))
 
+    -- where nothing waits, the end answers what the token that it ends leads to
     pub ready_token : (x : Result (Option Lexeme) Reason) (found : Found) (result : Result (Option Value) Reason) → Ends used x (Ok (Some found))
         → DidEnd used (end_turned g l used (turn g l r (token_in found))) result → DidEnd used (end_ready g l used r x) result
     ready_token (Ok None) found result h d = absurd cc
@@ -68,6 +73,7 @@ module _ (g : Catalog) (l : Limits) (used : ℕ) where
         (ap (end_said g l used r x) (said_so x found h) ∙ ap (λ t. end_turned g l used (turn g l r t)) (token_so x found h)) d
     ready_token (Err e) found result h d = absurd h
 
+  -- where the token that the end ends goes on, what waits then is settled by the end
   pub turned_goes : (t : Turn) (r : Reading) (h : Catalog) (k : Limits) (result : Result (Option Value) Reason) → t ≡ goes r → h ≡ g → k ≡ l
       → DidEnd used (end_settled used (settle h k r)) result → DidEnd used (end_turned g l used t) result
   turned_goes t r h k result e i j d =

@@ -25,6 +25,7 @@ innermost_is xs n x size some is = by (reverse xs) refl where
             ∙ (reverse-append (reverse fs) (y ∷ []) ∙ ap (λ l. y ∷ l) (reverse-reverse fs)),
       )
 
+-- a value put into the last of the containers in memory is put into the innermost
 pub puts_innermost : (xs : List Frame) (n : ℕ) (x y : Frame) (v : Value) (result : Result Now Reason) → length xs ≡ n → 0 < n → x ≡ get_or xs (n - 1) x
     → ((outer : List Frame) → Puts (x ∷ outer) v result (y ∷ outer)) → Puts (reverse xs) v result (reverse (slice_set xs (n - 1) y))
 puts_innermost xs n x y v result size some is puts =

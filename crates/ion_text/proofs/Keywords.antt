@@ -12,6 +12,7 @@ differs w v n long size few = by (bytes_eq w v) refl
     by true e = let same : length w ≡ length v = ap (λ (x : List ℕ). length x) ((bytes_eq-Decides w v).0 e) in absurd (omega arith)
     by false e = e
 
+-- a word of more than five octets is no keyword
 pub long_free : (w : List ℕ) → 5 < length w → is_keyword w ≡ false
 long_free w long =
     ap (λ b. (b || bytes_eq w (codes "true")) || (bytes_eq w (codes "false") || bytes_eq w (codes "nan"))) (differs w (codes "null") 4 long refl (omega arith))

@@ -154,9 +154,6 @@ module _ (g : Catalog) (l : Limits) (again : Bool) (to : ℕ) (start : State) (p
 whole_rest : (piece : List ℕ) (i : ℕ) → take (length piece - i) (drop i piece) ≡ drop i piece
 whole_rest piece i = grind (arith, common_steps)
 
-pub leads_first : (g : Catalog) (l : Limits) (again : Bool) (to : ℕ) (start : State) (piece : List ℕ) → LeadsFromStart g l again to start piece 0 start
-leads_first g l again to start piece = record { onward = λ rest h. absurd (omega arith); fresh = λ h. refl }
-
 -- at the end of the piece
 pub leads_to_end : (g : Catalog) (l : Limits) (again : Bool) (to : ℕ) (start m : State) (piece : List ℕ) (i : ℕ) → length piece ≤ i
     → (again ≡ true → 0 < length piece) → i ≤ length piece → LeadsFromStart g l again to start piece i m → resumed g l again to start piece ≡ led m
@@ -184,6 +181,7 @@ module _ (g : Catalog) (l : Limits) (again : Bool) (to : ℕ) (start m : State) 
   fits : (k : ℕ) → k ≤ length (take (length piece - i) (drop i piece)) → k ≤ length (drop i piece)
   fits k h = subst (λ (w : List ℕ). k ≤ length w) (whole_rest piece i) h
 
+  -- where a run over further octets leads on, so do the octets of the piece up to there from the start
   pub leads_by : (k : ℕ) (n : State) → 0 < k → k ≤ length (take (length piece - i) (drop i piece))
       → run cat lim used m (take k (take (length piece - i) (drop i piece))) ≡ led n → LeadsFromStart g l again to start piece (i + k) n
   leads_by k n some within e = leads_on g l again to start piece i m before k n some (fits k within) (part k (led n) e)
@@ -192,6 +190,7 @@ module _ (g : Catalog) (l : Limits) (again : Bool) (to : ℕ) (start m : State) 
   pub up_to : (k : ℕ) → i ≤ length piece → k ≤ length (take (length piece - i) (drop i piece)) → i + k ≤ length piece
   up_to k inside h = let j = fits k h in omega (arith, length-drop {A = ℕ})
 
+  -- a value that a further octet of the piece ends is what a step over the piece answers
   pub leads_to_given : (k : ℕ) (given : Option Value) (n : State) → i ≤ length piece → 0 < k → k ≤ length (take (length piece - i) (drop i piece))
       → GaveLast (run cat lim used m (take k (take (length piece - i) (drop i piece)))) (used + k) given n
       → Advances g l again to start piece (Ok (record { used = i + k; value = given })) None n
@@ -206,6 +205,7 @@ module _ (g : Catalog) (l : Limits) (again : Bool) (to : ℕ) (start m : State) 
         ),
       )
 
+  -- where the rest of the piece is refused, so is the piece
   pub leads_to_refused : (refusal : Refusal) → i < length piece → run cat lim used m (take (length piece - i) (drop i piece))
       ≡ record { given = []; now = Err refusal } → resumed g l again to start piece ≡ record { given = []; now = Err refusal }
   leads_to_refused refusal inside e =
@@ -282,6 +282,7 @@ module _ (g : Catalog) (l : Limits) (again : Bool) (to : ℕ) (start m : State) 
       same_led : (a b : State) → led a ≡ led b → a ≡ b
       same_led a b e = ap (λ (r : Run). state_in a r.now) e
 
+-- a piece that begins with an awaited octet has one
 pub begins_some : (a : Option ℕ) (piece : List ℕ) → BeginsWith a piece → is_some a ≡ true → 0 < length piece
 begins_some None piece h e = absurd cc
 begins_some (Some o) piece h e = let i = ap (λ (w : List ℕ). length w) h.1 in omega arith
@@ -290,6 +291,7 @@ some_used : (n : ℕ) → (n ≡ 0 → ⊥) → 0 < n
 some_used zero h = absurd (h refl)
 some_used (suc n) h = omega arith
 
+-- a number that is either not 0 or counts where the test fails is above 0 where the test holds
 pub onward_where : (b : Bool) (n : ℕ) → ((b ≡ true) × (n ≡ 0 → ⊥)) ⊎ (b ≡ false) → b ≡ true → 0 < n
 onward_where b n (inl h) e = some_used n h.1
 onward_where b n (inr h) e = absurd cc

@@ -33,9 +33,11 @@ did_same e f (Ok met.Again) r h d = λ again. h again ∙ d again
 did_same e f (Ok (met.Late reason)) r h d = λ again. h again ∙ d again
 did_same e f (Err reason) r h d = λ other again. h again ∙ d other again
 
+-- a lexeme says what the scanner's token of it holds
 pub said_so : (x : Lexeme) (t : Found) → IsToken x t → said x.kind x.octets ≡ Ok (content t.body)
 said_so x t h = one_body x.kind x.octets (said x.kind x.octets) (Ok (content t.body)) (says x.kind x.octets) h.says
 
+-- a lexeme, as the machine takes it, is the scanner's token of it
 pub token_so : (x : Lexeme) (t : Found) → IsToken x t → token_of x (content t.body) ≡ token_in t
 token_so x t h =
     ap (λ n. record { start = n; end = x.end; said = content t.body }) (sym h.start)
@@ -90,6 +92,7 @@ module _ (g : Catalog) (l : Limits) (r : Reading) where
   no_token before (Left x s) scan now a e = absurd (subst (λ t. GivesToken x t) e a.1)
   no_token before (Refused n y) scan now a e = absurd a
 
+  -- where the scanner gave no token and the reader has no reason to refuse, the octets are used
   pub next_meets : (before : ℕ) (x : Outcome) (scan : Stepped) (now : Known) (new : TextReader) → Answers before x (Ok scan) now → scan.token ≡ None
       → scanned new.scanner ≡ now → noticed l r now ≡ uses (state_of new) → DidWhatCame g l r x met.Uses new
   next_meets before x scan now new a e same did =
@@ -100,6 +103,7 @@ module _ (g : Catalog) (l : Limits) (r : Reading) where
         left = ap is_left h;
       }
 
+  -- where the scanner gave no token and the reader has a reason to refuse, this is answered
   pub next_refused : (before : ℕ) (x : Outcome) (scan : Stepped) (now : Known) (refusal : Refusal) (reason : Reason) (new : TextReader)
       → Answers before x (Ok scan) now → scan.token ≡ None → noticed l r now ≡ fails reason
       → refusal ≡ record { offset = now.used + 0; reason = reason } → MeetsWith g l r x (Err refusal) new
@@ -134,6 +138,7 @@ module _ (g : Catalog) (l : Limits) (r : Reading) where
   left_token before (Left x s) scan t now a e f = record { lexeme = x; is = ap (λ k. Left x k) (sym a.0.known); token = subst (λ o. GivesToken x o) e a.1 }
   left_token before (Refused n y) scan t now a e f = absurd a
 
+  -- where the last octet ended a token, what the method did with the token is what came of the octets
   pub given_meets : (before : ℕ) (x : Outcome) (scan : Stepped) (t : Found) (now : Known) (m : Met) (new : TextReader) → Answers before x (Ok scan) now
       → scan.token ≡ Some t → scan.left ≡ false
       → scanned new.scanner ≡ now → comes_again m ≡ false → DidMeet (λ _. behind_given l now (turn g l r (token_in t))) (Ok m) new → DidWhatCame g l r x m new
@@ -146,6 +151,7 @@ module _ (g : Catalog) (l : Limits) (r : Reading) where
         left = ap is_left h.is ∙ sym ends;
       }
 
+  -- where the token that the last octet ended is refused, this is answered at that octet
   pub given_refused : (before : ℕ) (x : Outcome) (scan : Stepped) (t : Found) (now : Known) (refusal : Refusal) (reason : Reason) (used : ℕ) (new : TextReader)
       → Answers before x (Ok scan) now → scan.token ≡ Some t → scan.left ≡ false
       → DidMeet (λ _. behind_given l now (turn g l r (token_in t))) (Err reason) new → used ≡ now.used → refusal ≡ record { offset = used + 0; reason = reason }
@@ -161,6 +167,7 @@ module _ (g : Catalog) (l : Limits) (r : Reading) where
             ∙ (on_given again h.lexeme t now now refl h.token ∙ (did (λ m. other (cause ∙ m)) again ∙ ap fails (sym cause))),
       )
 
+  -- where the last octet showed the end of a token, what the method did with it is what came of the octets
   pub left_meets : (before : ℕ) (x : Outcome) (scan : Stepped) (t : Found) (now : Known) (m : Met) (new : TextReader) → Answers before x (Ok scan) now
       → scan.token ≡ Some t → scan.left ≡ true
       → scanned new.scanner ≡ now → comes_again m ≡ true → DidMeet (λ again. behind_left again now (turn g l r (token_in t))) (Ok m) new
@@ -174,6 +181,7 @@ module _ (g : Catalog) (l : Limits) (r : Reading) where
         left = ap is_left h.is ∙ sym ends;
       }
 
+  -- where the token before the last octet is refused, this is answered at the octet that showed its end
   pub left_refused : (before : ℕ) (x : Outcome) (scan : Stepped) (t : Found) (now : Known) (refusal : Refusal) (reason : Reason) (used : ℕ) (new : TextReader)
       → Answers before x (Ok scan) now → scan.token ≡ Some t → scan.left ≡ true
       → DidMeet (λ again. behind_left again now (turn g l r (token_in t))) (Err reason) new → used ≡ now.used

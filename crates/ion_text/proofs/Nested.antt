@@ -43,12 +43,14 @@ abbrev pub is_open_left : Bracket → Bool
 is_open_left brackets.Fields = true
 is_open_left _ = false
 
+-- where no name may come, the octet of an open is a token of its mark
 pub open_found : (x : Bracket) (p : Place) (r : Rest) (octets : List ℕ) → OpensAt octets x → 1 < length octets → is_name p ≡ false
     → IsFound p r octets (kinds.Mark (open_mark x)) [] 1 (is_open_left x)
 open_found brackets.List p r octets opens more name = list_open_found p r octets name (omega arith) opens
 open_found brackets.Sexp p r octets opens more name = sexp_open_found p r octets name (omega arith) opens
 open_found brackets.Fields p r octets opens more name = fields_open_found p r octets name more opens.0 opens.1
 
+-- behind an open the reader stays where the open led it
 pub opened_stays : (start : ℕ) (c : List Slot) (fs : List Frame) (ss : Symbols) (x : Bracket) → StaysIn start (at start c (opened x ss ∷ fs) [] (first_now x))
 opened_stays start c fs ss brackets.List = (refl, refl, tt)
 opened_stays start c fs ss brackets.Sexp = (refl, refl, tt)
@@ -68,6 +70,7 @@ module _ (setting : Setting) (spot : Spot) (fs : List Frame) (ss : Symbols) wher
   open_stays : (x : Bracket) (q : Reading) → opening x setting.limits.depth spot.start spot.context fs ss ≡ goes q → StaysIn spot.start q
   open_stays x q does = deepens (nat_lt (length fs) setting.limits.depth) _ q _ (beyond_depth_stops x _ q) (opened_stays spot.start spot.context fs ss x) does
 
+-- the open of a container in another one is taken up at once
 pub open_strides : (old new : TextReader) (moved : Scanner) (rest behind : Rest) (octets : List ℕ) (x : Bracket) → Inside old octets
     → scanned old.scanner ≡ resting rest → Moved old.scanner moved behind → SameSetting (with_scanner old moved) new
     → 1 < length octets → OpensAt octets x → is_name (place (reading_of old)) ≡ false
@@ -125,6 +128,7 @@ module _ (old new : TextReader) (moved : Scanner) (rest behind : Rest) (octets :
   ends = found.ends ∙ ap (λ (k : Rest). Left (lexeme_at rest (kinds.Mark marks.FieldsOpen) [] 1) (resting k))
       (ap (λ p. past_token p rest (kinds.Mark marks.FieldsOpen) 1) top ∙ sym there)
 
+  -- the open of a struct at the top level is taken up at once
   pub struct_strides : Strides old new octets 1
   struct_strides = record {
     within = h.more;
@@ -158,6 +162,7 @@ module _ (g : Catalog) (l : Limits) (begin end start : ℕ) (c : List Slot) wher
       (turn_now (under g l) (at start c fs [] now) (token_at begin end (Mark' (close_mark x))) now ≡ closed x (under g l) (spot_at end start c) fs)
       × IsStill now
 
+  -- a mark that fits the innermost container closes it, and nothing waits
   pub closing : (x : Bracket) (fs : List Frame) (now : Now) → closes x fs now ≡ true → MarkCloses x fs now
   closing brackets.List (frames.Items listings.List ss vs ∷ fs) nows.Ready h = (refl, tt)
   closing brackets.List (frames.Items listings.List ss vs ∷ fs) nows.After h = (refl, tt)
@@ -183,6 +188,7 @@ close_stays setting spot q bracket fs = by bracket fs (closes_or_not bracket fs)
     by _ _ (ends_struct ss ms fs) more does = ended_stays setting spot q fs (annotated ss (payloads.Fields ms)) (inner (frames.Fields ss ms) fs more) does
     by _ _ (ends_none bracket fs e) more does = absurd (let never : unexpected ≡ goes q = sym (e setting spot) ∙ does in cc)
 
+-- the close of a container that stands in another one is taken up at once
 pub close_strides : (old new : TextReader) (moved : Scanner) (rest behind : Rest) (octets : List ℕ) (x : Bracket) → Inside old octets
     → scanned old.scanner ≡ resting rest → Moved old.scanner moved behind → SameSetting (with_scanner old moved) new
     → 1 < length octets → ClosesAt (reading_of old) (slice_index octets 0) x → behind ≡ past_token (place (reading_of old)) rest (kinds.Mark (close_mark x)) 1

@@ -63,6 +63,7 @@ left_worse : (reason : Reason) (e : Effect) (given : Option Value) (m : State) �
 left_worse reason e (Some v) m h = ap (or_worse reason) h
 left_worse reason e None m h = absurd h
 
+-- an octet that was refused already and comes again is refused for the smaller of the reasons
 pub take_worse : (reason : Reason) (e : Effect) (again : Result Taken Reason) (r : TextReader) → DidTake e again r → (worse reason again ≢ reasons.Memory)
     → or_worse reason e ≡ fails (worse reason again)
 take_worse reason e (Ok taken.Uses) r d other = ap (or_worse reason) d
@@ -79,9 +80,11 @@ one_octet p s o = by (feed p s o) where
   by (Left l t) = refl
   by (Refused n e) = refl
 
+-- the octet that ends a token as its last is used
 pub given_here : (p : Place) (o : ℕ) (s t : Known) (y : Lexeme) → feed p s o ≡ Given y t → t.used ≡ s.used + 1
 given_here p o s t y f = let h = given_used p (o ∷ []) s t y (sym (one_octet p s o ∙ f)) in omega (arith, h.0, h.1)
 
+-- the octet that shows the end of the token before it isn't used
 pub left_here : (p : Place) (o : ℕ) (s t : Known) (y : Lexeme) → feed p s o ≡ Left y t → t.used ≡ s.used
 left_here p o s t y f = let h = left_used p (o ∷ []) s t y (sym (one_octet p s o ∙ f)) in omega (arith, h.0, h.1)
 
@@ -104,6 +107,7 @@ left_by p s o (Given y t) now f b l = absurd cc
 left_by p s o (Left y t) now f b l = ap (λ (k : Known). k.used) b ∙ left_here p o s t y f
 left_by p s o (Refused n e) now f b l = absurd b
 
+-- an octet that comes again wasn't used
 pub one_left : (p : Place) (s : Known) (o : ℕ) (m : Met) (now : Known) → IsBehind (run p (o ∷ []) s) now → is_left (run p (o ∷ []) s) ≡ comes_again m
     → comes_again m ≡ true → now.used ≡ s.used
 one_left p s o m now b l f =
@@ -172,6 +176,7 @@ module _ (g : Catalog) (l : Limits) (n o : ℕ) where
       (ap (on_scan g l (λ m. takes g l n m o) r) (sym (one_octet p s o))
       ∙ (there.did (λ m. takes g l n m o) ∙ same_takes g mid.catalog.now l mid.limits n o (state_of mid) e f)) d
 
+  -- behind a late refusal an octet that comes again is refused for the smaller of both reasons
   pub late_did : (r : Reading) (p : Place) (s : Known) (y : Met) (reason cause : Reason) (mid : TextReader) (result : Result Taken Reason) (new : TextReader)
       → y ≡ met.Late reason → DidWhatCame g l r (run p (o ∷ []) s) y mid
       → mid.catalog.now ≡ g → mid.limits ≡ l → DidTake (takes mid.catalog.now mid.limits n (state_of mid) o) result new → cause ≡ worse reason result
@@ -202,6 +207,7 @@ module _ (g : Catalog) (l : Limits) (n o : ℕ) where
         ∙ (ap (λ q. on_octet g l (λ k. takes g l (n - 1) k o) m (feed q m.scan o)) (sym here)
         ∙ octet_settles g l o (λ k. takes g l (n - 1) k o) m (feed p m.scan o) t w e)
 
+    -- where what waited is settled and goes on, the octet does what it does behind that
     pub settles_goes : (r : Reading) (h : Catalog) (k : Limits) (s : Known) (result : Result Taken Reason) (new : TextReader)
         → unsettled m.scan m.reading (feed p m.scan o) ≡ false → settle g l m.reading ≡ goes r → h ≡ g → k ≡ l → s ≡ m.scan
         → DidTake (on_scan h k (λ j. takes h k (n - 1) j o) r (feed p s o)) result new → DidTake (takes g l n m o) result new
@@ -209,6 +215,7 @@ module _ (g : Catalog) (l : Limits) (n o : ℕ) where
         take_same (takes g l n m o) (on_scan h k (λ j. takes h k (n - 1) j o) r (feed p s o)) result new
         (settles (goes r) w e ∙ same_scan g h l k (n - 1) o p m.scan s r f i j) d
 
+    -- where settling what waited is a late refusal, the octet is refused for the smaller of both reasons
     pub settles_late : (reason cause : Reason) (r : Reading) (h : Catalog) (k : Limits) (s : Known) (result : Result Taken Reason) (new : TextReader)
         → unsettled m.scan m.reading (feed p m.scan o) ≡ false → settle g l m.reading ≡ late reason r → h ≡ g → k ≡ l → s ≡ m.scan
         → DidTake (on_scan h k (λ j. takes h k (n - 1) j o) r (feed p s o)) result new → cause ≡ worse reason result → cause ≢ reasons.Memory
@@ -219,6 +226,7 @@ module _ (g : Catalog) (l : Limits) (n o : ℕ) where
         ∙ (take_worse reason (on_scan h k (λ j. takes h k (n - 1) j o) r (feed p s o)) result new d (λ m. other (same ∙ m))
         ∙ ap fails (sym same)))
 
+    -- where the octet settles what waited as a value, it shows the value's end and isn't used
     pub settles_gives : (given : Option Value) (now : State) (r : Reading) → unsettled m.scan m.reading (feed p m.scan o) ≡ false
         → Gave (settle g l m.reading) given r → now ≡ with_scan m.scan r → Told (takes g l n m o) leaves given now
     settles_gives None now r w e same = absurd e

@@ -69,6 +69,7 @@ next_octet k w os h e =
     cut (x ∷ v) (suc k) i = cut v k (omega arith)
 
 module _ (g : Catalog) (l : Limits) where
+  -- no octets lead a run from a state to itself
   pub passes_none : (m : State) (octets : List ℕ) → Passes g l m octets 0 m
   passes_none m octets w e = refl
 
@@ -200,6 +201,7 @@ module _ (g : Catalog) (l : Limits) (r : Reading) where
       )
 
   module _ (most : ℕ) (notices : NoticesNothing l r most) where
+    -- where no token has surely begun behind octets, the reader has no reason to refuse, within a limit
     pub blank_quiet : (p : Place) (os : List ℕ) (s t : Known) → is_sane s.mode ≡ true → is_idle t.mode ≡ true → scanning.run p os s ≡ Next t
         → s.used + length os ≤ most → Quiet g l r p s os
     blank_quiet p [] s t sane idle e room = tt
@@ -263,6 +265,7 @@ module _ (g : Catalog) (l : Limits) (r : Reading) where
     scans : (y : Outcome) → feed (place r) k octet ≡ y → eats g l (with_scan k r) octet ≡ on_scan g l again r y
     scans y f = go_on g l again r k (feed (place r) k octet) (unsettled k r (feed (place r) k octet)) (inr still) ∙ ap (on_scan g l again r) f
 
+    -- a token that the octet behind it ends leads a run behind it
     pub passes_left : b.mode ≡ modes.Blank → b.used ≡ s.used + n → feed (place r) k octet ≡ Left x b → Passes g l (with_scan s r) octets n (with_scan b q)
     passes_left blank used f =
         passes_same g l (with_scan s r) (with_scan k r) (with_scan b q) octets n shown (let i = counted in omega arith)
@@ -270,6 +273,7 @@ module _ (g : Catalog) (l : Limits) (r : Reading) where
         ∙ (ap (λ a. on_said a (λ c. behind_left again b (turn g l r (token_of x c)))) says
         ∙ (ap (behind_left again b) turns ∙ twice_fuel g l (with_scan b q) octet (blank_twice b octet blank)))) before
 
+    -- a token that its last octet ends leads a run behind it, if nothing is refused then
     pub passes_given : is_idle b.mode ≡ true → b.used ≡ s.used + n + 1 → (most : ℕ) → NoticesNothing l q most → b.used ≤ most
         → feed (place r) k octet ≡ Given x b → Passes g l (with_scan s r) octets (n + 1) (with_scan b q)
     passes_given idle used most notices room f =

@@ -114,6 +114,7 @@ step_progress old new piece (Err refusal) h = tt
 step_progress old new piece (Ok step) h = progress old.catalog.now old.limits (octets_used old) (state_of old) (state_of new) old.awaited new.awaited piece
     step.used step.value new.awaited h
 
+-- each octet that a step uses raises how many values may still come by two at most
 pub step_pending : (old new : TextReader) (piece : List ℕ) (result : Result Step Refusal) → BeginsWith old.awaited piece
     → Advances old.catalog.now old.limits (is_some old.awaited) (octets_used old) (state_of old) piece result new.awaited (state_of new)
     → IfOk result (λ step. pending new ≤ pending old + 2 * step.used)

@@ -23,6 +23,7 @@ module _ (g : Catalog) (l : Limits) (to : ℕ) (m : State) (piece : List ℕ) (n
   octet_of : (k : ℕ) → k < n → get_or (take n piece) k 0 ≡ get_or piece k 0
   octet_of k h = grind (arith, common_steps)
 
+  -- what was taken up of the front of a piece was taken up of the piece
   pub took_front : (result : Result (ℕ × Taken) Refusal) (new : TextReader) → Took g l to m (take n piece) result new → Took g l to m piece result new
   took_front (Ok took) new h = by took.1 h
     where

@@ -319,6 +319,7 @@ module _ (g : Catalog) (l : Limits) (r : Reading) (calm : IsCalm r.now) (s : Kno
         ≡ s.used + count → count ≡ length piece
     next_count t new count e b u = let n = next_used (place r) piece s t (sym e) in let m = ap (λ (k : Known). k.used) b in omega arith
 
+    -- where the octets handed over at once were used, a run over them leads to the reader's state
     pub uses_by : (x : Outcome) (new : TextReader) (count : ℕ) → scanning.run (place r) piece s ≡ x → DidWhatCame g l r x met.Uses new
         → (scanned new.scanner).used ≡ s.used + count
         → (0 < count) × (count ≤ length piece) × (run g l s.used (with_scan s r) (take count piece) ≡ led (state_of new))
@@ -343,6 +344,7 @@ module _ (g : Catalog) (l : Limits) (r : Reading) (calm : IsCalm r.now) (s : Kno
     uses_by (Left y t) new count e h u = let n = h.left in absurd cc
     uses_by (Refused n y) new count e h u = absurd h.behind
 
+    -- where the last of the octets handed over ended a value, a run over them gives it with that octet
     pub tells_by : (x : Outcome) (new : TextReader) (count : ℕ) → scanning.run (place r) piece s ≡ x → DidWhatCame g l r x met.Tells new
         → (scanned new.scanner).used ≡ s.used + count
         → (0 < count) × (count ≤ length piece) × GaveLast (run g l s.used (with_scan s r) (take count piece)) (s.used + count) new.given (state_of new)
@@ -422,6 +424,7 @@ module _ (g : Catalog) (l : Limits) (r : Reading) (calm : IsCalm r.now) (s : Kno
     refusal_same : (refusal : Refusal) (n : ℕ) → refusal.offset ≡ n → refusal ≡ record { offset = n; reason = refusal.reason }
     refusal_same refusal n e = ap (λ k. record { offset = k; reason = refusal.reason }) e
 
+    -- where what came of the octets is refused, a run over the piece is refused so
     pub refused_by : (x : Outcome) (refusal : Refusal) (new : TextReader) → scanning.run (place r) piece s ≡ x → MeetsWith g l r x (Err refusal) new
         → refusal.reason ≢ reasons.Memory → run g l s.used (with_scan s r) piece ≡ record { given = []; now = Err refusal }
     refused_by (Next t) refusal new e h other = absurd (no_failing refusal.reason (with_scan t r)
@@ -442,6 +445,7 @@ module _ (g : Catalog) (l : Limits) (r : Reading) (calm : IsCalm r.now) (s : Kno
         let n : refusal.offset ≡ s.used + a.count + 1 = omega (arith, offset, refused_here (place r) a.known a.octet k y a.fed, a.counted) in
         at_refused (Refused k y) a refusal.reason refusal (refusal_same refusal (s.used + a.count + 1) n) ((h other).1 (λ m. takes g l 2 m a.octet))
 
+    -- what came of the octets in a place came of them in the reader's, if it is the same
     pub at_place : (p : Place) (y : Met) (new : TextReader) → p ≡ place r → DidWhatCame g l r (scanning.run p piece s) y new
         → DidWhatCame g l r (scanning.run (place r) piece s) y new
     at_place p y new e h = subst (λ (q : Place). DidWhatCame g l r (scanning.run q piece s) y new) e h
@@ -453,6 +457,7 @@ module _ (g : Catalog) (l : Limits) (r : Reading) (calm : IsCalm r.now) (s : Kno
       there : AtLeft (scanning.run (place r) piece s) mid count
       there = left_at (scanning.run (place r) piece s) mid y count refl h b u
 
+      -- an octet that comes again stands in the piece, behind those that were used
       pub left_inside : count < length piece
       left_inside = let i = there.at.inside in let n = there.same in omega arith
 
@@ -476,6 +481,7 @@ module _ (g : Catalog) (l : Limits) (r : Reading) (calm : IsCalm r.now) (s : Kno
 
       module _ (result : Result Taken Reason) (new : TextReader)
           (did : DidTake (takes mid.catalog.now mid.limits 2 (state_of mid) (get_or piece count 0)) result new) where
+        -- where the octet that comes again is used, a run up to and with it leads to the reader's state
         pub again_uses : y ≡ met.Again → result ≡ Ok taken.Uses → (0 < count + 1) × (count + 1 ≤ length piece)
             × (run g l s.used (with_scan s r) (take (count + 1) piece) ≡ led (state_of new))
         again_uses is i =
@@ -487,6 +493,7 @@ module _ (g : Catalog) (l : Limits) (r : Reading) (calm : IsCalm r.now) (s : Kno
                   (comes is) i did,
             )
 
+        -- where the octet that comes again ends a value, a run up to and with it gives this value
         pub again_tells : y ≡ met.Again → result ≡ Ok taken.Tells → (0 < count + 1) × (count + 1 ≤ length piece)
             × GaveLast (run g l s.used (with_scan s r) (take (count + 1) piece)) (s.used + (count + 1)) new.given (state_of new)
         again_tells is i =
@@ -501,6 +508,7 @@ module _ (g : Catalog) (l : Limits) (r : Reading) (calm : IsCalm r.now) (s : Kno
                   told),
             )
 
+        -- where the octet that comes again shows a value's end, a run leads up to it, and there it does
         pub again_leaves : y ≡ met.Again → result ≡ Ok taken.Leaves → LedLeaving g l s.used (with_scan s r) piece count new.given (state_of new)
         again_leaves is i =
             subst (λ (k : ℕ). LedLeaving g l s.used (with_scan s r) piece k new.given (state_of new)) (sym there.same)
@@ -510,6 +518,7 @@ module _ (g : Catalog) (l : Limits) (r : Reading) (calm : IsCalm r.now) (s : Kno
         at_count : (offset : ℕ) → offset ≡ (scanned mid.scanner).used + 1 → offset ≡ s.used + there.at.count + 1
         at_count offset e = let n = there.same in omega arith
 
+        -- where the octet that comes again is refused, a run over the piece is refused at it
         pub again_refused : (offset : ℕ) (reason : Reason) → offset ≡ (scanned mid.scanner).used + 1 → y ≡ met.Again → result ≡ Err reason
             → reason ≢ reasons.Memory → run g l s.used (with_scan s r) piece ≡ record { given = []; now = Err (record { offset = offset; reason = reason }) }
         again_refused offset reason o is i other =
@@ -518,6 +527,7 @@ module _ (g : Catalog) (l : Limits) (r : Reading) (calm : IsCalm r.now) (s : Kno
             (comes is ∙ subst (λ (q : Result Taken Reason). DidTake (takes mid.catalog.now mid.limits 2 (state_of mid) (get_or piece count 0)) q new) i did
             other)
 
+        -- where an octet comes again behind a late refusal, a run is refused at it for the smaller reason
         pub late_refused : (offset : ℕ) (reason cause : Reason) → offset ≡ (scanned mid.scanner).used + 1 → y ≡ met.Late reason → cause ≡ worse reason result
             → cause ≢ reasons.Memory → run g l s.used (with_scan s r) piece ≡ record { given = []; now = Err (record { offset = offset; reason = cause }) }
         late_refused offset reason cause o is w other =
@@ -526,6 +536,7 @@ module _ (g : Catalog) (l : Limits) (r : Reading) (calm : IsCalm r.now) (s : Kno
             (comes_late reason is ∙ (take_worse reason (takes mid.catalog.now mid.limits 2 (state_of mid) (get_or piece count 0)) result new did
             (λ m. other (w ∙ m)) ∙ ap fails (sym w)))
 
+    -- where the octet behind those used showed a value's end, a run leads up to it, and there it does
     pub leaves_by : (x : Outcome) (new : TextReader) (count : ℕ) → scanning.run (place r) piece s ≡ x → DidWhatCame g l r x met.Leaves new
         → (scanned new.scanner).used ≡ s.used + count → LedLeaving g l s.used (with_scan s r) piece count new.given (state_of new)
     leaves_by x new count e h u =

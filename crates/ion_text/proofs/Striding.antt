@@ -21,6 +21,7 @@ use Rattle.ion_text.specs.machine.Progress.{Took, GaveLast}
 use Rattle.ion_text.specs.machine.AtOnce.{Passes, IsStill, IsResting, Inside, Strides}
 use Rattle.ion_text.proofs.Passing.{passes_on, passes_none, next_octet}
 
+-- where nothing waits, settling changes nothing
 pub still_settles : (g : Catalog) (l : Limits) (r : Reading) → IsStill r.now → settle g l r ≡ goes r
 still_settles g l r h = go r.now refl h
   where
@@ -33,6 +34,7 @@ still_settles g l r h = go r.now refl h
     go (nows.Long x y) e k = absurd k
     go (nows.LongName x) e k = absurd k
 
+-- a reader in an open container that took up nothing stands where it stood
 pub strides_none : (r : TextReader) (octets : List ℕ) → Inside r octets → Strides r r octets 0
 strides_none r octets h = record {
   within = h.some;
@@ -49,6 +51,7 @@ strides_none r octets h = record {
 same_on : (a b c : TextReader) → SameReader a b → SameReader b c → SameReader a c
 same_on a b c h k = record { catalog = k.catalog ∙ h.catalog; limits = k.limits ∙ h.limits; awaited = k.awaited ∙ h.awaited; failed = k.failed ∙ h.failed }
 
+-- octets taken up at once and those taken up behind them are taken up together
 pub strides_on : (a b c : TextReader) (octets rest : List ℕ) (i j : ℕ) → rest ≡ drop i octets → Strides a b octets i → Strides b c rest j
     → Strides a c octets (i + j)
 strides_on a b c octets rest i j is h k =
@@ -150,12 +153,14 @@ module _ (first mid : TextReader) (piece : List ℕ) (k : ℕ) (h : Strides firs
   same_eats = ap (λ x. eats x.now mid.limits (state_of mid) o) h.same.catalog ∙ ap (λ x. eats g x (state_of mid) o) h.same.limits
 
   module _ (new : TextReader) where
+    -- tokens taken up at once and an octet that is used behind them are what was taken up of the piece
     pub behind_uses : DidTake (eats mid.catalog.now mid.limits (state_of mid) o) (Ok taken.Uses) new
         → Took g l (scanned first.scanner).used (state_of first) piece (Ok (k + 1, taken.Uses)) new
     behind_uses d =
         let within = h.within in
         (omega arith, omega arith, with_octet ∙ ap (run_on (scanned mid.scanner).used (λ n. eats g l n o) led) (sym same_eats ∙ d))
 
+    -- behind tokens taken up at once the octet that ends a value gives it as a run over the piece does
     pub behind_tells : DidTake (eats mid.catalog.now mid.limits (state_of mid) o) (Ok taken.Tells) new
         → Took g l (scanned first.scanner).used (state_of first) piece (Ok (k + 1, taken.Tells)) new
     behind_tells d =
@@ -171,6 +176,7 @@ module _ (first mid : TextReader) (piece : List ℕ) (k : ℕ) (h : Strides firs
             with_octet ∙ (ap (run_on (scanned mid.scanner).used (λ n. eats g l n o) led) (sym same_eats ∙ e)
             ∙ ap (λ j. record { given = (v, j) ∷ []; now = Ok (state_of new) }) total)
 
+    -- behind tokens taken up at once the octet that shows a value's end leaves it as a run does
     pub behind_leaves : DidTake (eats mid.catalog.now mid.limits (state_of mid) o) (Ok taken.Leaves) new
         → Took g l (scanned first.scanner).used (state_of first) piece (Ok (k, taken.Leaves)) new
     behind_leaves d = absurd (by new.given d)
@@ -179,6 +185,7 @@ module _ (first mid : TextReader) (piece : List ℕ) (k : ℕ) (h : Strides firs
         by None e = e
         by (Some v) e = never v (state_of new) (sym same_eats ∙ e)
 
+    -- where the octet behind tokens taken up at once is refused, so is a run over the piece
     pub behind_refused : (e : Reason) → DidTake (eats mid.catalog.now mid.limits (state_of mid) o) (Err e) new → e ≢ reasons.Memory
         → run g l (scanned first.scanner).used (state_of first) piece
         ≡ record { given = []; now = Err (record { offset = (scanned mid.scanner).used + 1; reason = e }) }

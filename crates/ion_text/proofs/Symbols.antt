@@ -60,6 +60,7 @@ some_is a b e = cc
 ok_is : (a b : Content) → Path (Result Content Reason) (Ok a) (Ok b) → a ≡ b
 ok_is a b e = cc
 
+-- what may be an annotation waits for `::` where a value may come
 pub waits_so : (setting : Setting) (spot : Spot) (fs : List Frame) (ss : Symbols) (c : Content) (h : Held) → held_of c ≡ Some h → on_ready setting spot fs ss c
     ≡ goes (at spot.start spot.context fs ss (nows.Pending h spot.end))
 waits_so setting spot fs ss c h e = go c e
@@ -314,6 +315,7 @@ module _ (g : Catalog) (l : Limits) (r : Reading) (start : ℕ) (now : r.now ≡
         (ap (feed (place held_back) colons.known) (at_drop 1 (drop (n + m) octets)) ∙ colons.ends) refl (mark_says marks.Colons)
         (ap (noted start r.context r.frames r.notes) symbol) refl (omega arith) (rest.used + length octets) notes (omega arith)
 
+    -- a symbol, a blank and `::` lead a run to a state that has the annotation
     pub noted_passes : Passes g l (with_scan (resting rest) r) octets (n + m + 2) (with_scan (resting past_colons) with_note)
     noted_passes =
         passes_on g l (with_scan (resting rest) r) (with_scan (resting past_between) held_back) (with_scan (resting past_colons) with_note) octets (n + m) 2
@@ -398,6 +400,7 @@ module _ (g : Catalog) (l : Limits) (r : Reading) (inner : is_top r.frames ≡ f
           (ended_place (under g l) (spot_in r (rest.used + n)) q r.frames (annotated r.notes payload) inner does
           ∙ (ap (place_in r.frames) (sym now) ∙ sym waits_there))
 
+      -- a symbol and the blank behind it lead a run behind its value, if the next octet shows no `::`
       pub symbol_passes : Passes g l (with_scan (resting rest) r) octets (n + m) (with_scan (resting behind_blank) q)
       symbol_passes =
           let none : n + m + 0 ≡ n + m = omega arith in
@@ -411,6 +414,7 @@ module _ (g : Catalog) (l : Limits) (r : Reading) (inner : is_top r.frames ≡ f
       abbrev noting : Reading
       noting = at r.start r.context r.frames (r.notes ++ s ∷ []) nows.Ready
 
+      -- an annotation in a container, a blank and `::` lead the run behind them
       pub note_passes : Passes g l (with_scan (resting rest) r) octets (n + m + 2)
           (with_scan (resting (past_token (place r) behind_blank (kinds.Mark marks.Colons) 2)) noting)
       note_passes =
@@ -460,6 +464,7 @@ module _ (g : Catalog) (l : Limits) (r : Reading) (inner : is_top r.frames ≡ f
         f.known refl (colon_idle (place with_name) behind_blank (drop (n + m) octets) may_colon (at_drop (n + m) octets ∙ colon) f.known f.ran) f.ran
         (let few = length-take-le 1 (drop (n + m) octets) (omega arith) in omega arith)))
 
+    -- a field's name, a blank and a colon lead a run to where the field's value may come
     pub name_passes : Passes g l (with_scan (resting rest) r) octets (n + m + 1) (with_scan (resting behind_colon) q)
     name_passes =
         passes_on g l (with_scan (resting rest) r) (with_scan (resting behind_blank) with_name) (with_scan (resting behind_colon) q) octets (n + m) 1
@@ -468,6 +473,7 @@ module _ (g : Catalog) (l : Limits) (r : Reading) (inner : is_top r.frames ≡ f
 
 -- Tokens that are found whole, and what they are.
 
+-- the token of a quoted symbol in UTF-8 says its octets
 pub quoted_says : (w : List ℕ) → IsUtf8 w → said kinds.QuotedSymbol w ≡ Ok (Quoted w)
 unfolding said
 quoted_says w h = spelled_utf8 (Quoted w) w h
@@ -482,10 +488,12 @@ module _ (p : Place) (r : Rest) (octets : List ℕ) (n : ℕ) where
   abbrev short_token : FoundToken
   short_token = record { kind = kinds.ShortString; count = n; left = false }
 
+  -- a word found there that doesn't begin with `$` says its octets
   pub word_said : IsFound p r octets kinds.Word (take n octets) n true → IsUtf8 (take n octets) → get_or octets 0 0 ≢ 36 → said kinds.Word (take n octets)
       ≡ Ok (Word (take n octets))
   word_said found text first = let some = found.some in word_says (take n octets) text (λ e. first (sym (first_of n octets some) ∙ e))
 
+  -- a word found there is the value that is held of it, unless `::` follows
   pub word_symbol : (payload : Payload) → IsFound p r octets kinds.Word (take n octets) n true → IsUtf8 (take n octets) → get_or octets 0 0 ≢ 36
       → held_payload (held_word (take n octets)) ≡ Ok payload → BeginsSymbol p r octets found_word payload
   word_symbol payload found text first pays = record {
@@ -496,6 +504,7 @@ module _ (p : Place) (r : Rest) (octets : List ℕ) (n : ℕ) where
     pays = pays;
   }
 
+  -- a word found there that is no keyword is the name of a field
   pub word_name : (name : Option (List ℕ)) → IsFound p r octets kinds.Word (take n octets) n true → IsUtf8 (take n octets) → get_or octets 0 0 ≢ 36
       → is_keyword (take n octets) ≡ false → name ≡ Some (take n octets) → BeginsName p r octets found_word name
   word_name name found text first free is = record {
@@ -507,6 +516,7 @@ module _ (p : Place) (r : Rest) (octets : List ℕ) (n : ℕ) where
   }
 
   module _ (w : List ℕ) (s : Option (List ℕ)) (text : IsUtf8 w) (is : s ≡ Some w) where
+    -- a quoted symbol found there is the symbol of its text, unless `::` follows
     pub quoted_symbol : IsFound p r octets kinds.QuotedSymbol w n false → BeginsSymbol p r octets found_quoted (payloads.Symbol s)
     quoted_symbol found = record {
       kept = w;
@@ -516,9 +526,11 @@ module _ (p : Place) (r : Rest) (octets : List ℕ) (n : ℕ) where
       pays = ap (λ x. Ok (payloads.Symbol x)) (sym is);
     }
 
+    -- a quoted symbol found there is the name of a field
     pub quoted_name : IsFound p r octets kinds.QuotedSymbol w n false → BeginsName p r octets found_quoted s
     quoted_name found = record { kept = w; content = Quoted w; found = found; says = quoted_says w text; names = is }
 
+    -- a short string found there is the name of a field
     pub short_name : IsFound p r octets kinds.ShortString w n false → BeginsName p r octets short_token s
     short_name found = record { kept = w; content = Short w; found = found; says = short_says w text; names = is }
 
@@ -530,6 +542,7 @@ in_symbol : Result Payload Reason → Result (Option (List ℕ)) Reason
 in_symbol (Ok (payloads.Symbol x)) = Ok x
 in_symbol _ = Err reasons.KeywordAsName
 
+-- what is held and is a symbol as a value is the same symbol as an annotation
 pub symbol_held : (h : Held) (s : Option (List ℕ)) → held_payload h ≡ Ok (payloads.Symbol s) → held_symbol h ≡ Ok s
 unfolding in_symbol
 symbol_held (helds.Symbol a) s e = ap in_symbol e
@@ -538,6 +551,7 @@ symbol_held (helds.Null k) s e = absurd cc
 symbol_held (helds.Truth b) s e = absurd cc
 symbol_held helds.Nan s e = absurd cc
 
+-- where what is held is a value, something is held
 pub held_in : (o : Option Held) (v : Payload) → Pays o v → (h : Held) × (o ≡ Some h) × (held_payload h ≡ Ok v)
 held_in None v p = absurd p
 held_in (Some h) v p = (h, refl, p)
@@ -553,6 +567,7 @@ module _ (old new : TextReader) (moved : Scanner) (rest behind : Rest) (octets :
   total : (a b c : ℕ) → a + b + c ≡ a + (b + c)
   total a b c = omega arith
 
+  -- in an open container a symbol that no `::` follows is taken up at once with the blank behind it
   pub symbol_strides : (m : ℕ) (payload : Payload) → n + m < length octets → behind ≡ past_blank (past_token (place (reading_of old)) rest token.kind n) m
       → old.stage ≡ nows.Ready → BeginsSymbol (place (reading_of old)) rest octets token payload → IsPassed (drop n octets) m
       → ends_symbol (get_or octets (n + m) 0) ≡ true → ended (setting_of old) (spot_of old (rest.used + n)) (open_frames old) (annotated old.notes payload)
@@ -567,6 +582,7 @@ module _ (old new : TextReader) (moved : Scanner) (rest behind : Rest) (octets :
       (symbol_passes old.catalog.now old.limits (reading_of old) inside.inner rest octets token.kind b.kept n m token.left b.content fits within b.found b.says
       passed (subst IsCalm (sym now) tt) (subst IsStill (sym now) tt) now pays.0 pays.1 (reading_of new) payload pays.2 does ends))
 
+  -- in an open container an annotation is taken up at once with its `::`
   pub note_strides : (m : ℕ) (s : Option (List ℕ)) → n + m + 2 < length octets
       → behind ≡ past_token (place (reading_of old)) (past_blank (past_token (place (reading_of old)) rest token.kind n) m) (kinds.Mark marks.Colons) 2
       → old.stage ≡ nows.Ready → BeginsSymbol (place (reading_of old)) rest octets token (payloads.Symbol s)
@@ -588,6 +604,7 @@ module _ (old new : TextReader) (moved : Scanner) (rest behind : Rest) (octets :
       more : (a b c : ℕ) → a + b + c + 2 ≡ a + (b + c + 2)
       more a b c = omega arith
 
+  -- the name of a field is taken up at once with the blank and the colon behind it
   pub name_strides : (m : ℕ) (name : Option (List ℕ)) → n + m + 1 < length octets
       → behind ≡ past_token (place (reading_of old)) (past_blank (past_token (place (reading_of old)) rest token.kind n) m) (kinds.Mark marks.Colon) 1
       → old.stage ≡ nows.Name → BeginsName (place (reading_of old)) rest octets token name
@@ -605,6 +622,7 @@ module _ (old new : TextReader) (moved : Scanner) (rest behind : Rest) (octets :
       more : (a b c : ℕ) → a + b + c + 1 ≡ a + (b + c + 1)
       more a b c = omega arith
 
+  -- in an open container a token that is a value at once is taken up
   pub whole_strides : (payload : Payload) → n < length octets → behind ≡ past_token (place (reading_of old)) rest token.kind n → old.stage ≡ nows.Ready
       → BeginsValue (place (reading_of old)) rest octets token payload
       → ended (setting_of old) (spot_of old (rest.used + n)) (open_frames old) (annotated old.notes payload) ≡ goes (reading_of new) → Strides old new octets n
@@ -613,5 +631,6 @@ module _ (old new : TextReader) (moved : Scanner) (rest behind : Rest) (octets :
       there now b.found b.says
       (ends_so (setting_of old) (spot_of old (rest.used + n)) (open_frames old) old.notes b.content payload b.is) does
 
+-- what is so of a reader in an open container doesn't mind the reader of tokens beside the scanner
 pub inside_beside : (r : TextReader) (b : TokenReader) (octets : List ℕ) → Inside r octets → Inside (with_beside r b) octets
 inside_beside r b octets h = record { some = h.some; inner = h.inner; fits = h.fits; room = h.room; fine = h.fine }

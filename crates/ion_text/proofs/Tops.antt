@@ -66,14 +66,6 @@ passed_of piece front n k is few passed = λ p r. ap (λ w. scanning.run p w (re
     same : take n piece ≡ take n (take k piece)
     same = grind (arith, common_steps)
 
--- what octets at the front lead to, all of them lead to
-passes_front : (g : Catalog) (l : Limits) (m n : State) (octets : List ℕ) (k count : ℕ) → count + 1 ≤ k → Passes g l m (take k octets) count n
-    → Passes g l m octets count n
-passes_front g l m n octets k count within h = λ w e. h w (e ∙ sym (front (count + 1) within))
-  where
-    front : (j : ℕ) → j ≤ k → take j (take k octets) ≡ take j octets
-    front j h = grind (arith, common_steps)
-
 -- behind octets that give nothing the next one gives a value
 gives_next : (g : Catalog) (l : Limits) (m n p : State) (v : Value) (piece : List ℕ) (k : ℕ) → k < length piece → n.scan.used ≡ m.scan.used + k
     → Passes g l m piece k n → eats g l n (get_or piece k 0) ≡ tells v p
@@ -503,6 +495,7 @@ walked_bare level octets count before after bracket w more opens low =
       noted = container_noted places.Top bracket level octets count before after w more opens low;
     }
 
+-- a token at the top level that ends with its last octet is gone over as a value
 pub bare_scalar : (level : ℕ) (octets : List ℕ) (s : Scalar) (before after : Tally) (f : FoundScalar places.Top before.rest octets s) → s.waits ≡ false
     → s.token.left ≡ false → before.level ≤ level
     → after ≡ record {
@@ -643,6 +636,7 @@ gone_on r s b = record {
   failed = r.failed;
 }
 
+-- a reader that went over a blank and an item at the top level advanced with the item's value
 pub top_advances : (old : TextReader) (moved : Scanner) (b : TokenReader) (level : ℕ) (item : List ℕ) (count : ℕ) (before after : Tally)
     (w : WalkedTop level item count before after) (rest : Rest) (piece : List ℕ) (n k : ℕ)
     → IsFresh old rest → scanned moved ≡ resting after.rest → item ≡ take k (drop n piece) → n ≤ length piece → n ≤ old.limits.item

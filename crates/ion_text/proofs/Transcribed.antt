@@ -239,11 +239,13 @@ symbol_known w = refl
 
 -- a value of one token, which is this part
 module _ (s x : Part) (is : s ≡ x) where
+  -- what was written of a part as it was taken apart is the text of that part
   pub part_text : (d : Layer) (r : Result (Unit {0}) Fault) (before after : List ℕ) → views.out-Payload (payload_of x) ≡ d
       → OnOk r (after ≡ before ++ layer_text d) → OnOk r (after ≡ before ++ layer_text (views.out-Payload (payload_of s)))
   part_text d r before after level h = subst (λ s. OnOk r (after ≡ before ++ layer_text (views.out-Payload (payload_of s)))) (sym is)
       (subst (λ d. OnOk r (after ≡ before ++ layer_text d)) (sym level) h)
 
+-- a payload's text behind the front is a whole item that was added
 pub part_added : (a b : Transcription) (p : Payload) (begun : List ℕ) → KeptPayload p → begun ≡ front a
     → b.out.items ≡ begun ++ layer_text (views.out-Payload p) → b.before ≡ a.between → b.between ≡ a.between → AddsPart a b p
 part_added a b p begun k e o before between = record {
@@ -258,6 +260,7 @@ number_level (numbers.Int z) = ap layer_text (sym (views.outs-Int z))
 number_level (numbers.Decimal d) = ap layer_text (sym (views.outs-Decimal d))
 number_level (numbers.Timestamp t) = ap layer_text (sym (views.outs-Timestamp t))
 
+-- a number's text behind the front is a whole item that was added
 pub number_added : (a b : Transcription) (n : Number) (begun : List ℕ) → KeptPayload (number_payload n) → begun ≡ front a → b.out.items ≡ begun ++ number_text n
     → b.before ≡ a.between → b.between ≡ a.between → AddsPart a b (number_payload n)
 number_added a b n begun k e o before between = part_added a b (number_payload n) begun k e (o ∙ ap (λ w. begun ++ w) (number_level n)) before between

@@ -24,26 +24,12 @@ passes : (d x : Bool) → d ≡ true → (d && x) ≡ x
 passes true x h = refl
 passes false x h = cc
 
-stops : (d x y : Bool) → d ≡ false → ((d && x) || y) ≡ y
-stops true x y h = cc
-stops false x y h = refl
-
-never : (d x : Bool) → d ≡ false → (d && x) ≡ false
-never true x h = cc
-never false x h = refl
-
+-- in the form of a version a digit counts as a `0`, with a `0` before it or none
 pub version_step : (some : Bool) (o : ℕ) (more : List ℕ) → is_digit o ≡ true → version_parts (since some (o ∷ more)) ≡ version_parts (48 ∷ more)
 version_step true o more h = digit_passes (is_digit o) (version_parts (48 ∷ more)) (o == 95) (some_digits more) h (no_underscore o h)
 version_step false o more h = passes (is_digit o) (version_parts (48 ∷ more)) h
 
-pub version_stop : (some : Bool) (o : ℕ) (more : List ℕ) → is_digit o ≡ false → version_parts (since some (o ∷ more)) ≡ (some && (o == 95)) && some_digits more
-version_stop true o more h = stops (is_digit o) (version_parts (48 ∷ more)) ((o == 95) && some_digits more) h
-version_stop false o more h = never (is_digit o) (version_parts (48 ∷ more)) h
-
-pub version_end : (some : Bool) → version_parts (since some []) ≡ false
-version_end true = refl
-version_end false = refl
-
+-- octets that are all digits are some digits, if there is one
 pub all_digits : (w : List ℕ) → (length w == 0) ≡ false → list_all is_digit w ≡ some_digits w
 all_digits [] h = cc
 all_digits (o ∷ []) h = by (is_digit o) where

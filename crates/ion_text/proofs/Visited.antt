@@ -26,6 +26,7 @@ module _ {S M : Type 0} (h : Visits S M) where
       subst (λ x. VisitedPayload h x a b) (sym (same ∙ f.is))
       (in_one q a b (subst (λ x. IsPart x) f.is (record { flat = f.token.flat.deep; one = f.token.flat.counted })) t)
 
+  -- a token that is a value is visited where the visitor takes its part
   pub scalar_visited : (p : Place) (r : Rest) (octets : List ℕ) (s : Scalar) (q : Payload) (f : FoundPart p r octets s q) (level n total : ℕ)
       (before after : Tally) (a b : S) → total ≡ n → (w : Walked p level octets n before after) × (w.payload ≡ f.token.payload)
       → h.takes a (part q) b → VisitedValue h p level octets total before after a b
@@ -33,6 +34,7 @@ module _ {S M : Type 0} (h : Visits S M) where
       subst (λ k. VisitedValue h p level octets k before after a b) (sym e)
       (record { walked = w.0; visited = part_visited p r octets s q f w.0.payload a b w.1 t })
 
+  -- a token that is a value of the top level is visited where the visitor takes its part
   pub bare_scalar_visited : (p : Place) (r : Rest) (octets : List ℕ) (s : Scalar) (q : Payload) (f : FoundPart p r octets s q) (level n total : ℕ)
       (before after : Tally) (a b : S) → total ≡ n → (w : WalkedBare level octets n before after) × (w.payload ≡ f.token.payload)
       → h.takes a (part q) b → VisitedBare h level octets total before after a b
@@ -68,6 +70,7 @@ module _ {S M : Type 0} (h : Visits S M) where
         visited = inside.visited k a b o c;
       }
 
+  -- a container that was gone over and visited is a value that was visited
   pub containers_visited : (p : Place) (bracket : Bracket) (level : ℕ) (octets : List ℕ) (before after : Tally) (a b : S) (r : Option ℕ)
       → IfSome r (λ n. VisitedContainer h p bracket level octets n before after a b) → 1 < length octets → OpensAt octets bracket → is_name p ≡ false
       → before.level ≤ level
@@ -77,6 +80,7 @@ module _ {S M : Type 0} (h : Visits S M) where
   containers_visited p bracket level octets before after a b (Some n) w more opens value low =
       record { walked = walked_container p bracket level octets n before after w.walked more opens value low; visited = w.visited }
 
+  -- a container visited at the top level is a visited value of the top level
   pub bares_visited : (level : ℕ) (octets : List ℕ) (before after : Tally) (a b : S) (bracket : Bracket) (r : Option ℕ)
       → IfSome r (λ n. VisitedContainer h places.Top bracket level octets n before after a b) → 1 < length octets → OpensAt octets bracket
       → before.level ≤ level
@@ -88,6 +92,7 @@ module _ {S M : Type 0} (h : Visits S M) where
 
   -- up to the close
   module _ (level : ℕ) (octets rest : List ℕ) (at : ℕ) (before now : Tally) (is : rest ≡ drop at octets) (some : 0 < length rest) (a b : S) where
+    -- up to the `]` the elements that were visited are those of the list
     pub list_visited : (vs : List Value) (behind : Bool) → ListGone level octets at before now vs behind → get_or rest 0 0 ≡ 93 → VisitedItems h vs a b
         → VisitedInside h brackets.List level octets at before now a b
     unfolding list_inside inside_by
@@ -97,11 +102,13 @@ module _ {S M : Type 0} (h : Visits S M) where
           λ k x y o c. in_list vs k x a b y o v c;
     }
 
+    -- up to the `)` the elements that were visited are those of the s-expression
     pub sexp_visited : (vs : List Value) → SexpGone level octets at before now vs → get_or rest 0 0 ≡ 41 → VisitedItems h vs a b
         → VisitedInside h brackets.Sexp level octets at before now a b
     unfolding sexp_inside inside_by
     sexp_visited vs x e v = record { walked = sexp_inside level octets rest at before now is some vs x e; visited = λ k x y o c. in_sexp vs k x a b y o v c }
 
+    -- up to the `}` the fields that were visited are those of the struct
     pub fields_visited : (ms : List Field) (behind : Bool) → FieldsGone level octets at before now ms behind → get_or rest 0 0 ≡ 125 → VisitedFields h ms a b
         → VisitedInside h brackets.Fields level octets at before now a b
     unfolding fields_inside inside_by
@@ -116,6 +123,7 @@ module _ {S M : Type 0} (h : Visits S M) where
   unfolding notes_none
   no_notes p octets before a = record { walked = notes_none p octets before; some = λ e. absurd (omega (arith, e)); visited = no_annotations a }
 
+  -- annotations that were visited and one behind them are visited together
   pub notes_more : (p : Place) (octets rest : List ℕ) (i j : ℕ) (before mid after : Tally) (a m b : S) → rest ≡ drop i octets → VisitedNotes h p octets i before mid a m
       → (w : WalkedNote p rest j mid after) × h.takes m (annotation w.name) b → VisitedNotes h p octets (i + j) before after a b
   unfolding notes_on

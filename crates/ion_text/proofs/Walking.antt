@@ -1,5 +1,5 @@
 -- The machine over octets of values that are gone over.
-use Rattle.std.proofs.Common.{◌≡◌, ◌≢◌, ℕ, suc, min, max, map, sum, ◌^◌, ◌+◌, ◌-◌, ◌<◌, ◌≤◌, Bool, true, false, List, [], ◌∷◌, ◌++◌, length, take, drop, get_or, Option, Ok, refl, ap, sym, ◌∙◌, subst, arith, length-drop, ◌⊎◌, inl, inr}
+use Rattle.std.proofs.Common.{◌≡◌, ◌≢◌, ℕ, suc, min, max, map, sum, ◌+◌, ◌-◌, ◌<◌, ◌≤◌, Bool, true, false, List, [], ◌∷◌, ◌++◌, length, take, drop, get_or, Option, Ok, refl, ap, sym, ◌∙◌, subst, arith, length-drop, ◌⊎◌, inl, inr}
 use Rattle.std.specs.Prelude.{if◌then◌else◌, nat_lt}
 use Rattle.std.specs.List.{sum_by}
 use Rattle.std.proofs.lemmas.List.Sums.{sum-map, sum_by-append, sum_by-cons}
@@ -81,6 +81,7 @@ module _ (p : Place) (level : ℕ) (rest : Rest) (octets : List ℕ) (s : Scalar
   abbrev count : ℕ
   count = s.token.count
 
+  -- the octets of a token that is a value at once lead behind it
   pub scalar_leads : s.waits ≡ false → LeadsBehind p level rest octets count (past_token p rest s.token.kind count) f.payload
   scalar_leads e = λ g l start c ss fs those n inner here deep room puts.
       let r = at start c fs ss nows.Ready in
@@ -95,6 +96,7 @@ module _ (p : Place) (level : ℕ) (rest : Rest) (octets : List ℕ) (s : Scalar
       (ended_stays (under g l) (spot_at (rest.used + count) start c) q fs (annotated ss f.payload) inner does)
       s.token.left (subst (λ p. IsFound p rest octets s.token.kind f.kept count s.token.left) (sym here) f.found) (inl tt))
 
+  -- the octets of a symbol and the blank behind it lead behind its value, where no `::` follows
   pub symbol_leads : (m : ℕ) → s.waits ≡ true → count + m < length octets → IsPassed (drop count octets) m → ends_symbol (get_or octets (count + m) 0) ≡ true
       → LeadsBehind p level rest octets (count + m) (past_blank (past_token p rest s.token.kind count) m) f.payload
   symbol_leads m e within passed ends = λ g l start c ss fs those n inner here deep room puts.
@@ -243,6 +245,7 @@ module _ (level : ℕ) (octets : List ℕ) (count : ℕ) (before after : Tally) 
 
 -- containers
 
+-- an open within the limit on levels leads into the container
 pub open_goes : (setting : Setting) (spot : Spot) (fs : List Frame) (ss : Symbols) (x : Bracket) → length fs < setting.limits.depth
     → on_ready setting spot fs ss (Mark' (open_mark x)) ≡ goes (at spot.start spot.context (opened x ss ∷ fs) [] (first_now x))
 open_goes setting spot fs ss x deep = open_turns x setting spot fs ss ∙ ap (λ b. if b then goes inside else beyond_depth x inside) admits
@@ -266,6 +269,7 @@ module _ (p : Place) (bracket : Bracket) (level : ℕ) (octets : List ℕ) (coun
   pub size : length (drop 1 octets) ≡ length octets - 1
   size = length-drop 1 octets
 
+  -- behind the open of a container its octets lead up to its close
   pub up_to_close : (g : Catalog) (l : Limits) (start : ℕ) (c : List Slot) (ss : Symbols) (fs : List Frame) → length fs + level ≤ l.depth
       → before.rest.used + length octets ≤ l.item + start
       → Passes g l (rested first start c (opened bracket ss ∷ fs) [] (first_now bracket)) (drop 1 octets) w.behind
@@ -367,6 +371,7 @@ pub record Gone (bracket : Bracket) (level : ℕ) (octets : List ℕ) (at : ℕ)
   pub left : now.level ≡ min before.level (level - deepest)
   pub counted : min now.nodes most ≡ min (before.nodes + many) most
 
+-- directly behind an open no octets of the container are gone over
 pub gone_none : (bracket : Bracket) (level : ℕ) (octets : List ℕ) (before : Tally) → before.level ≤ level
     → Gone bracket level octets 0 before before (opened bracket) (first_now bracket) 0 0
 gone_none bracket level octets before low = record {
@@ -385,9 +390,6 @@ module _ (bracket : Bracket) (level : ℕ) (octets rest : List ℕ) (at : ℕ) (
 
   pub gone_low : now.level ≤ level
   gone_low = let left = x.left in omega arith
-
-  pub gone_room : before.rest.used + length octets < 2 ^ 63 → now.rest.used + length rest < 2 ^ 63
-  gone_room room = let size = gone_length in let within = x.within in let used = x.used in omega arith
 
   pub gone_on : (next : Tally) (k : Symbols → Frame) (o : Now) (j deeper more d e : ℕ) → Leads level now.rest rest j next.rest h n k o → j ≤ length rest
       → next.rest.used ≡ now.rest.used + j → deeper ≤ level → next.level ≡ min now.level (level - deeper)
@@ -422,18 +424,22 @@ module _ (bracket : Bracket) (level : ℕ) (octets rest : List ℕ) (at : ℕ) (
 
 -- Elements of a list, and fields of a struct.
 
+-- what may come in a list: behind an element a comma or the close, else an element or the close
 abbrev pub element_now : Bool → Now
 element_now true = nows.After
 element_now false = nows.Ready
 
+-- what may come in a struct: behind a field a comma or the close, else a name or the close
 abbrev pub field_now : Bool → Now
 field_now true = nows.After
 field_now false = nows.Name
 
+-- between the elements of a list nothing waits
 pub element_still : (b : Bool) → IsStill (element_now b)
 element_still true = tt
 element_still false = tt
 
+-- between the fields of a struct nothing waits
 pub field_still : (b : Bool) → IsStill (field_now b)
 field_still true = tt
 field_still false = tt
@@ -447,6 +453,7 @@ pub field_closes : (b : Bool) (ss : Symbols) (ms : List Field) (fs : List Frame)
 field_closes true ss ms fs = refl
 field_closes false ss ms fs = refl
 
+-- how many nodes a field has: one more than its value
 abbrev pub field_nodes : Field → ℕ
 field_nodes m = suc (nodes m.value)
 
@@ -454,12 +461,15 @@ abbrev pub ItemsGone : Listing → ℕ → List ℕ → ℕ → Tally → Tally 
 ItemsGone listing level octets at before now vs n = Gone (bracket_in listing) level octets at before now (λ ss. frames.Items listing ss vs) n (depths vs)
     (sum (map nodes vs))
 
+-- so many octets behind the open of a list were gone over, and these are its elements so far
 abbrev pub ListGone : ℕ → List ℕ → ℕ → Tally → Tally → List Value → Bool → Type 0
 ListGone level octets at before now vs b = ItemsGone listings.List level octets at before now vs (element_now b)
 
+-- so many octets behind the open of an s-expression were gone over, and these are its elements so far
 abbrev pub SexpGone : ℕ → List ℕ → ℕ → Tally → Tally → List Value → Type 0
 SexpGone level octets at before now vs = ItemsGone listings.Sexp level octets at before now vs nows.Ready
 
+-- so many octets behind the open of a struct were gone over, and these are its fields so far
 abbrev pub FieldsGone : ℕ → List ℕ → ℕ → Tally → Tally → List Field → Bool → Type 0
 FieldsGone level octets at before now ms b = Gone brackets.Fields level octets at before now (λ ss. frames.Fields ss ms) (field_now b) (field_depths ms)
     (sum (map field_nodes ms))
@@ -474,6 +484,7 @@ fields-more ms m =
     omega arith
 
 module _ (level : ℕ) (octets rest : List ℕ) (at : ℕ) (before now next : Tally) (is : rest ≡ drop at octets) where
+  -- behind one more value the list or s-expression has that value, too
   pub item_value_on : (listing : Listing) (vs : List Value) (x : ItemsGone listing level octets at before now vs nows.Ready) (j : ℕ)
       (w : WalkedItem (item_place listing) level rest j now next)
       → ItemsGone listing level octets (at + j) before next (vs ++ w.value ∷ []) (behind_item listing)
@@ -483,6 +494,7 @@ module _ (level : ℕ) (octets rest : List ℕ) (at : ℕ) (before now next : Ta
       (item_value level rest j now next listing w vs) w.within w.used w.deep w.left w.counted (deepest-more vs w.value)
       (nodes-more vs w.value)
 
+  -- behind the comma in a list another element may come
   pub list_comma_on : (vs : List Value) (x : ListGone level octets at before now vs true) → 0 < length rest → get_or rest 0 0 ≡ 44
       → next ≡ record { kind = now.kind; level = now.level; nodes = now.nodes; rest = past_token places.List now.rest (kinds.Mark marks.Comma) 1 }
       → ListGone level octets (at + 1) before next vs false
@@ -494,6 +506,7 @@ module _ (level : ℕ) (octets rest : List ℕ) (at : ℕ) (before now next : Ta
       (λ ss. frames.Items listings.List ss vs) nows.Ready 1 0 0 (depths vs) (sum (map nodes vs))
       (list_comma level now.rest rest vs some first) (omega arith) refl (omega arith) (omega arith) (omega arith) (omega arith) (omega arith))
 
+  -- behind the comma in a struct another field may come
   pub field_comma_on : (ms : List Field) (x : FieldsGone level octets at before now ms true) → 0 < length rest → get_or rest 0 0 ≡ 44
       → next ≡ record { kind = now.kind; level = now.level; nodes = now.nodes; rest = past_token places.FieldValue now.rest (kinds.Mark marks.Comma) 1 }
       → FieldsGone level octets (at + 1) before next ms false

@@ -28,21 +28,27 @@ flat p d k e deep one kind = record {
   counted = nodes-bare p d e ∙ one;
 }
 
+-- a null of any kind has no values in it
 pub flat_null : (k : Kind) → IsFlat (payloads.Null k) k
 flat_null k = flat (payloads.Null k) _ k (views.outs-Null k) refl refl refl
 
+-- a boolean has no values in it
 pub flat_truth : (b : Bool) → IsFlat (payloads.Truth b) sorts.Bool
 flat_truth b = flat (payloads.Truth b) _ sorts.Bool (views.outs-Truth b) refl refl refl
 
+-- a symbol has no values in it
 pub flat_symbol : (s : Option (List ℕ)) → IsFlat (payloads.Symbol s) sorts.Symbol
 flat_symbol s = flat (payloads.Symbol s) _ sorts.Symbol (views.outs-Symbol s) refl refl refl
 
+-- a string has no values in it
 pub flat_text : (w : List ℕ) → IsFlat (payloads.Str w) sorts.Str
 flat_text w = flat (payloads.Str w) _ sorts.Str (views.outs-Str w) refl refl refl
 
+-- a clob has no values in it
 pub flat_clob : (w : List ℕ) → IsFlat (payloads.Clob w) sorts.Clob
 flat_clob w = flat (payloads.Clob w) _ sorts.Clob (views.outs-Clob w) refl refl refl
 
+-- a blob has no values in it
 pub flat_blob : (w : List ℕ) → IsFlat (payloads.Blob w) sorts.Blob
 flat_blob w = flat (payloads.Blob w) _ sorts.Blob (views.outs-Blob w) refl refl refl
 
@@ -51,6 +57,7 @@ number_sort (numbers.Int z) = sorts.Int
 number_sort (numbers.Decimal d) = sorts.Decimal
 number_sort (numbers.Timestamp t) = sorts.Timestamp
 
+-- a number is an int, a decimal or a timestamp, and has no values in it
 pub flat_number : (n : Number) → IsFlat (number_payload n) (number_sort n)
 flat_number (numbers.Int z) = flat (payloads.Int z) _ sorts.Int (views.outs-Int z) refl refl refl
 flat_number (numbers.Decimal d) = flat (payloads.Decimal d) _ sorts.Decimal (views.outs-Decimal d) refl refl refl
@@ -59,16 +66,20 @@ flat_number (numbers.Timestamp t) = flat (payloads.Timestamp t) _ sorts.Timestam
 -- words
 
 module _ (w : List ℕ) where
+  -- the word `null` is the null without a type
   pub word_null : bytes_eq w (codes "null") ≡ true → held_payload (held_word w) ≡ Ok (payloads.Null sorts.Null)
   word_null e = ap held_payload (cond-true _ _ _ e)
 
+  -- the word `true` is the boolean true
   pub word_true : bytes_eq w (codes "null") ≡ false → bytes_eq w (codes "true") ≡ true → held_payload (held_word w) ≡ Ok (payloads.Truth true)
   word_true n e = ap held_payload (cond-false _ _ _ n ∙ cond-true _ _ _ e)
 
+  -- the word `false` is the boolean false
   pub word_false : bytes_eq w (codes "null") ≡ false → bytes_eq w (codes "true") ≡ false → bytes_eq w (codes "false") ≡ true → held_payload (held_word w)
       ≡ Ok (payloads.Truth false)
   word_false n t e = ap held_payload (cond-false _ _ _ n ∙ (cond-false _ _ _ t ∙ cond-true _ _ _ e))
 
+  -- a word that is none of the four keywords is a symbol
   pub word_symbol : bytes_eq w (codes "null") ≡ false → bytes_eq w (codes "true") ≡ false → bytes_eq w (codes "false") ≡ false → bytes_eq w (codes "nan")
       ≡ false → held_payload (held_word w) ≡ Ok (payloads.Symbol (Some w))
   word_symbol n t f a = ap held_payload (cond-false _ _ _ n ∙ (cond-false _ _ _ t ∙ (cond-false _ _ _ f ∙ cond-false _ _ _ a))) ∙ by (is_version w)
@@ -77,6 +88,7 @@ module _ (w : List ℕ) where
       by true = refl
       by false = refl
 
+  -- a word that is no keyword is the symbol of its text
   pub word_free : is_keyword w ≡ false → held_payload (held_word w) ≡ Ok (payloads.Symbol (Some w))
   word_free h =
       let a = neither _ _ h in

@@ -13,6 +13,7 @@ use Rattle.ion_text.specs.Writing.{IsWritingFault}
 write_fault : (failed : Bool) (fault : Fault) → (fault ≡ Write) × (failed ≡ true) → IsWritingFault failed fault
 write_fault failed fault h = rw h.0 h.1
 
+-- where a device took a value's line, or a front of it at a fault, the value was written so
 pub wrote_value : {W : Type 0} (O : Outlet W) (old new : Option Fault) (before now : W) (v : Value) (w : List ℕ) → old ≡ None → w ≡ adds v
     → (r answer : Result (Unit {0}) Fault) → answer ≡ r → OnOk r (Took O.took O.written before now w)
     → OnErr r (TookFront O.took O.written before now w) → IfErr r (λ fault. (fault ≡ Write) × (O.has_failed now ≡ true)) → OnOk answer (new ≡ None)

@@ -162,6 +162,7 @@ OpensRow said = (said ≡ Mark' marks.ListOpen) ⊎ (said ≡ Mark' marks.SexpOp
 
 -- 3. What decides, each under its row of the table.
 
+-- one of the table's rows gives this reason, and what it asks to be seen is seen
 pub data Gives (g : Catalog) (l : Limits) (sight : Sight) : Reason → Type 0 where
   -- "an id of a symbol; `KeywordAsName` of a field's name | the octet that ends the word"
   no_symbol : (ts : List Placed) (c : List Slot) (ks : List Container) (id : ℕ) (e : Reason)

@@ -149,6 +149,7 @@ abbrev pub digits_then : (List ℕ → Bool) → List ℕ → Bool
 digits_then rest [] = false
 digits_then rest (o ∷ os) = is_digit o && (digits_then rest os || rest os)
 
+-- digits alone, at least one
 abbrev pub some_digits : List ℕ → Bool
 some_digits = digits_then (λ os. length os == 0)
 
@@ -198,6 +199,7 @@ abbrev pub end_of : ℕ → List Placed → ℕ
 end_of end [] = end
 end_of end (t ∷ ts) = end_of t.lexeme.end ts
 
+-- how many octets the tokens span, from where the first begins to where the last ends
 abbrev pub span : List Placed → ℕ
 span [] = 0
 span (t ∷ ts) = end_of t.lexeme.end ts - t.lexeme.start

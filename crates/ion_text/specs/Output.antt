@@ -25,9 +25,11 @@ use Rattle.ion_text.specs.declared.escape.Quotes.{Quotes}
 abbrev pub of_string : Quotes
 of_string = record { delimiter = double_quote; ascii = false }
 
+-- those of symbols, which are single
 abbrev pub of_symbol : Quotes
 of_symbol = record { delimiter = single_quote; ascii = false }
 
+-- those of clobs, between which octets from 80 on are escaped
 abbrev pub of_clob : Quotes
 of_clob = record { delimiter = double_quote; ascii = true }
 
@@ -56,6 +58,7 @@ stands_raw ascii o = nat_le space o && (not (o == delete) && not (ascii && nat_l
 abbrev pub is_raw : Quotes → ℕ → Bool
 is_raw quotes o = not (o == backslash) && (not (o == quotes.delimiter) && stands_raw quotes.ascii o)
 
+-- an octet by the letter that stands for it, or as it is, or in hexadecimal digits
 abbrev pub escape_by : Bool → ℕ → Option ℕ → List ℕ
 escape_by ascii o (Some letter) = codes "\\" ++ letter ∷ []
 escape_by ascii o None = if stands_raw ascii o then o ∷ [] else hexadecimal_escape o
@@ -64,6 +67,7 @@ escape_by ascii o None = if stands_raw ascii o then o ∷ [] else hexadecimal_es
 abbrev pub escape : Quotes → ℕ → List ℕ
 escape quotes o = escape_by quotes.ascii o (letter_for quotes.delimiter o)
 
+-- what stands between the quotes: the octets one behind the other, escaped where they must be
 abbrev pub escaped_text : Quotes → List ℕ → List ℕ
 escaped_text quotes text = flat_map (escape quotes) text
 
@@ -86,6 +90,7 @@ is_identifier (o ∷ os) = begins_identifier o && list_all is_word_octet os
 abbrev pub is_unquoted : List ℕ → Bool
 is_unquoted w = is_identifier w && not (is_keyword w)
 
+-- a symbol of known text: without quotes where it may stand so, else between them
 abbrev pub known_text : List ℕ → List ℕ
 known_text w = if is_unquoted w then w else quoted of_symbol w
 
@@ -96,17 +101,21 @@ symbol_text (Some w) = known_text w
 
 -- 3. Values.
 
+-- a null of a kind: `null`, or `null.` and the name of the kind
 abbrev pub null_text : Kind → List ℕ
 null_text kinds.Null = codes "null"
 null_text k = codes "null." ++ kind_name k
 
+-- a boolean
 abbrev pub truth_text : Bool → List ℕ
 truth_text false = codes "false"
 truth_text true = codes "true"
 
+-- a clob: a text between quotes, between double braces
 abbrev pub clob_text : List ℕ → List ℕ
 clob_text octets = codes "{{" ++ quoted of_clob octets ++ codes "}}"
 
+-- a blob: base64 between double braces
 abbrev pub blob_text : List ℕ → List ℕ
 blob_text octets = codes "{{" ++ base64_of octets ++ codes "}}"
 
@@ -123,6 +132,7 @@ abbrev pub separated : List ℕ → List (List ℕ) → List ℕ
 separated between [] = []
 separated between (w ∷ ws) = w ++ flat_map (λ x. between ++ x) ws
 
+-- texts with something between, before the first and behind the last
 abbrev pub enclosed : List ℕ → List ℕ → List ℕ → List (List ℕ) → List ℕ
 enclosed before between behind ws = (before ++ separated between ws) ++ behind
 

@@ -49,14 +49,17 @@ pub record Machine : Type 0 where
   pub phase : Phase
   pub body : List ℕ
 
+-- what comes of an octet: the reader goes on, a value is given, or it is refused
 pub data Outcome : Type 0 where
   goes : Machine → Outcome
   gives : Value → Machine → Outcome
   refuses : Reason → Outcome
 
+-- the catalog and the limits, together
 abbrev pub under : Catalog → Limits → Setting
 under g l = record { catalog = g; limits = l }
 
+-- where it stands, part by part
 abbrev pub spot_at : ℕ → ℕ → List Slot → Spot
 spot_at used start c = record { used = used; start = start; context = c }
 
@@ -68,12 +71,15 @@ moved spot used = record spot { used = used }
 abbrev pub anew : ℕ → List Slot → Spot
 anew used c = spot_at used used c
 
+-- in a phase that keeps no octets
 abbrev pub at : Spot → List Frame → Phase → Machine
 at spot fs phase = record { spot = spot; frames = fs; phase = phase; body = [] }
 
+-- in a scalar, with octets of its body so far, and so many missing behind the next
 abbrev pub in_body : Spot → List Frame → Scalar → ℕ → List ℕ → Machine
 in_body spot fs t missing body = record { spot = spot; frames = fs; phase = InBody t missing; body = body }
 
+-- before any octet
 abbrev pub initial : Machine
 initial = at (anew 0 system_slots) [] (InMarker First true)
 
@@ -126,6 +132,7 @@ proceed setting spot (frames.Named end ms name ∷ fs) =
     else goes (at spot (frames.Fields end ms ∷ fs) (InNumber purposes.FieldName 0))
 proceed setting spot (frames.Annotated end ss ∷ fs) = refuses Malformed
 
+-- a refusal, if there is a reason, or else what comes
 abbrev pub unless : Option Reason → Outcome → Outcome
 unless None r = r
 unless (Some e) r = refuses e
@@ -178,6 +185,7 @@ past item start fs (purposes.Annotation stop) used = if nat_lt used stop then No
 abbrev pub unfit : ℕ → ℕ → List Frame → Form → ℕ → Option Reason
 unfit item start fs form to = or_else (stray fs form) (or_else (misfits item start fs form to) (nameless fs form))
 
+-- a scalar ends here, or its body is refused
 abbrev pub judged : Setting → Spot → List Frame → Result Payload Reason → Outcome
 judged setting spot fs (Ok p) = deliver setting spot fs (bare p)
 judged setting spot fs (Err e) = refuses e
@@ -186,6 +194,7 @@ judged setting spot fs (Err e) = refuses e
 abbrev pub deeper : ℕ → List Frame → Outcome → Outcome
 deeper depth fs r = if nat_lt (levels fs) depth then r else refuses Depth
 
+-- a struct with a body of n octets begins
 abbrev pub open_struct : Setting → Spot → List Frame → ℕ → Outcome
 open_struct setting spot fs n =
     deeper setting.limits.depth fs (proceed setting spot (frames.Fields (spot.used + n) [] ∷ fs))
@@ -230,6 +239,7 @@ unsized setting spot fs form =
     (unless (unending setting.limits.item spot.start fs form spot.used)
     (unless (nameless fs form) (goes (at spot fs (InNumber (purposes.Length form) 0)))))
 
+-- a version marker begins, at the top level alone
 abbrev pub marks : Spot → List Frame → Outcome
 marks spot [] = goes (at spot [] (InMarker Second true))
 marks spot (f ∷ fs) = refuses Malformed
@@ -239,6 +249,7 @@ abbrev pub one_octet : Setting → Spot → List Frame → Payload → Outcome
 one_octet setting spot fs p =
     unless (unfit setting.limits.item spot.start fs forms.Struct spot.used) (deliver setting spot fs (bare p))
 
+-- an octet where a descriptor comes
 abbrev pub on_descriptor : Setting → Spot → List Frame → Opening → Outcome
 on_descriptor setting spot fs (Refused reason) = refuses reason
 on_descriptor setting spot fs Marker = marks spot fs
@@ -301,6 +312,7 @@ on_body setting spot fs t missing body =
     if missing == 0 then judged setting spot fs (judge spot.context t body)
     else goes (in_body spot fs t (missing - 1) body)
 
+-- an octet of a pad, so many missing behind it
 abbrev pub on_pad : Setting → Spot → List Frame → ℕ → Outcome
 on_pad setting spot fs missing =
     if missing == 0 then proceed setting spot fs else goes (at spot fs (InPad (missing - 1)))
@@ -313,8 +325,10 @@ on_phase setting m (InNumber p a) b = on_number setting m.spot m.frames p a b
 on_phase setting m (InBody t missing) b = on_body setting m.spot m.frames t missing (m.body ++ b ∷ [])
 on_phase setting m (InPad missing) b = on_pad setting m.spot m.frames missing
 
+-- with one octet more taken up
 abbrev pub counted : Machine → Machine
 counted m = record m { spot = moved m.spot (m.spot.used + 1) }
 
+-- one octet
 abbrev pub feed : Setting → Machine → ℕ → Outcome
 feed setting m b = on_phase setting (counted m) m.phase b

@@ -17,6 +17,7 @@ pub record Run : Type 0 where
   pub given : List (Value × ℕ)
   pub now : Result Machine Refusal
 
+-- a run that gave this value first
 abbrev pub with_value : Value → ℕ → Run → Run
 with_value v to r = record { given = (v, to) ∷ r.given; now = r.now }
 
@@ -41,6 +42,7 @@ Advances to run piece (Ok step) m = (step.used ≤ length piece) × Stopped step
     Stopped (Some v) = (0 < step.used) × (run (take step.used piece) ≡ record { given = (v, to + step.used) ∷ []; now = Ok m })
 Advances to run piece (Err refusal) m = refusal.reason ≢ Memory → run piece ≡ record { given = []; now = Err refusal }
 
+-- no piece is open
 abbrev pub whole : Phase → List Frame → Bool
 whole Ready [] = true
 whole _ _ = false
@@ -49,16 +51,20 @@ whole _ _ = false
 abbrev pub at_end : Machine → Result (Option Value) Refusal
 at_end m = if whole m.phase m.frames then Ok None else Err (record { offset = m.spot.used; reason = Incomplete })
 
+-- the refusal in which a run ended, if it did
 abbrev pub refused_of : Result Machine Refusal → Option Refusal
 refused_of (Ok m) = None
 refused_of (Err refusal) = Some refusal
 
+-- what the end answers behind a run
 abbrev pub ends_of : Result Machine Refusal → Result (Option Value) Refusal
 ends_of (Ok m) = at_end m
 ends_of (Err refusal) = Err refusal
 
+-- what a run says: the values given, the refusal, and what the end answers
 abbrev pub trace_of : Run → Trace
 trace_of r = record { given = r.given; refused = refused_of r.now; ends = ends_of r.now }
 
+-- what the machine says of octets from the first one on
 abbrev pub trace : Catalog → Limits → List ℕ → Trace
 trace g l octets = trace_of (run g l 0 initial octets)

@@ -63,6 +63,7 @@ module _ {S M : Type 0} (h : Visits S M) (c : List Slot) where
     pub deep : depths values < level
     pub visited : VisitedPayload h (listed x values) before after
 
+  -- the body is fields of fewer levels, visited with the brackets around them
   pub record WalkedStruct (level : ℕ) (body : List ℕ) (before after : S) : Type 0 where
     pub fields : List Field
     pub are : Fields c body fields
@@ -76,6 +77,7 @@ module _ {S M : Type 0} (h : Visits S M) (c : List Slot) where
     pub deep : depths values ≤ level
     pub visited : VisitedItems h values before after
 
+  -- the body is fields of at most so many levels, visited without brackets
   pub record WalkedFields (level : ℕ) (body : List ℕ) (before after : S) : Type 0 where
     pub fields : List Field
     pub are : Fields c body fields

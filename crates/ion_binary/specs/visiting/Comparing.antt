@@ -74,6 +74,7 @@ finds a (part p) b = IsPlain a b p
 finds a (annotation s) b = IsIdOf a b s
 finds a (name s) b = IsIdOf a b s
 
+-- each part, bracket and wrapper is found at the place, which moves behind it
 abbrev pub comparing : Visits Comparison Ends
 comparing = record {
   takes = finds;

@@ -12,6 +12,7 @@ use Rattle.ion_visiting.specs.Visits.{Event, part, annotation, name, Visits}
 abbrev pub more : ℕ → ℕ
 more n = (n + 1) % 2 ^ 64
 
+-- one less, in 64 bits
 abbrev pub less : ℕ → ℕ
 less n = (n + (2 ^ 64 - 1)) % 2 ^ 64
 
@@ -23,9 +24,11 @@ counted_node k m = record { kind = k; depth = m.depth; deepest = m.deepest; node
 abbrev pub counted_name : Measure → Measure
 counted_name m = record { kind = m.kind; depth = m.depth; deepest = m.deepest; nodes = more m.nodes }
 
+-- one level deeper
 abbrev pub opened : Measure → Measure
 opened m = record { kind = m.kind; depth = more m.depth; deepest = max m.deepest (more m.depth); nodes = m.nodes }
 
+-- one level back, and the node of what stood in the brackets
 abbrev pub closed : Bracket → Measure → Measure
 closed b m = record { kind = kind_in b; depth = less m.depth; deepest = m.deepest; nodes = more m.nodes }
 
@@ -34,6 +37,7 @@ counts a (part p) b = b ≡ counted_node (kind_of (bare p)) a
 counts a (annotation s) b = b ≡ counted_name a
 counts a (name s) b = b ≡ counted_name a
 
+-- each part, name and annotation is counted, and each pair of brackets
 abbrev pub measuring : Visits Measure ⊤
 measuring = record {
   takes = counts;

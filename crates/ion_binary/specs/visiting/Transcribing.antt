@@ -45,6 +45,7 @@ writes_event a (part p) b = AddsPart a b p
 writes_event a (annotation s) b = AddsId a b s
 writes_event a (name s) b = AddsId a b s
 
+-- each part, name and annotation is written, and what stands in brackets is framed
 abbrev pub transcribing : {S H : Type 0} → Visits (Transcription S H) ℕ
 transcribing = record {
   takes = writes_event;

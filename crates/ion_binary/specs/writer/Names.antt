@@ -24,9 +24,11 @@ pub symbol_self : (s : Option (List ℕ)) → symbol_same s s ≡ true
 symbol_self None = refl
 symbol_self (Some s) = (bytes_eq-Decides s s).1 refl
 
+-- the symbol is one of the names
 abbrev pub IsAmong : Names → Option (List ℕ) → Type 0
 IsAmong names s = list_any (symbol_same s) names ≡ true
 
+-- each of the symbols is one of the names
 abbrev pub AreAmong : Names → Names → Type 0
 AreAmong names [] = Unit {0}
 AreAmong names (s ∷ ss) = IsAmong names s × AreAmong names ss
@@ -34,6 +36,7 @@ AreAmong names (s ∷ ss) = IsAmong names s × AreAmong names ss
 pub among_more : (names more : Names) (s : Option (List ℕ)) → IsAmong names s → IsAmong (names ++ more) s
 among_more names more s h = list_any-append (symbol_same s) names more ∙ rw h refl
 
+-- symbols among names are among these with more behind them
 pub all_among_more : (names more ss : Names) → AreAmong names ss → AreAmong (names ++ more) ss
 all_among_more names more [] h = tt
 all_among_more names more (s ∷ ss) h = (among_more names more s h.0, all_among_more names more ss h.1)
@@ -42,6 +45,7 @@ or_true : (b : Bool) → (b || true) ≡ true
 or_true true = refl
 or_true false = refl
 
+-- the last of the names is among them
 pub among_last : (names : Names) (s : Option (List ℕ)) → IsAmong (names ++ s ∷ []) s
 among_last names s = list_any-append (symbol_same s) names (s ∷ []) ∙ rw (symbol_self s) (or_true (list_any (symbol_same s) names))
 
@@ -51,6 +55,7 @@ among_last names s = list_any-append (symbol_same s) names (s ∷ []) ∙ rw (sy
 abbrev pub slots : Names → List Slot
 slots names = map local_slot (drop 1 names)
 
+-- the slots of the system names are the system slots
 pub slots_system : slots system_names ≡ system_slots
 unfolding system_names system_slots system_texts
 slots_system = refl
@@ -97,6 +102,7 @@ resolve_name (None ∷ names) None b h = resolve_zero (map local_slot names)
 resolve_name (None ∷ names) (Some t) b h = resolve_behind (map local_slot names) (position_or_len (symbol_same (Some t)) names) (Some t)
     (at_place (Some t) names h)
 
+-- no id is greater than the number of names
 pub id_few : (names : Names) (s : Option (List ℕ)) → id_of names s ≤ length names
 id_few names s = prefix_len-le-length (λ x. not (symbol_same s x)) names
 
@@ -129,16 +135,19 @@ names_resolve_still names more (s ∷ ss) b h few =
 
 -- 3. New names.
 
+-- more names behind names leave the symbol of unknown text the first
 pub starts_more : (names more : Names) → Starts names → Starts (names ++ more)
 starts_more [] more b = absurd b
 starts_more (None ∷ names) more b = tt
 starts_more (Some t ∷ names) more b = absurd b
 
+-- the symbol of unknown text, which is the first, is among the names
 pub unknown_among : (names : Names) → Starts names → IsAmong names None
 unknown_among [] b = absurd b
 unknown_among (None ∷ names) b = refl
 unknown_among (Some t ∷ names) b = absurd b
 
+-- more names behind names have their slots behind the slots of those
 pub slots_more : (names more : Names) → Starts names → slots (names ++ more) ≡ slots names ++ map local_slot more
 slots_more [] more b = absurd b
 slots_more (None ∷ names) more b = map-append local_slot names more
@@ -182,6 +191,7 @@ grown_either names s ss false n t e later =
       known = known_one s names g.more n e t g.known;
     }
 
+-- new symbols are put behind the names, each with its text known
 pub grown : (ss names : Names) → IsAmong names None → AreTexts ss → Grown names ss (with_names names ss)
 grown [] names n t = record { more = []; whole = sym (append-nil names); among = tt; known = tt }
 grown (s ∷ ss) names n t = grown_either names s ss (list_any (symbol_same s) names) n t.0 refl (λ before m. grown ss before m t.1)

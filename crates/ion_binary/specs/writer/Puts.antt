@@ -23,6 +23,7 @@ pub puts_more : (p : Progress) (s t : List Value) → puts p (s ++ t) ≡ puts p
 puts_more p [] t = refl
 puts_more p (v ∷ s) t = ap (λ w. adds p v ++ w) (puts_more (after p v) s t) ∙ sym (append_assoc (adds p v) (puts (after p v) s) (puts (behind (after p v) s) t))
 
+-- values, and more values behind them, lead where the latter do behind the former
 pub behind_more : (p : Progress) (s t : List Value) → behind p (s ++ t) ≡ behind (behind p s) t
 behind_more p [] t = refl
 behind_more p (v ∷ s) t = behind_more (after p v) s t

@@ -29,6 +29,7 @@ use Rattle.ion_text.specs.declared.state.Listing.{Listing}
 use Rattle.ion_text.specs.declared.state.Listing.TheVariants as listings
 use Rattle.ion_text.specs.Grammar.{is_keyword, is_version, the_marker}
 
+-- symbols, each a text or unknown
 abbrev pub Symbols : Type 0
 Symbols = List (Option (List ℕ))
 
@@ -66,9 +67,11 @@ pub record Token : Type 0 where
   pub end : ℕ
   pub said : Content
 
+-- the setting of this catalog and these limits
 abbrev pub under : Catalog → Limits → Setting
 under g l = record { catalog = g; limits = l }
 
+-- the spot where a token ends at `end`, and the open item begins at `start` with these slots
 abbrev pub spot_at : ℕ → ℕ → List Slot → Spot
 spot_at end start c = record { end = end; start = start; context = c }
 
@@ -76,9 +79,11 @@ spot_at end start c = record { end = end; start = start; context = c }
 abbrev pub spot_in : Reading → ℕ → Spot
 spot_in r end = spot_at end r.start r.context
 
+-- the token that begins and ends there and says this
 abbrev pub token_at : ℕ → ℕ → Content → Token
 token_at start end said = record { start = start; end = end; said = said }
 
+-- the reading with these open containers and annotations, of an item that begins at `start`
 abbrev pub at : ℕ → List Slot → List Frame → Symbols → Now → Reading
 at start c fs ss now = record { start = start; context = c; frames = fs; notes = ss; now = now }
 
@@ -91,6 +96,7 @@ abbrev pub item_place : Listing → Place
 item_place listings.List = places.List
 item_place listings.Sexp = places.Sexp
 
+-- what may come behind an item: of a list a comma or the close
 abbrev pub behind_item : Listing → Now
 behind_item listings.List = nows.After
 behind_item listings.Sexp = nows.Ready
@@ -103,6 +109,7 @@ place_in (frames.Fields ss ms ∷ fs) nows.After = places.FieldValue
 place_in (frames.Fields ss ms ∷ fs) _ = places.Name
 place_in (frames.Named ss ms name ∷ fs) now = places.FieldValue
 
+-- the place in which a reading looks for the next token
 abbrev pub place : Reading → Place
 place r = place_in r.frames r.now
 
@@ -136,6 +143,7 @@ held_word w =
     else (if is_version w then helds.Version (bytes_eq w the_marker) (Some w)
     else helds.Symbol (Some w)))))
 
+-- what was held, as a value; `nan` is none, and is refused as a float
 abbrev pub held_payload : Held → Result Payload Reason
 held_payload (helds.Symbol s) = Ok (payloads.Symbol s)
 held_payload (helds.Version ours s) = Ok (payloads.Symbol s)
@@ -143,11 +151,13 @@ held_payload (helds.Null k) = Ok (payloads.Null k)
 held_payload (helds.Truth b) = Ok (payloads.Truth b)
 held_payload helds.Nan = Err reasons.Float
 
+-- what was held, as an annotation; a keyword is none
 abbrev pub held_symbol : Held → Result (Option (List ℕ)) Reason
 held_symbol (helds.Symbol s) = Ok s
 held_symbol (helds.Version ours s) = Ok s
 held_symbol _ = Err reasons.KeywordAsName
 
+-- the value of what was held is whole, or it is refused
 abbrev pub paid : Setting → Spot → List Frame → Symbols → Result Payload Reason → Turn
 paid setting spot fs ss (Ok q) = ended setting spot fs (annotated ss q)
 paid setting spot fs ss (Err e) = refuses e
@@ -165,6 +175,7 @@ settled setting start c fs ss (nows.Long w end) = ended setting (spot_at end sta
 settled setting start c fs ss (nows.LongName w) = goes (at start c fs ss (nows.Keyed (Some w)))
 settled setting start c fs ss now = goes (at start c fs ss now)
 
+-- what waits in a reading is whole
 abbrev pub settle : Catalog → Limits → Reading → Turn
 settle g l r = settled (under g l) r.start r.context r.frames r.notes r.now
 
@@ -172,10 +183,12 @@ settle g l r = settled (under g l) r.start r.context r.frames r.notes r.now
 abbrev pub deeper : ℕ → List Frame → Turn → Turn → Turn
 deeper depth fs t deep = if nat_lt (length fs) depth then t else deep
 
+-- what comes of an id's symbol, or the refusal where it has none
 abbrev pub resolved : Result (Option (List ℕ)) Reason → (Option (List ℕ) → Turn) → Turn
 resolved (Ok s) f = f s
 resolved (Err e) f = refuses e
 
+-- a token that may not stand there is refused
 abbrev pub unexpected : Turn
 unexpected = refuses reasons.Unexpected
 
@@ -185,6 +198,7 @@ opened brackets.List ss = frames.Items listings.List ss []
 opened brackets.Sexp ss = frames.Items listings.Sexp ss []
 opened brackets.Fields ss = frames.Fields ss []
 
+-- what may come behind an open: in a struct a name, else a value
 abbrev pub first_now : Bracket → Now
 first_now brackets.Fields = nows.Name
 first_now _ = nows.Ready
@@ -206,6 +220,7 @@ closed brackets.Sexp setting spot (frames.Items listings.Sexp ss vs ∷ fs) = en
 closed brackets.Fields setting spot (frames.Fields ss ms ∷ fs) = ended setting spot fs (annotated ss (payloads.Fields ms))
 closed _ setting spot _ = unexpected
 
+-- a close is unexpected behind an annotation
 abbrev pub bare_close : Symbols → Turn → Turn
 bare_close [] t = t
 bare_close (s ∷ ss) t = unexpected
@@ -235,28 +250,34 @@ abbrev pub noted : ℕ → List Slot → List Frame → Symbols → Result (Opti
 noted start c fs ss (Ok s) = goes (at start c fs (ss ++ s ∷ []) nows.Ready)
 noted start c fs ss (Err e) = late e (at start c fs (ss ++ None ∷ []) nows.Ready)
 
+-- `::` makes an annotation of what was held, and no other token may come
 abbrev pub on_pending : ℕ → List Slot → List Frame → Symbols → Held → Content → Turn
 on_pending start c fs ss h (Mark' marks.Colons) = noted start c fs ss (held_symbol h)
 on_pending start c fs ss h _ = unexpected
 
+-- a further segment goes on with a long string, and no other token may come
 abbrev pub on_long : Spot → List Frame → Symbols → List ℕ → Content → Turn
 on_long spot fs ss v (Long w) = goes (at spot.start spot.context fs ss (nows.Long (v ++ w) spot.end))
 on_long spot fs ss v _ = unexpected
 
+-- behind a comma the next element may come, or the next field's name
 abbrev pub on_comma : ℕ → List Slot → List Frame → Turn
 on_comma start c (frames.Items listings.List ss vs ∷ fs) = goes (at start c (frames.Items listings.List ss vs ∷ fs) [] nows.Ready)
 on_comma start c (frames.Fields ss ms ∷ fs) = goes (at start c (frames.Fields ss ms ∷ fs) [] nows.Name)
 on_comma start c _ = unexpected
 
+-- behind an element or a field a comma or the close may come
 abbrev pub on_after : Setting → Spot → List Frame → Content → Turn
 on_after setting spot fs (Mark' marks.Comma) = on_comma spot.start spot.context fs
 on_after setting spot fs (Mark' marks.ListClose) = closed brackets.List setting spot fs
 on_after setting spot fs (Mark' marks.FieldsClose) = closed brackets.Fields setting spot fs
 on_after setting spot fs _ = unexpected
 
+-- a field's name was read, behind which its colon may come
 abbrev pub keyed : ℕ → List Slot → List Frame → Option (List ℕ) → Reading
 keyed start c fs s = at start c fs [] (nows.Keyed s)
 
+-- a field's name may come, or the close of the struct
 abbrev pub on_name : Setting → Spot → List Frame → Content → Turn
 on_name setting spot fs (Word w) =
     if is_keyword w then late reasons.KeywordAsName (keyed spot.start spot.context fs (Some w))
@@ -269,14 +290,17 @@ on_name setting spot fs (Long w) = goes (at spot.start spot.context fs [] (nows.
 on_name setting spot fs (Mark' marks.FieldsClose) = closed brackets.Fields setting spot fs
 on_name setting spot fs _ = unexpected
 
+-- a further segment goes on with a long name, and no other token may come
 abbrev pub on_long_name : ℕ → List Slot → List Frame → List ℕ → Content → Turn
 on_long_name start c fs v (Long w) = goes (at start c fs [] (nows.LongName (v ++ w)))
 on_long_name start c fs v _ = unexpected
 
+-- behind a field's name and its colon the value may come
 abbrev pub named : ℕ → List Slot → List Frame → Option (List ℕ) → Turn
 named start c (frames.Fields ss ms ∷ fs) s = goes (at start c (frames.Named ss ms s ∷ fs) [] nows.Ready)
 named start c _ s = unexpected
 
+-- behind a field's name its colon may come
 abbrev pub on_keyed : ℕ → List Slot → List Frame → Option (List ℕ) → Content → Turn
 on_keyed start c fs s (Mark' marks.Colon) = named start c fs s
 on_keyed start c fs s _ = unexpected

@@ -28,6 +28,7 @@ open_mark brackets.List = marks.ListOpen
 open_mark brackets.Sexp = marks.SexpOpen
 open_mark brackets.Fields = marks.FieldsOpen
 
+-- the mark that closes a container
 abbrev pub close_mark : Bracket → Mark
 close_mark brackets.List = marks.ListClose
 close_mark brackets.Sexp = marks.SexpClose

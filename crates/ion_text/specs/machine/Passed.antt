@@ -6,8 +6,10 @@ use Rattle.ion_tokens.specs.Lexed.{Passes}
 use Rattle.ion_tokens.specs.laws.Judged.{body_passes}
 use Rattle.ion_tokens.specs.machine.Said.{said, says}
 
+-- what a token is read as is what it says
 pub said_body : (k : TokenKind) (octets : List ℕ) (c : Content) → said k octets ≡ Ok c → IsBody k octets (Ok c)
 said_body k octets c e = subst (λ x. IsBody k octets x) e (says k octets)
 
+-- a token that says something isn't refused when it is judged
 pub said_passes : (k : TokenKind) (octets : List ℕ) (c : Content) → said k octets ≡ Ok c → Passes k octets
 said_passes k octets c e = body_passes k octets c (said_body k octets c e)

@@ -12,10 +12,12 @@ use Rattle.ion_tokens.specs.machine.Ahead.{OnNext, AtEach}
 use Rattle.ion_text.specs.machine.EachToken.{Reading, goes, place, settle}
 use Rattle.ion_text.specs.machine.Run.{State, Effect, uses, tells, leaves, fails, eats, takes, waits, in_segment, unsettled, noticed, on_scan, on_settled, Run, run, run_on, once_more, with_value, with_scan, begun, trace, trace_of}
 
+-- values that were given, and the run from where they led, unless this was refused
 abbrev pub on_now : List (Value × ℕ) → Result State Refusal → (State → Run) → Run
 on_now given (Ok m) rest = record { given = given ++ (rest m).given; now = (rest m).now }
 on_now given (Err refusal) rest = record { given = given; now = Err refusal }
 
+-- a run, and behind it another from where the first led
 abbrev pub then_run : Run → (State → Run) → Run
 then_run r rest = on_now r.given r.now rest
 
@@ -82,6 +84,7 @@ module _ (g : Catalog) (l : Limits) where
   abbrev pub Stays : Reading → Place → Known → List ℕ → Type 0
   Stays r p s os = (settle g l r ≡ goes r) ⊎ Waiting r p s os
 
+  -- where what waits goes on to wait, or nothing waits, the octet does what comes of it at the scanner
   pub go_on : (again : State → Effect) (r : Reading) (s : Known) (x : Outcome) (b : Bool) → (b ≡ true) ⊎ (settle g l r ≡ goes r)
       → (if b then on_scan g l again r x else on_settled g l again s x (settle g l r)) ≡ on_scan g l again r x
   go_on again r s x true h = refl

@@ -21,6 +21,7 @@ use Rattle.ion_text.specs.declared.state.Listing.TheVariants as listings
 use Rattle.ion_text.specs.machine.EachToken.{Spot, under, spot_at, Reading, Turn, goes, gives, refuses, late, Symbols, at, fresh, place, place_in, settle, turned, within, ended, released, paid, held_payload}
 use Rattle.ion_text.specs.machine.Run.{is_top}
 
+-- two places are the same
 abbrev pub same_place : Place → Place → Bool
 same_place places.Top places.Top = true
 same_place places.List places.List = true
@@ -29,6 +30,7 @@ same_place places.Name places.Name = true
 same_place places.FieldValue places.FieldValue = true
 same_place p q = false
 
+-- each place is the same as itself
 pub same_itself : (p : Place) → same_place p p ≡ true
 same_itself places.Top = refl
 same_itself places.List = refl
@@ -36,6 +38,7 @@ same_itself places.Sexp = refl
 same_itself places.Name = refl
 same_itself places.FieldValue = refl
 
+-- places that are the same by the test are the same
 pub same_is : (p q : Place) → same_place p q ≡ true → p ≡ q
 same_is places.Top places.Top h = refl
 same_is places.List places.List h = refl
@@ -51,12 +54,14 @@ pending_at (frames.Items listing ss vs ∷ fs) h end = refl
 pending_at (frames.Fields ss ms ∷ fs) h end = refl
 pending_at (frames.Named ss ms s ∷ fs) h end = refl
 
+-- while a long string waits, the place is that of a value
 pub long_at : (fs : List Frame) (w : List ℕ) (end : ℕ) → place_in fs (nows.Long w end) ≡ place_in fs nows.Ready
 long_at [] w end = refl
 long_at (frames.Items listing ss vs ∷ fs) w end = refl
 long_at (frames.Fields ss ms ∷ fs) w end = refl
 long_at (frames.Named ss ms s ∷ fs) w end = refl
 
+-- while a long name waits, the place is that of a name
 pub name_at : (fs : List Frame) (w : List ℕ) → place_in fs (nows.LongName w) ≡ place_in fs nows.Name
 name_at [] w = refl
 name_at (frames.Items listing ss vs ∷ fs) w = refl
@@ -170,6 +175,7 @@ module _ (g : Catalog) (l : Limits) where
   released_still spot [] (s ∷ ss) h = paid_still spot [] (s ∷ ss) (held_payload h)
   released_still spot (f ∷ fs) ss h = paid_still spot (f ∷ fs) ss (held_payload h)
 
+  -- behind what was settled nothing waits, whatever waited
   pub settle_still : (start : ℕ) (c : List Slot) (fs : List Frame) (ss : Symbols) (now : Now) → SettlesStill (settle g l (at start c fs ss now))
   settle_still start c fs ss (nows.Pending h end) = released_still (spot_at end start c) fs ss h
   settle_still start c fs ss (nows.Long w end) = ended_still (spot_at end start c) fs _

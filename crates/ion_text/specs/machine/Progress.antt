@@ -86,9 +86,11 @@ abbrev pub or_first : Option Refusal → Option Refusal → Option Refusal
 or_first None later = later
 or_first (Some refusal) later = Some refusal
 
+-- the refusal that each call of a reader answers, if one came
 abbrev pub failed : TextReader → Option Refusal
 failed r = or_first r.failed (failure r.scanner)
 
+-- how many octets a reader has used
 abbrev pub octets_used : TextReader → ℕ
 octets_used r = (scanned r.scanner).used
 
@@ -101,6 +103,7 @@ abbrev pub is_quiet : Now → Mode → Bool
 is_quiet nows.Ready modes.Blank = true
 is_quiet _ _ = false
 
+-- how many values may come: none if an octet is awaited or nothing has begun, else one
 abbrev pub pending_by : Bool → Option ℕ → ℕ
 pending_by quiet (Some o) = 0
 pending_by true None = 0
@@ -124,6 +127,7 @@ Ran g l u s m (Some o) =
       all : s ≡ given ++ (value, length u) ∷ [];
     }
 
+-- a reader in memory stands for these octets, of which these values came
 pub record Stands (r : TextReader) (u : List ℕ) (s : List (Value × ℕ)) : Type 0 where
   pub fine : r.failed ≡ None
   pub scanner_fine : IsFine r

@@ -24,6 +24,7 @@ use Rattle.ion_text.specs.declared.state.Frame.{Frame}
 use Rattle.ion_tokens.specs.machine.Said.{said}
 use Rattle.ion_text.specs.machine.EachToken.{Reading, Turn, goes, gives, refuses, late, Token, Symbols, fresh, place, settle, turn}
 
+-- what the scanner knows, and what the reader of tokens holds
 pub record State : Type 0 where
   pub scan : Known
   pub reading : Reading
@@ -38,6 +39,7 @@ pub data Effect : Type 0 where
   leaves : Value → State → Effect
   fails : Reason → Effect
 
+-- the state in which a document begins
 abbrev pub begun : State
 begun = record { scan = initial; reading = fresh system_slots }
 
@@ -46,6 +48,7 @@ abbrev pub is_top : List Frame → Bool
 is_top [] = true
 is_top (f ∷ fs) = false
 
+-- what has begun is a segment of a long string
 abbrev pub has_segment : Option Begun → Bool
 has_segment None = false
 has_segment (Some b) = of_form b.form where
@@ -53,12 +56,14 @@ has_segment (Some b) = of_form b.form where
   of_form forms.Long = true
   of_form _ = false
 
+-- what waits goes on to wait at the octet of which this comes; the Bool says whether at the top level
 abbrev pub waits_now : Bool → Now → Outcome → Bool
 waits_now top (nows.Pending h end) x = symbol_waits x
 waits_now top (nows.Long w end) x = long_waits top x
 waits_now top (nows.LongName w) x = long_waits false x
 waits_now top _ x = false
 
+-- what waits in a reading goes on to wait at the octet of which this comes
 abbrev pub waits : Reading → Outcome → Bool
 waits r x = waits_now (is_top r.frames) r.now x
 
@@ -89,6 +94,7 @@ longest_top start used (nows.Long w end) ss None n = end - start
 longest_top start used (nows.Long w end) ss (Some b) n = if is_long_form b.form && not (n == 0) then b.end - start else end - start
 longest_top start used _ ss b n = 0
 
+-- 1 where a segment of a long string has begun, else 0
 abbrev pub is_long_begun : Option Begun → ℕ
 is_long_begun None = 0
 is_long_begun (Some b) = of_form b.form where
@@ -96,6 +102,7 @@ is_long_begun (Some b) = of_form b.form where
   of_form forms.Long = 1
   of_form _ = 0
 
+-- how many octets the open item has so far
 abbrev pub reaches : List Frame → Reading → Known → ℕ
 reaches [] r s = longest_top r.start s.used r.now r.notes (begun_in s) (is_long_begun (begun_in s))
 reaches (f ∷ fs) r s = s.used - r.start
@@ -106,6 +113,7 @@ noticed l r s =
     if shut r.now && not (is_idle s.mode) then fails reasons.Unexpected
     else (if nat_le (reaches r.frames r s) l.item then uses (record { scan = s; reading = r }) else fails reasons.ItemTooLong)
 
+-- of two reasons the one with the smaller number
 abbrev pub lesser : Reason → Reason → Reason
 lesser e f = if nat_lt (reason_number f) (reason_number e) then f else e
 
@@ -114,9 +122,11 @@ abbrev pub or_worse : Reason → Effect → Effect
 or_worse e (fails f) = fails (lesser e f)
 or_worse e _ = fails e
 
+-- the state of this scanner and this reading
 abbrev pub with_scan : Known → Reading → State
 with_scan s r = record { scan = s; reading = r }
 
+-- the token of a lexeme that says this
 abbrev pub token_of : Lexeme → Content → Token
 token_of l c = record { start = l.start; end = l.end; said = c }
 
@@ -134,6 +144,7 @@ behind_left again s (gives v r) = leaves v (with_scan s r)
 behind_left again s (refuses e) = fails e
 behind_left again s (late e r) = or_worse e (again (with_scan s r))
 
+-- what follows from what a token says, or the reason why it is refused
 abbrev pub on_said : Result Content Reason → (Content → Effect) → Effect
 on_said (Ok c) f = f c
 on_said (Err e) f = fails e
@@ -153,6 +164,7 @@ module _ (g : Catalog) (l : Limits) where
   on_settled again s x (refuses e) = fails e
   on_settled again s x (late e r) = or_worse e (on_scan again r x)
 
+  -- what an octet does, of which this comes at the scanner, once what waited is settled
   abbrev pub on_octet : (State → Effect) → State → Outcome → Effect
   on_octet again m x = if unsettled m.scan m.reading x then on_scan again m.reading x else on_settled again m.scan x (settle g l m.reading)
 
@@ -170,9 +182,11 @@ pub record Run : Type 0 where
   pub given : List (Value × ℕ)
   pub now : Result State Refusal
 
+-- a run before which a value came with so many octets used
 abbrev pub with_value : Value → ℕ → Run → Run
 with_value v to r = record { given = (v, to) ∷ r.given; now = r.now }
 
+-- a run that is refused at this octet
 abbrev pub failed_at : ℕ → Reason → Run
 failed_at to e = record { given = []; now = Err (record { offset = to; reason = e }) }
 
@@ -198,6 +212,7 @@ module _ (g : Catalog) (l : Limits) where
 
 -- the end
 
+-- no item is open
 abbrev pub is_fresh : Reading → Bool
 is_fresh r = is_top r.frames && (no_notes r.notes && is_ready r.now) where
   is_ready : Now → Bool
@@ -208,6 +223,7 @@ is_fresh r = is_top r.frames && (no_notes r.notes && is_ready r.now) where
   no_notes [] = true
   no_notes (s ∷ ss) = false
 
+-- the octets end in an item
 abbrev pub cut_short : ℕ → Result (Option Value) Refusal
 cut_short used = Err (record { offset = used; reason = reasons.Incomplete })
 
@@ -234,6 +250,7 @@ module _ (g : Catalog) (l : Limits) where
   end_turned used (refuses e) = end_fails used e
   end_turned used (late e r) = end_late used e
 
+  -- the end ended a token, which says this or is refused
   abbrev pub end_said : ℕ → Reading → Lexeme → Result Content Reason → Result (Option Value) Refusal
   end_said used r x (Ok c) = end_turned used (turn g l r (token_of x c))
   end_said used r x (Err e) = end_fails used e
@@ -245,31 +262,38 @@ module _ (g : Catalog) (l : Limits) where
   end_waiting used _ (late e r) = end_late used e
   end_waiting used _ _ = cut_short used
 
+  -- the end came where nothing waits
   abbrev pub end_ready : ℕ → Reading → Result (Option Lexeme) Reason → Result (Option Value) Refusal
   end_ready used r (Ok None) = if is_fresh r then Ok None else cut_short used
   end_ready used r (Ok (Some x)) = end_said used r x (said x.kind x.octets)
   end_ready used r (Err e) = end_fails used e
 
+  -- the end came where this waits, or nothing
   abbrev pub end_now : ℕ → Reading → Result (Option Lexeme) Reason → Now → Result (Option Value) Refusal
   end_now used r x (nows.Pending h end) = end_waiting used x (settle g l r)
   end_now used r x (nows.Long w end) = end_waiting used x (settle g l r)
   end_now used r x (nows.LongName w) = cut_short used
   end_now used r x _ = end_ready used r x
 
+  -- what the end answers in a state
   abbrev pub ends : State → Result (Option Value) Refusal
   ends m = end_now m.scan.used m.reading (at_end (place m.reading) m.scan) m.reading.now
 
+  -- what the end answers behind a run, or the refusal in which the run ended
   abbrev pub ends_of : Result State Refusal → Result (Option Value) Refusal
   ends_of (Ok m) = ends m
   ends_of (Err refusal) = Err refusal
 
+-- the refusal in which a run ended, if it did
 abbrev pub refused_of : Result State Refusal → Option Refusal
 refused_of (Ok m) = None
 refused_of (Err refusal) = Some refusal
 
 module _ (g : Catalog) (l : Limits) where
+  -- what is seen of a run: the values, the refusal and what the end answers
   abbrev pub trace_of : Run → Trace
   trace_of r = record { given = r.given; refused = refused_of r.now; ends = ends_of g l r.now }
 
+  -- what is seen of the run over these octets from where a document begins
   abbrev pub trace : List ℕ → Trace
   trace octets = trace_of (run g l 0 begun octets)

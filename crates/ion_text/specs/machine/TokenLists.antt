@@ -22,19 +22,23 @@ pub data Walk : Type 0 where
   walked : List Value → Reading → Walk
   stopped : Walk
 
+-- a walk before which these values came
 abbrev pub adds_values : List Value → Walk → Walk
 adds_values vs (walked ws r) = walked (vs ++ ws) r
 adds_values vs stopped = stopped
 
+-- a walk that ends here, without values
 abbrev pub done : Reading → Walk
 done r = walked [] r
 
+-- what follows a turn that goes on, behind the value that it gives; none follows a refusal
 abbrev pub on_turn : Turn → (Reading → Walk) → Walk
 on_turn (goes r) f = f r
 on_turn (gives v r) f = adds_values (v ∷ []) (f r)
 on_turn (refuses e) f = stopped
 on_turn (late e r) f = stopped
 
+-- a walk, and behind it another from where the first led
 abbrev pub then_walk : Walk → (Reading → Walk) → Walk
 then_walk (walked vs r) f = adds_values vs (f r)
 then_walk stopped f = stopped
@@ -59,6 +63,7 @@ continues_now top (nows.LongName w) t = of_said t.said
     of_said _ = false
 continues_now top _ t = false
 
+-- what waits in a reading goes on with the token
 abbrev pub continues : Reading → Token → Bool
 continues r t = continues_now (is_top r.frames) r.now t
 
@@ -66,6 +71,7 @@ module _ (g : Catalog) (l : Limits) where
   abbrev pub on_token : Reading → Token → (Reading → Walk) → Walk
   on_token r t f = if continues r t then on_turn (turn g l r t) f else on_turn (settle g l r) (λ k. on_turn (turn g l k t) f)
 
+  -- a token by what it says; none is read on that is refused
   abbrev pub on_judged : Reading → Placed → Result Content Reason → (Reading → Walk) → Walk
   on_judged r t (Ok c) f = on_token r (token_of t.lexeme c) f
   on_judged r t (Err e) f = stopped
@@ -74,10 +80,12 @@ module _ (g : Catalog) (l : Limits) where
   abbrev pub on_placed : Bool → Walk → Walk
   on_placed b w = if b then w else stopped
 
+  -- the tokens one by one, each in the place in which the reader looks
   abbrev pub reads : Reading → List Placed → Walk
   reads r [] = done r
   reads r (t ∷ ts) = on_placed (same_place t.place (place r)) (on_judged r t (said t.lexeme.kind t.lexeme.octets) (λ k. reads k ts))
 
+  -- values added before others are added with them at once
   pub adds_adds : (us vs : List Value) (w : Walk) → adds_values us (adds_values vs w) ≡ adds_values (us ++ vs) w
   adds_adds us vs (walked ws r) = ap (λ x. walked x r) (sym (append_assoc us vs ws))
   adds_adds us vs stopped = refl
@@ -86,6 +94,7 @@ module _ (g : Catalog) (l : Limits) where
   adds_then vs (walked ws r) h = adds_adds vs ws (h r)
   adds_then vs stopped h = refl
 
+  -- no values added change nothing
   pub adds_none : (w : Walk) → adds_values [] w ≡ w
   adds_none (walked ws r) = refl
   adds_none stopped = refl
@@ -120,6 +129,7 @@ module _ (g : Catalog) (l : Limits) where
       (on_judged r t (said t.lexeme.kind t.lexeme.octets) (λ k. reads k ts)) (λ k. reads k us)
       (judged_then r t (said t.lexeme.kind t.lexeme.octets) (λ k. reads k (ts ++ us)) (λ k. reads k ts) (λ k. reads k us) (reads-append ts us))
 
+  -- what a token says by the grammar is what it is read as
   pub said_ok : (p : Place) (t : Placed) (c : Content) → Says p t c → said t.lexeme.kind t.lexeme.octets ≡ Ok c
   said_ok p t c h = one_body t.lexeme.kind t.lexeme.octets (said t.lexeme.kind t.lexeme.octets) (Ok c) (says t.lexeme.kind t.lexeme.octets) h.body
 

@@ -42,6 +42,7 @@ setting_of r = under r.catalog.now r.limits
 abbrev pub spot_of : TextReader → ℕ → Spot
 spot_of r end = spot_at end r.start r.context
 
+-- what a reader in memory holds, as the machine has it
 abbrev pub reading_of : TextReader → Reading
 reading_of r = record { start = r.start; context = r.context; frames = open_frames r; notes = r.notes; now = r.stage }
 
@@ -49,6 +50,7 @@ reading_of r = record { start = r.start; context = r.context; frames = open_fram
 abbrev pub token_in : Found → Token
 token_in t = record { start = t.start; end = t.end; said = content t.body }
 
+-- the turn gave the value that is held
 abbrev pub Gave : Turn → Option Value → Reading → Type 0
 Gave turn (Some v) r = turn ≡ gives v r
 Gave turn None r = ⊥
@@ -144,6 +146,7 @@ IsBehind (Given l s) now = now ≡ s
 IsBehind (Left l s) now = now ≡ s
 IsBehind (Refused n e) now = ⊥
 
+-- the octet showed the end of a token before it, and isn't used
 abbrev pub is_left : Outcome → Bool
 is_left (Left l s) = true
 is_left _ = false

@@ -146,6 +146,7 @@ behind_open p bracket level t = record {
   rest = past_token p t.rest (tokens.Mark (open_mark bracket)) 1;
 }
 
+-- what is noted behind the close of a container
 abbrev pub behind_close : Place → Bracket → Tally → Tally
 behind_close p bracket t = record {
   kind = kind_in bracket;

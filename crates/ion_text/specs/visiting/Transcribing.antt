@@ -15,11 +15,13 @@ open_octet brackets.List = 91
 open_octet brackets.Sexp = 40
 open_octet brackets.Fields = 123
 
+-- what closes a list, an s-expression or a struct
 abbrev pub bracket_close : Bracket → ℕ
 bracket_close brackets.List = 93
 bracket_close brackets.Sexp = 41
 bracket_close brackets.Fields = 125
 
+-- what stands between the items of a list, an s-expression or a struct
 abbrev pub octet_between : Bracket → ℕ
 octet_between brackets.List = 44
 octet_between brackets.Sexp = 32
@@ -60,6 +62,7 @@ writes_event a (part p) b = AddsPart a b p
 writes_event a (annotation s) b = IsText s × Adds a b (symbol_text s ++ codes "::")
 writes_event a (name s) b = IsText s × Adds a b (symbol_text s ++ codes ":")
 
+-- the visitor that writes what it takes as text
 abbrev pub transcribing : Visits Transcription (Option ℕ)
 transcribing = record {
   takes = writes_event;

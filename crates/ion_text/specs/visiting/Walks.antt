@@ -53,14 +53,17 @@ pub record ItemAhead (r : TextReader) (piece : List ℕ) (blank : ℕ) (item : L
   pub none : begun.nodes ≡ 0
 
 module _ {S M : Type 0} (h : Visits S M) where
+  -- in this place octets begin with a value of which the visitor took the parts
   pub record VisitedValue (p : Place) (level : ℕ) (octets : List ℕ) (count : ℕ) (before after : Tally) (a b : S) : Type 0 where
     pub walked : Walked p level octets count before after
     pub visited : VisitedPayload h walked.payload a b
 
+  -- the same of a value with its annotations
   pub record VisitedItem (p : Place) (level : ℕ) (octets : List ℕ) (count : ℕ) (before after : Tally) (a b : S) : Type 0 where
     pub walked : WalkedItem p level octets count before after
     pub visited : Visited h walked.value a b
 
+  -- in this place octets begin with a container of which the visitor took the parts
   pub record VisitedContainer (p : Place) (bracket : Bracket) (level : ℕ) (octets : List ℕ) (count : ℕ) (before after : Tally) (a b : S) : Type 0 where
     pub walked : WalkedContainer p bracket level octets count before after
     pub visited : VisitedPayload h walked.inside.payload a b
@@ -70,19 +73,23 @@ module _ {S M : Type 0} (h : Visits S M) where
     pub walked : WalkedInside bracket level octets count before after
     pub visited : (k : M) (x y : S) → h.opens x bracket k a → h.closes b bracket k y → VisitedPayload h walked.payload x y
 
+  -- octets begin with a field's name, which the visitor took, and the colon behind it
   pub record VisitedName (octets : List ℕ) (count : ℕ) (before after : Tally) (a b : S) : Type 0 where
     pub walked : WalkedName octets count before after
     pub visited : h.takes a (name walked.name) b
 
+  -- octets begin with all annotations of an item, which the visitor took
   pub record VisitedNotes (p : Place) (octets : List ℕ) (count : ℕ) (before after : Tally) (a b : S) : Type 0 where
     pub walked : WalkedNotes p octets count before after
     pub some : 0 < count → 0 < length walked.notes
     pub visited : VisitedAnnotations h walked.notes a b
 
+  -- octets behind the annotations of an item begin with its value, whose parts the visitor took
   pub record VisitedBare (level : ℕ) (octets : List ℕ) (count : ℕ) (before after : Tally) (a b : S) : Type 0 where
     pub walked : WalkedBare level octets count before after
     pub visited : VisitedPayload h walked.payload a b
 
+  -- octets at the top level begin with an item of which the visitor took annotations and parts
   pub record VisitedTop (level : ℕ) (octets : List ℕ) (count : ℕ) (before after : Tally) (a b : S) : Type 0 where
     pub walked : WalkedTop level octets count before after
     pub visited : Visited h walked.value a b

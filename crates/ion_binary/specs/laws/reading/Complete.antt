@@ -40,10 +40,12 @@ use Rattle.ion_binary.specs.machine.Pieces.{run-append, run_via, run_step, then_
 
 -- depths
 
+-- a list or an s-expression is one level deeper than the deepest of its items
 pub depth-listed : (x : Listing) (vs : List Value) → depth (bare (listed x vs)) ≡ suc (depths vs)
 depth-listed listings.List vs = depth-at-List (bare (payloads.List vs)) vs refl
 depth-listed listings.Sexp vs = depth-at-Sexp (bare (payloads.Sexp vs)) vs refl
 
+-- a struct is one level deeper than the deepest of its fields
 pub depth-fields : (ms : List Field) → depth (bare (payloads.Fields ms)) ≡ suc (field_depths ms)
 depth-fields ms = depth-at-Fields (bare (payloads.Fields ms)) ms refl
 
@@ -51,6 +53,7 @@ depth-fields ms = depth-at-Fields (bare (payloads.Fields ms)) ms refl
 pub depth-annotated : (ss : List (Option (List ℕ))) (p : Payload) → depth (annotated ss p) ≡ depth (bare p)
 depth-annotated ss p = depth-out (annotated ss p) ∙ sym (depth-out (bare p))
 
+-- with one field more, the deepest is that one, or one of those before
 pub field_deepest-more : (ms : List Field) (m : Field) → field_depths (ms ++ m ∷ []) ≡ max (field_depths ms) (depth m.value)
 field_deepest-more [] m = omega arith
 field_deepest-more (n ∷ ms) m = omega (arith, field_deepest-more ms m)
@@ -61,6 +64,7 @@ top_none : (b : Bool) (item start to : ℕ) → (b ≡ false → to ≤ start + 
 top_none true item start to h = refl
 top_none false item start to h = cond-true _ _ _ (le-leb to (start + item) (h refl))
 
+-- an item for which there is room isn't too long
 pub too_long_none : (item start : ℕ) (form : Form) (to : ℕ) → TopRoom item start form to → too_long item start form to ≡ None
 too_long_none item start form to h = top_none (is_pad form) item start to h
 
@@ -172,9 +176,11 @@ hollow_scalar c scalars.Blob body p h = refl
 pub digits_more : (ds : List ℕ) (d : ℕ) → positional 128 (ds ++ d ∷ []) ≡ 128 * positional 128 ds + d
 digits_more ds d = let i = positional_push 128 ds d in omega arith
 
+-- a VarUInt has an octet
 pub length_VarUInt : (w : List ℕ) (n : ℕ) → VarUInt w n → 0 < length w
 length_VarUInt w n v = let k : length w ≡ length v.digits + 1 = ap length v.octets ∙ length-one v.digits (128 + v.last) in omega arith
 
+-- a header has an octet
 pub header_some : (form : Form) (n : ℕ) (h : List ℕ) → Header form n h → 0 < length h
 header_some form n _ (short b d) = omega arith
 header_some form n _ (long b h d v) = omega arith
@@ -182,6 +188,7 @@ header_some form n _ (long b h d v) = omega arith
 joined_some : (h body : List ℕ) → 0 < length h → 0 < length (h ++ body)
 joined_some h body k = let e = length-append h body in omega arith
 
+-- a value without annotations has an octet
 pub plain_some : (c : List Slot) (w : List ℕ) (p : Payload) → Plain c w p → 0 < length w
 plain_some c _ _ (is_null b k d) = omega arith
 plain_some c _ _ (is_truth b k d) = omega arith
@@ -190,10 +197,12 @@ plain_some c _ _ (is_listing h body x vs d q) = joined_some h body (header_some 
 plain_some c _ _ (is_struct h body ms d q) = joined_some h body (header_some _ _ h d)
 plain_some c _ _ (is_ordered h body ms d n q) = joined_some h body (header_some _ _ h d)
 
+-- a value has an octet
 pub binary_some : (c : List Slot) (w : List ℕ) (v : Value) → Binary c w v → 0 < length w
 binary_some c _ _ (unannotated w p b) = plain_some c w p b
 binary_some c _ _ (wrapped h count ids w ss p d v n i b) = joined_some h _ (header_some _ _ h d)
 
+-- a pad has an octet
 pub pad_some : (w : List ℕ) → IsPad w → 0 < length w
 pad_some _ (skipped h body d) = joined_some h body (header_some _ _ h d)
 
@@ -278,17 +287,21 @@ module _ (g : Catalog) (l : Limits) where
 
   -- bodies
 
+  -- behind the header of a scalar that has octets, its body begins
   pub begin_scalar : (spot : Spot) (fs : List Frame) (t : Scalar) (n : ℕ) → begin (under g l) spot fs (forms.Scalar t) (suc n)
       ≡ Outcome.goes (in_body spot fs t n [])
   begin_scalar spot fs t n = cond-false _ _ _ (ne_eqb (suc n) 0 (λ e. omega arith))
       ∙ ap (λ k. Outcome.goes (in_body spot fs t k [])) (let j : suc n - 1 ≡ n = omega arith in j)
 
+  -- behind the header of a pad that has octets, they begin
   pub begin_pad : (spot : Spot) (fs : List Frame) (n : ℕ) → begin (under g l) spot fs forms.Pad (suc n) ≡ Outcome.goes (at spot fs (InPad n))
   begin_pad spot fs n = pad_more g l spot fs n
 
+  -- a struct whose header announces the order of its fields begins as any struct
   pub begin_ordered : (spot : Spot) (fs : List Frame) (n : ℕ) → begin (under g l) spot fs forms.OrderedStruct n ≡ open_struct (under g l) spot fs n
   begin_ordered spot fs n = refl
 
+  -- behind the header of a wrapper, the number of the octets of its annotations comes
   pub begin_wrapper : (spot : Spot) (fs : List Frame) (n : ℕ) → begin (under g l) spot fs forms.Wrapper n
       ≡ Outcome.goes (at spot (frames.Annotated (spot.used + n) [] ∷ fs) (InNumber purposes.AnnotationsLength 0))
   begin_wrapper spot fs n = refl
@@ -342,6 +355,7 @@ module _ (g : Catalog) (l : Limits) where
   pad_begins spot fs (b ∷ bs) to e = ap (run_on spot.used (λ m. run g l spot.used m (b ∷ bs))) (begin_pad spot fs (length bs))
       ∙ pad_run spot fs (length bs) (b ∷ bs) to refl e
 
+  -- over a pad for which there is room, the machine comes to go on without a value
   pub skip_run : (spot : Spot) (fs : List Frame) (w : List ℕ) (to : ℕ) → IsPad w → Admits fs forms.Pad → to ≡ spot.used + length w
       → BodyMayEnd l spot.start fs forms.Pad to
       → run g l spot.used (at spot fs Ready) w ≡ run_after to (proceed (under g l) (moved spot to) fs)
@@ -356,6 +370,7 @@ module _ (g : Catalog) (l : Limits) where
       → proceed (under g l) spot (frames.Items end x vs ∷ fs) ≡ Outcome.goes (at spot (frames.Items end x vs ∷ fs) Ready)
   items_go spot fs end x vs h = cond-false _ _ _ (ne_eqb spot.used end (λ e. omega arith))
 
+  -- where a struct goes on, the name of a field comes
   pub fields_go : (spot : Spot) (fs : List Frame) (end : ℕ) (ms : List Field) → spot.used < end → proceed (under g l) spot (frames.Fields end ms ∷ fs)
       ≡ Outcome.goes (at spot (frames.Fields end ms ∷ fs) (InNumber purposes.FieldName 0))
   fields_go spot fs end ms h = cond-false _ _ _ (ne_eqb spot.used end (λ e. omega arith))
@@ -386,6 +401,7 @@ module _ (g : Catalog) (l : Limits) where
       (number_run (moved spot mid) (frames.Annotated end ss ∷ fs) (purposes.Annotation stop) w k to v (omega arith) j
       ∙ ap (λ x. run_after to (annotation_came (moved spot to) (frames.Annotated end ss ∷ fs) stop x)) r)
 
+  -- behind the number of annotation octets, if it is good, the first id comes
   pub count_goes : (spot : Spot) (fs : List Frame) (end n : ℕ) (ss : List (Option (List ℕ))) → 0 < n → spot.used + n < end
       → count_came spot (frames.Annotated end ss ∷ fs) n ≡ Outcome.goes
       (at spot (frames.Annotated end ss ∷ fs) (InNumber (purposes.Annotation (spot.used + n)) 0))
@@ -576,6 +592,7 @@ module _ (g : Catalog) (l : Limits) where
       → run g l spot.used (at spot fs Ready) w ≡ run_after to (deliver (under g l) (moved spot to) fs v)
   binary_run spot fs to w v b a e r q = value_run spot.used spot.start spot.context fs to w v b a e r q
 
+  -- over a version marker, the machine comes to the top level with the system symbols
   pub marker_run : (spot : Spot) → run g l spot.used (at spot [] Ready) the_marker ≡ led (at (anew (spot.used + 4) system_slots) [] Ready)
   unfolding opening_of descriptor_of
   marker_run spot = ap (λ n. led (at (anew n system_slots) [] Ready)) (let j : spot.used + 1 + 1 + 1 + 1 ≡ spot.used + 4 = omega arith in j)

@@ -51,6 +51,7 @@ as_timestamp_decides : (r : Result TimestampParts Reason) → Decides r → Deci
 as_timestamp_decides (Ok t) h = tt
 as_timestamp_decides (Err e) h = h
 
+-- a body is refused for reasons alone that octets decide
 pub judge_decides : (c : List Slot) (t : Scalar) (body : List ℕ) → Decides (judge c t body)
 unfolding judge
 judge_decides c scalars.Int body = int_decides false (uint_field body) (uint_decides body)

@@ -16,6 +16,7 @@ use Rattle.ion_binary.specs.declared.form.Listing.TheVariants as listings
 use Rattle.ion_binary.specs.Grammar.{IsScalar, is_int, is_negative, is_decimal, is_timestamp, is_symbol, is_string, is_clob, is_blob, Ids, no_ids, one_id, listed, Plain, is_null, is_truth, is_scalar, is_listing, is_struct, is_ordered, Binary, unannotated, wrapped, Sequence, nothing, one_more, padded, Fields, one_field, padded_field}
 use Rattle.ion_binary.specs.Grammar as grammar
 
+-- minus a number below 2^127 is an int in range
 pub negative_whole : (n : ℕ) → n < 2 ^ 127 → IsWhole (neg_ℤ (pos n))
 negative_whole zero h = omega arith
 negative_whole (suc n) h = omega arith
@@ -48,6 +49,7 @@ module _ (c : List Slot) (h : AreTextSlots c) where
     plain_kept _ _ o (is_struct head body ms d q) = kept_fields ms (fields_kept body ms (octets_rest head body o) q)
     plain_kept _ _ o (is_ordered head body ms d n q) = kept_fields ms (fields_kept body ms (octets_rest head body o) q)
 
+    -- a value of octets is kept, where the texts of the context are UTF-8
     pub binary_kept : (w : List ℕ) (v : Value) → AreOctets w → Binary c w v → IsKept v
     binary_kept _ _ o (unannotated w p b) = kept [] p tt (plain_kept w p o b)
     binary_kept _ _ o (wrapped head count ids w ss p d v n i b) =

@@ -138,5 +138,6 @@ header_from : (form : Form) (n : ℕ) (octets : List ℕ) → IsHeader form n oc
 header_from form n octets (inl (few, is, e)) = subst (Header form n) (sym e) (short (16 * type_code form + n) (known form n is few))
 header_from form n octets (inr (w, is, e)) = subst (Header form n) (sym e) (long (16 * type_code form + long_code form) w (follows form) is)
 
+-- octets are a header just where type code and length code say so
 pub header_rows : (form : Form) (n : ℕ) (octets : List ℕ) → Header form n octets ↔ IsHeader form n octets
 header_rows form n octets = (header_told form n octets, header_from form n octets)

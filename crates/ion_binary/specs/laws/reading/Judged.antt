@@ -53,11 +53,13 @@ uint_sound n (Ok m) k p e f h =
     (ltb-true n (2 ^ 127) q.0, ap k q.1 ∙ h)
 uint_sound n (Err x) k p e f h = let i = f x in absurd cc
 
+-- a body that is read as a decimal is that decimal
 pub decimal_sound : (c : List Slot) (body : List ℕ) (p : Payload) (r : Result DecimalParts Reason) → ReadsDecimalBody body r → as_decimal r ≡ Ok p
     → IsScalar c body scalars.Decimal p
 decimal_sound c body p (Ok d) e h = let i : payloads.Decimal d ≡ p = cc in subst (IsScalar c body scalars.Decimal) i (is_decimal d e.0 e.1)
 decimal_sound c body p (Err x) e h = absurd cc
 
+-- a body that is read as a timestamp is that timestamp
 pub timestamp_sound : (c : List Slot) (body : List ℕ) (p : Payload) (r : Result TimestampParts Reason) → timestamp_of_body body ≡ r → as_timestamp r ≡ Ok p
     → IsScalar c body scalars.Timestamp p
 timestamp_sound c body p (Ok t) e h = let i : payloads.Timestamp t ≡ p = cc in

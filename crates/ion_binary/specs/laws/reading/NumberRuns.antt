@@ -47,6 +47,7 @@ module _ (g : Catalog) (l : Limits) where
     pub least : reason_number reason ≤ reason_number e
 
   module _ (c : List Slot) (start : ℕ) where
+    -- where a descriptor comes next, the machine is ready for one
     pub ready : (ks : List Container) → TakesValue ks → phase_of ks ≡ Ready
     ready [] h = refl
     ready (Items end ∷ ks) h = refl
@@ -59,6 +60,7 @@ module _ (g : Catalog) (l : Limits) where
       pub given : List (Value × ℕ)
       pub ran : run g l 0 initial u ≡ record { given = given; now = Ok (at (spot_at (length u) start c) fs phase) }
 
+    -- an octet that the machine refuses behind these is refused, for this reason or a smaller one
     pub stops_with : (fs : List Frame) (phase : Phase) (u : List ℕ) (b : ℕ) (e f : Reason) → (o : Holds fs phase u)
         → feed (under g l) (at (spot_at (length u) start c) fs phase) b ≡ refuses e → reason_number e ≤ reason_number f → Stopped (u ++ b ∷ []) f
     stops_with fs phase u b e f o fed small =
@@ -82,6 +84,7 @@ module _ (g : Catalog) (l : Limits) where
           ∙ ap (λ x. record { given = o.given ++ x.given; now = x.now }) r));
     }
 
+    -- an octet with which the machine goes on behind these leads on
     pub goes_with : (fs hs : List Frame) (phase then' : Phase) (u : List ℕ) (b : ℕ) → (o : Holds fs phase u)
         → feed (under g l) (at (spot_at (length u) start c) fs phase) b ≡ goes (at (spot_at (length u + 1) start c) hs then') → Holds hs then' (u ++ b ∷ [])
     goes_with fs hs phase then' u b o fed =
@@ -90,6 +93,7 @@ module _ (g : Catalog) (l : Limits) where
         (ap (run_after (length u + 1)) fed ∙ ap (λ n. led (at (spot_at n start c) hs then')) (let j : length u + 1 ≡ length (u ++ b ∷ []) = omega arith in
         j))
 
+    -- octets that lead to open containers lead to their frames
     pub leads_holds : (ks : List Container) (u : List ℕ) → (d : Leads g l c start ks u) → Holds d.fs (phase_of ks) u
     leads_holds ks u d = record { given = d.given; ran = d.ran }
 

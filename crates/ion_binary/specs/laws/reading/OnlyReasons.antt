@@ -35,6 +35,7 @@ malformed_only : (b : Bool) → (cond b (Some Malformed) None ≡ None) ⊎ (con
 malformed_only true = inr refl
 malformed_only false = inl refl
 
+-- a form with no octets in its body is refused as `Malformed`, if at all
 pub hollow_only : (form : Form) (n : ℕ) → (hollow form n ≡ None) ⊎ (hollow form n ≡ Some Malformed)
 hollow_only (forms.Scalar scalars.NegativeInt) n = malformed_only (n == 0)
 hollow_only (forms.Scalar scalars.Timestamp) n = malformed_only (n == 0)
@@ -50,6 +51,7 @@ hollow_only forms.Pad n = inl refl
 hollow_only (forms.Listing x) n = inl refl
 hollow_only forms.Struct n = inl refl
 
+-- a form that may not stand in the innermost container is refused as `Malformed`, if at all
 pub stray_only : (fs : List Frame) (form : Form) → (stray fs form ≡ None) ⊎ (stray fs form ≡ Some Malformed)
 stray_only [] form = inl refl
 stray_only (frames.Items end x vs ∷ fs) form = inl refl
@@ -76,6 +78,7 @@ resolve_only c id e h = by (id == 0) (slice_get c (id - 1)) h
     by true s k = absurd cc
     by false s k = slot s k
 
+-- the reasons of an id have the numbers 8 and 9
 pub late_name : (e : Reason) → (e ≡ SymbolRange) ⊎ (e ≡ ImportGap) → (8 ≤ reason_number e) × (reason_number e ≤ 9)
 late_name e (inl h) = subst (λ (x : Reason). (8 ≤ reason_number x) × (reason_number x ≤ 9)) (sym h) (omega arith, omega arith)
 late_name e (inr h) = subst (λ (x : Reason). (8 ≤ reason_number x) × (reason_number x ≤ 9)) (sym h) (omega arith, omega arith)
@@ -85,6 +88,7 @@ late_name e (inr h) = subst (λ (x : Reason). (8 ≤ reason_number x) × (reason
 abbrev pub IsPlainReason : Reason → Type 0
 IsPlainReason e = (e ≡ Malformed) ⊎ (e ≡ Float)
 
+-- a descriptor that is refused is so as `Malformed` or `Float`
 abbrev pub PlainOpening : Opening → Type 0
 PlainOpening (Refused e) = IsPlainReason e
 PlainOpening _ = Unit {0}
@@ -127,14 +131,17 @@ typed_plain t n =
     (either P (t == 4) _ _ (either P ((n == 0) || (n == 4) || (n == 8)) _ _ (inr refl) (inl refl))
     (either P (t == 13) _ _ (either P (n == 1) _ _ tt tt) tt))))))
 
+-- each octet as a descriptor is refused for no other reason
 pub opening_plain : (b : ℕ) → PlainOpening (opening_of b)
 unfolding opening_of descriptor_of
 opening_plain b = opens_plain (descriptor_of b) (typed_plain (b / 16) (b % 16))
 
+-- these two reasons have numbers of 5 at most
 pub plain_small : (e : Reason) → IsPlainReason e → reason_number e ≤ 5
 plain_small e (inl h) = subst (λ (x : Reason). reason_number x ≤ 5) (sym h) (omega arith)
 plain_small e (inr h) = subst (λ (x : Reason). reason_number x ≤ 5) (sym h) (omega arith)
 
+-- what tests as a pad is the form of pads
 pub pad_is : (form : Form) → is_pad form ≡ true → form ≡ forms.Pad
 pad_is forms.Pad h = refl
 pad_is (forms.Scalar t) h = cc
@@ -143,6 +150,7 @@ pad_is forms.Struct h = cc
 pad_is forms.OrderedStruct h = cc
 pad_is forms.Wrapper h = cc
 
+-- a body of some octets is refused for none of them missing
 pub hollow_some : (form : Form) (n : ℕ) → 0 < n → hollow form n ≡ None
 hollow_some (forms.Scalar scalars.NegativeInt) n h = cond-false _ _ _ (ne_eqb n 0 (λ e. omega arith))
 hollow_some (forms.Scalar scalars.Timestamp) n h = cond-false _ _ _ (ne_eqb n 0 (λ e. omega arith))

@@ -123,6 +123,7 @@ module _ (g : Catalog) (l : Limits) where
       (subst (Decides {A = Option (List ℕ)}) (sym o.named) (resolve_decides c o.k), opened_fine start c s fs o.inside.box.before o.inside.box.outer)
   opened_fine start c s (frames.Annotated end ss ∷ fs) u o = (tt, opened_fine start c s fs o.box.before o.box.outer)
 
+  -- octets are as many as those up to `start` and those of the rest
   pub rest_long : (start : ℕ) (s : List Value) (u : List ℕ) (c : Cut start s u) → length u ≡ start + length c.rest
   rest_long start s u c = let k : length u ≡ length (c.front ++ c.rest) = ap length c.parts in let j = length-append c.front c.rest in let i = c.at in
       omega arith
@@ -282,6 +283,7 @@ module _ (g : Catalog) (l : Limits) where
       let a = rest_long start s o.before k in
       omega arith
 
+  -- the octets so far of a body are no more than an item may have
   pub body_within : (start : ℕ) (c : List Slot) (s : List Value) (fs : List Frame) (body : List ℕ) (t : Scalar) (n : ℕ) (u : List ℕ)
       → Standing g l start c s fs body (InBody t n) u → length body ≤ l.item
   body_within start c s fs body t n u o = body_kept start c s fs t n body u o

@@ -37,6 +37,7 @@ pub data Match (c : List Slot) : List Frame → List Container → Type 0 where
   noted : (end : ℕ) (ss : List (Option (List ℕ))) (fs : List Frame) (ks : List Container) → Match c fs ks
       → Match c (frames.Annotated end ss ∷ fs) (Noted end ∷ ks)
 
+-- as many levels are open in the frames as in the containers
 pub same_levels : (c : List Slot) (fs : List Frame) (ks : List Container) → Match c fs ks → machine.levels fs ≡ container_levels ks
 same_levels c _ _ nothing_open = refl
 same_levels c _ _ (items end x vs fs ks m) = ap suc (same_levels c fs ks m)
@@ -61,6 +62,7 @@ named_ok form end ms fs (Err e) h = go (is_pad form) refl
     go true i = cond-true _ _ _ i
     go false i = let k = (h i).1 in absurd cc
 
+-- a form that may begin in the containers may stand in the frames
 pub may_admit : (c : List Slot) (fs : List Frame) (ks : List Container) (form : Form) → Match c fs ks → MayBegin c ks (is_pad form) (is_wrapper form)
     → Admits fs form
 may_admit c _ _ form nothing_open h = record { fitting = refl; named = refl }
@@ -69,6 +71,7 @@ may_admit c _ _ form (names end ms fs ks m) h = absurd h
 may_admit c _ _ form (named end id ms fs ks m) h = record { fitting = refl; named = named_ok form end ms fs (resolve c id) h }
 may_admit c _ _ form (noted end ss fs ks m) h = record { fitting = cond-false _ _ _ h; named = refl }
 
+-- the name of a field comes next in a struct, and a descriptor elsewhere
 abbrev pub phase_of : List Container → Phase
 phase_of (Names end ∷ ks) = InNumber purposes.FieldName 0
 phase_of _ = Ready
@@ -108,6 +111,7 @@ module _ (g : Catalog) (l : Limits) (c : List Slot) (start : ℕ) where
       (reach_ends l start c fs ks form (length u + h.n) m (subst (MayReach l start ks (is_pad form)) h.ends h.reaches)))
       ∙ then_after (length u) (begin (under g l) (spot_at (length u) start c) fs form h.n) (λ n. run g l (length u) n body))
 
+  -- where a form may begin, the machine is ready for a descriptor
   pub takes_phase : (ks : List Container) (form : Form) → MayBegin c ks (is_pad form) (is_wrapper form) → phase_of ks ≡ Ready
   takes_phase [] form h = refl
   takes_phase (Items end ∷ ks) form h = refl

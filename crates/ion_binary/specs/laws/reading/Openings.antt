@@ -23,6 +23,7 @@ use Rattle.ion_binary.specs.laws.reading.NumberRuns.{purpose_of, InFrames, lengt
 use Rattle.ion_binary.specs.Deciding as deciding
 use Rattle.ion_binary.specs.Deciding.{Container, Items, Names, Named, Noted, TakesValue, MayBegin, MayReach, Headed, Open, Number, Length, Name, Count, Id, a_length, a_name, a_count, an_id, of_container, of_struct, of_wrapper, of_annotations, LastOctet, MayGoOn}
 
+-- where the frames let a descriptor come, one comes next in the containers
 pub takes : (c : List Slot) (fs : List Frame) (ks : List Container) → Match c fs ks → Receives fs → TakesValue ks
 takes c _ _ nothing_open r = tt
 takes c _ _ (items end x vs fs ks m) r = tt
@@ -30,10 +31,12 @@ takes c _ _ (names end ms fs ks m) r = absurd r
 takes c _ _ (named end id ms fs ks m) r = tt
 takes c _ _ (noted end ss fs ks m) r = tt
 
+-- where a reason would be given if a test held, and none is, the test fails
 pub some_none : (b : Bool) (x : Reason) → cond b (Some x) None ≡ None → b ≡ false
 some_none true x h = cc
 some_none false x h = refl
 
+-- a form that may stand in the frames may begin in the containers
 pub may_begin : (c : List Slot) (fs : List Frame) (ks : List Container) (form : Form) → Match c fs ks → Fitting fs form
     → MayBegin c ks (is_pad form) (is_wrapper form)
 may_begin c _ _ form nothing_open h = tt
@@ -49,6 +52,7 @@ may_begin c _ _ form (named end id ms fs ks m) h = λ p. go (resolve c id) refl 
         let k : cond (is_pad form) None (Some x) ≡ Some x = cond-false _ _ _ p in
         absurd (let q : Some x ≡ None = sym k ∙ n in cc)
 
+-- a body may reach in the containers up to where it may end in the frames
 pub may_reach : (l : Limits) (start : ℕ) (c : List Slot) (fs : List Frame) (ks : List Container) (form : Form) (to : ℕ) → Match c fs ks
     → BodyMayEnd l start fs form to → MayReach l start ks (is_pad form) to
 may_reach l start c _ _ form to nothing_open h = h
@@ -120,6 +124,7 @@ module _ (g : Catalog) (l : Limits) (start : ℕ) (c : List Slot) (s : List Valu
         more = h;
       }
 
+  -- what has come of open frames stands open as containers
   pub opened_open : (fs : List Frame) (u : List ℕ) → Opened g l start c s fs u → Inside fs (length u) → Shape fs u
   opened_open [] u o i = record { ks = []; match = nothing_open; open' = (s, o.0, o.1) }
   opened_open (frames.Items end x vs ∷ fs) u o i =
@@ -221,6 +226,7 @@ module _ (g : Catalog) (l : Limits) (start : ℕ) (c : List Slot) (s : List Valu
   id_goes [] stop used h = before_stop [] stop used h
   id_goes (k ∷ ks) stop used h = before_stop (k ∷ ks) stop used h
 
+  -- where the machine stands in a VarUInt, the octets end inside of one
   pub numbered : (fs : List Frame) (p : Purpose) (a : ℕ) (u : List ℕ) → a < 2 ^ 63 → NumberStands g l start c s fs p a u → Numbered fs p a u
   numbered fs (purposes.Length form) a u small o =
       let p = opened_open fs o.before o.outer o.more in

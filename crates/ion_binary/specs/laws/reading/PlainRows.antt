@@ -98,6 +98,7 @@ null_from : (b : ℕ) (k : Kind) → (b ≡ null_octet k) ⊎ ((k ≡ kinds.Int)
 null_from b k (inl own) = ap opening_of own ∙ null_opens k
 null_from b k (inr other) = ap opening_of other.1 ∙ (other_int_opens ∙ ap Null (sym other.0))
 
+-- an octet opens a null just where it is that of its kind; ints have two
 pub null_rows : (b : ℕ) (k : Kind) → b < 256 → (opening_of b ≡ Null k) ↔ ((b ≡ null_octet k) ⊎ ((k ≡ kinds.Int) × (b ≡ 0x3F)))
 null_rows b k less = (null_told b k less, null_from b k)
 
@@ -110,5 +111,6 @@ truth_opens true = refl
 truth_told : (b : ℕ) (t : Bool) → b < 256 → opening_of b ≡ Truth t → b ≡ truth_octet t
 truth_told b t less e = eqb-true b (truth_octet t) (subst (λ (o : Opening). row_holds o b ≡ true) e (row b less))
 
+-- an octet opens a bool just where it is that of the bool
 pub truth_rows : (b : ℕ) (t : Bool) → b < 256 → (opening_of b ≡ Truth t) ↔ (b ≡ truth_octet t)
 truth_rows b t less = (truth_told b t less, λ own. ap opening_of own ∙ truth_opens t)

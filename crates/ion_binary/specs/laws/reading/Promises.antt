@@ -68,6 +68,7 @@ accepts g l u s d =
 pub exact : (g : Catalog) (l : Limits) (u : List ℕ) (s : List Value) → Streams (trace g l u) s ↔ Document g l u s
 exact g l u s = (admits g l u s, accepts g l u s)
 
+-- the octets of a document have one stream alone
 pub one_stream : (g : Catalog) (l : Limits) (u : List ℕ) (s t : List Value) → Document g l u s → Document g l u t → s ≡ t
 one_stream g l u s t a b =
     let p = pieces_run g l u s a.0 a.1 in
@@ -245,6 +246,7 @@ reasons g l u = record {
   end = λ r h. end_reason g l u (run g l 0 initial u).now r refl h;
 }
 
+-- there are as many values as were given
 pub plain_long : (given : List (Value × ℕ)) → length (plain given) ≡ length given
 plain_long [] = refl
 plain_long (v ∷ given) = omega (arith, plain_long given)
@@ -352,6 +354,7 @@ pieces_values g l _ _ _ (skips u w s c d p) = pieces_values g l u s c d
 pieces_values g l _ _ _ (turns u w s c e v d b t n p q) = pieces_values g l u s c d
 pieces_values g l _ _ _ (holds u w s c v d b t p q) = no_tables_more s v (pieces_values g l u s c d) t
 
+-- no value of whole pieces is a local symbol table
 pub whole_values : (g : Catalog) (l : Limits) (w : List ℕ) (s : List Value) → Whole g l w s → NoTables s
 whole_values g l _ _ no_piece = tt
 whole_values g l _ _ (document u s c d) = pieces_values g l u s c d

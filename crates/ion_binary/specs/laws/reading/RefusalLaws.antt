@@ -40,6 +40,7 @@ reason_in : Result Machine Refusal → Reason → Reason
 reason_in (Ok m) e = e
 reason_in (Err r) e = r.reason
 
+-- a refusal is at an octet that decides, for the reason that answers there
 pub answers : (g : Catalog) (l : Limits) (u : List ℕ) (r : Refusal) → (trace g l u).refused ≡ Some r → (r.offset ≤ length u)
     × Answers g l (take r.offset u) r.reason
 unfolding reason_in
@@ -60,6 +61,7 @@ answers g l u r h =
       }),
     )
 
+-- octets the last of which decides are refused with that one
 pub refuses : (g : Catalog) (l : Limits) (u : List ℕ) (k : ℕ) (e : Reason) → k ≤ length u → Decides g l (take k u) e → (r : Refusal)
     × ((trace g l u).refused ≡ Some r) × (r.offset ≡ k)
 refuses g l u k e h d =
@@ -82,6 +84,7 @@ ends_now g l u given (Ok m) r ran h k =
     let s = ran_stands g l u given m ran in
     sym (cond_err (whole m.phase m.frames) None _ r k) ∙ ap (λ n. record { offset = n; reason = Incomplete }) s.used
 
+-- where no octet is refused, the end refuses for `Incomplete` alone, behind all octets
 pub ends : (g : Catalog) (l : Limits) (u : List ℕ) (r : Refusal) → (trace g l u).refused ≡ None → (trace g l u).ends ≡ Err r
     → r ≡ record { offset = length u; reason = Incomplete }
 ends g l u r h k = ends_now g l u (run g l 0 initial u).given (run g l 0 initial u).now r refl h k

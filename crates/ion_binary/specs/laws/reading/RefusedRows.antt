@@ -65,6 +65,7 @@ module _ (g : Catalog) (l : Limits) (c : List Slot) (start : ℕ) where
     pub match : Match c fs ks
     pub ends : EndsHeader g l c start ks form n u
 
+  -- a header for no octets where its form must have some has a row
   pub hollow_row : (fs : List Frame) (form : Form) (n : ℕ) (u : List ℕ) → HeaderEnds fs form n u → (x : Reason) → hollow form n ≡ Some x → Decides g l u x
   hollow_row fs (forms.Scalar scalars.NegativeInt) n u h x e =
       let p = some_then (n == 0) Malformed x e in
@@ -202,10 +203,12 @@ module _ (g : Catalog) (l : Limits) (c : List Slot) (start : ℕ) where
   unending_row _ _ form u b (named end id ms fs ks m) o t i x e = last_row (Named end id) ks u b form end refl o t i x e
   unending_row _ _ form u b (noted end ss fs ks m) o t i x e = last_row (Noted end) ks u b form end refl o t i x e
 
+  -- a pad or a wrapper in a wrapper, whose length would follow, has a row
   pub follows_stray : (fs : List Frame) (ks : List Container) (form : Form) (u : List ℕ) (b : ℕ) → Match c fs ks → Open g l c start ks u
       → opening_of b ≡ Sized form Follows → (x : Reason) → stray fs form ≡ Some x → Decides g l (u ++ b ∷ []) x
   follows_stray fs ks form u b m o i = stray_row fs ks form Follows u b m o i
 
+  -- a field's name without a symbol, before a value whose length would follow, has a row
   pub follows_name : (fs : List Frame) (ks : List Container) (form : Form) (u : List ℕ) (b : ℕ) → Match c fs ks → Open g l c start ks u
       → opening_of b ≡ Sized form Follows → (x : Reason) → nameless fs form ≡ Some x → Decides g l (u ++ b ∷ []) x
   follows_name fs ks form u b m o i = name_row fs ks form u b m o (λ size p e. sized_pad form Follows size p (sym i ∙ e))
@@ -217,6 +220,7 @@ module _ (g : Catalog) (l : Limits) (c : List Slot) (start : ℕ) where
       let p = some_if (nat_lt (length u + 1) last) Malformed x e in
       subst (Decides g l (u ++ b ∷ [])) p.1 (number_past c start last ks q a u b o h r (ltb-false (length u + 1) last p.0))
 
+  -- a VarUInt that may not go on has a row
   pub number_row : (ks : List Container) (q : Number) (fs : List Frame) (a : ℕ) (u : List ℕ) (b : ℕ) → InFrames c ks q fs
       → deciding.InNumber g l c start ks q a u → b < 128 → (x : Reason) → past l.item start fs (purpose_of q) (length u + 1) ≡ Some x
       → Decides g l (u ++ b ∷ []) x
@@ -249,6 +253,7 @@ module _ (g : Catalog) (l : Limits) (c : List Slot) (start : ℕ) where
   header_here _ _ _ form n u (count_in ks end fs m) e o = absurd cc
   header_here _ _ _ form n u (id_in ks end stop ss fs m) e o = absurd cc
 
+  -- the name of a field that ends with its struct has a row
   pub value_row : (ks : List Container) (q : Number) (all fs : List Frame) (end n : ℕ) (ms : List _) (u : List ℕ) → InFrames c ks q all
       → all ≡ frames.Fields end ms ∷ fs → purpose_of q ≡ purposes.FieldName → EndsNumber g l c start ks q n u → end ≤ length u → Decides g l u Malformed
   value_row _ _ _ fs end n ms u (length_in ks f hs m) i e o h = absurd cc
@@ -256,6 +261,7 @@ module _ (g : Catalog) (l : Limits) (c : List Slot) (start : ℕ) where
   value_row _ _ _ fs end n ms u (count_in ks end' hs m) i e o h = absurd cc
   value_row _ _ _ fs end n ms u (id_in ks end' stop ss hs m) i e o h = absurd cc
 
+  -- annotations that leave no room for their value have a row
   pub count_row : (ks : List Container) (q : Number) (all fs : List Frame) (end n : ℕ) (ss : List (Option (List ℕ))) (u : List ℕ) → InFrames c ks q all
       → all ≡ frames.Annotated end ss ∷ fs → purpose_of q ≡ purposes.AnnotationsLength → EndsNumber g l c start ks q n u → end ≤ length u + n
       → Decides g l u Malformed
@@ -264,6 +270,7 @@ module _ (g : Catalog) (l : Limits) (c : List Slot) (start : ℕ) where
   count_row _ _ _ fs end n ss u (count_in ks end' hs m) i e o h = let k : end' ≡ end = cc in annotations_past c start end' n ks u o (omega arith)
   count_row _ _ _ fs end n ss u (id_in ks end' stop ss' hs m) i e o h = absurd cc
 
+  -- a wrapper with no annotation octets has a row
   pub none_row : (ks : List Container) (q : Number) (fs : List Frame) (n : ℕ) (u : List ℕ) → InFrames c ks q fs → purpose_of q ≡ purposes.AnnotationsLength
       → EndsNumber g l c start ks q n u → n ≡ 0 → Decides g l u Malformed
   none_row _ _ _ n u (length_in ks f hs m) e o h = absurd cc
@@ -271,6 +278,7 @@ module _ (g : Catalog) (l : Limits) (c : List Slot) (start : ℕ) where
   none_row _ _ _ n u (count_in ks end' hs m) e o h = no_annotations c start end' ks u (subst (λ x. EndsNumber g l c start ks (Count end') x u) h o)
   none_row _ _ _ n u (id_in ks end' stop ss' hs m) e o h = absurd cc
 
+  -- an annotation whose id has no symbol has a row
   pub annotation_row : (ks : List Container) (q : Number) (fs : List Frame) (stop n : ℕ) (u : List ℕ) (x : Reason) → InFrames c ks q fs
       → purpose_of q ≡ purposes.Annotation stop → EndsNumber g l c start ks q n u → resolve c n ≡ Err x → Decides g l u x
   annotation_row _ _ _ stop n u x (length_in ks f hs m) e o h = absurd cc
@@ -278,6 +286,7 @@ module _ (g : Catalog) (l : Limits) (c : List Slot) (start : ℕ) where
   annotation_row _ _ _ stop n u x (count_in ks end' hs m) e o h = absurd cc
   annotation_row _ _ _ stop n u x (id_in ks end' stop' ss' hs m) e o h = no_annotation c start stop' n ks u x o h
 
+  -- a version marker in a container has a row
   pub marker_row : (f : Frame) (fs : List Frame) (ks : List Container) (u : List ℕ) (b : ℕ) → Match c (f ∷ fs) ks → Open g l c start ks u → TakesValue ks
       → opening_of b ≡ Marker → Decides g l (u ++ b ∷ []) Malformed
   marker_row _ _ _ u b (items end y vs fs ks m) o t i = inner_marker c start (Items end) ks u b o t i
@@ -285,6 +294,7 @@ module _ (g : Catalog) (l : Limits) (c : List Slot) (start : ℕ) where
   marker_row _ _ _ u b (named end id ms fs ks m) o t i = inner_marker c start (Named end id) ks u b o t i
   marker_row _ _ _ u b (noted end ss fs ks m) o t i = inner_marker c start (Noted end) ks u b o t i
 
+  -- a container deeper than the limit has a row
   pub deep_row : (fs : List Frame) (form : Form) (n : ℕ) (u : List ℕ) → HeaderEnds fs form n u → IsContainer form → l.depth ≤ machine.levels fs
       → Decides g l u Depth
   deep_row fs form n u h i d = let s = same_levels c fs h.ks h.match in too_deep c start h.ks form n u h.ends i (omega arith)

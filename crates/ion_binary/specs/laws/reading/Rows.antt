@@ -120,6 +120,7 @@ module _ (g : Catalog) (l : Limits) where
       → Document g l (the_marker ++ w) (v ∷ [])
   one_value w v b t d h = (system_slots, holds the_marker w [] system_slots v begins b t (let deep = l.deep.0 in omega arith) (omega arith))
 
+  -- each of the worked documents is one, where the limit on items has room for it
   pub are_documents : AreDocuments g l worked_documents
   are_documents = (
     λ h. (system_slots, begins),

@@ -18,6 +18,7 @@ use Rattle.ion_binary.specs.declared.form.Scalar.{Scalar}
 use Rattle.ion_binary.specs.Grammar.{IsScalar, is_int, is_negative, is_decimal, is_timestamp, is_symbol, is_string, is_clob, is_blob, Ids, no_ids, one_id, listed, Plain, is_null, is_truth, is_scalar, is_listing, is_struct, is_ordered, Binary, unannotated, wrapped, Sequence, nothing, one_more, padded, Fields, no_fields, one_field, padded_field}
 use Rattle.ion_binary.specs.laws.reading.Complete.{header_some, length_VarUInt}
 
+-- a scalar is one node
 pub scalar_nodes : (c : List Slot) (body : List ℕ) (t : Scalar) (p : Payload) → IsScalar c body t p → nodes (bare p) ≡ 1
 scalar_nodes c body _ _ (is_int h) = nodes-bare (payloads.Int (pos (positional 256 body))) _ (views.outs-Int (pos (positional 256 body)))
 scalar_nodes c body _ _ (is_negative h k) = nodes-bare (payloads.Int (neg_ℤ (pos (positional 256 body)))) _ (views.outs-Int (neg_ℤ (pos (positional 256 body))))
@@ -28,16 +29,20 @@ scalar_nodes c body _ _ (is_string h) = nodes-bare (payloads.Str body) _ (views.
 scalar_nodes c body _ _ is_clob = nodes-bare (payloads.Clob body) _ (views.outs-Clob body)
 scalar_nodes c body _ _ is_blob = nodes-bare (payloads.Blob body) _ (views.outs-Blob body)
 
+-- a list or an s-expression is a node beside those of its items
 pub nodes-listed : (x : Listing) (vs : List Value) → nodes (bare (listed x vs)) ≡ suc (sum (map nodes vs))
 nodes-listed listings.List vs = nodes-bare (payloads.List vs) _ (views.outs-List vs)
 nodes-listed listings.Sexp vs = nodes-bare (payloads.Sexp vs) _ (views.outs-Sexp vs)
 
+-- the name of a field is a node beside those of its value
 abbrev pub field_nodes : Field → ℕ
 field_nodes f = suc (nodes f.value)
 
+-- a struct is a node beside those of its fields
 pub nodes-fields : (ms : List Field) → nodes (bare (payloads.Fields ms)) ≡ suc (sum (map field_nodes ms))
 nodes-fields ms = nodes-bare (payloads.Fields ms) _ (views.outs-Fields ms)
 
+-- one field more adds its nodes
 pub fields-more : (ms : List Field) (m : Field) → sum (map field_nodes (ms ++ m ∷ [])) ≡ sum (map field_nodes ms) + field_nodes m
 fields-more ms m =
     let all = sum-map field_nodes (ms ++ m ∷ []) in
@@ -71,6 +76,7 @@ mutual
   plain_nodes c _ _ (is_ordered h body ms d k q) = let n = nodes-fields ms in let a = header_some _ _ h d in let e = length-append h body in let i =
       fields_nodes c body ms q in omega arith
 
+  -- a value has at most as many nodes as octets
   pub binary_nodes : (c : List Slot) (w : List ℕ) (v : Value) → Binary c w v → nodes v ≤ length w
   binary_nodes c _ _ (unannotated w p b) = plain_nodes c w p b
   binary_nodes c _ _ (wrapped h count ids w ss p d v n i b) =

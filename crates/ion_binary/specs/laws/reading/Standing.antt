@@ -15,12 +15,15 @@ use Rattle.ion_binary.specs.laws.reading.Stands.{Standing}
 use Rattle.ion_binary.specs.laws.reading.Promises.{ran_stands}
 use Rattle.ion_binary.specs.laws.reading.OpenRests.{body_within}
 
+-- the values for which a reader stands are those that the trace gives
 pub given_of : (r : BinaryReader) (u : List ℕ) (s : List (Value × ℕ)) → Stands r u s → (trace r.catalog.now r.limits u).given ≡ s
 given_of r u s h = ap (λ (x : Run). (trace_of x).given) h.ran
 
+-- a reader that stands for octets has refused none
 pub not_failed : (r : BinaryReader) (u : List ℕ) (s : List (Value × ℕ)) → Stands r u s → r.failed ≡ None
 not_failed r u s h = h.fine
 
+-- the trace refuses no octet for which a reader stands
 pub not_refused : (r : BinaryReader) (u : List ℕ) (s : List (Value × ℕ)) → Stands r u s → (trace r.catalog.now r.limits u).refused ≡ None
 not_refused r u s h = ap (λ (x : Run). (trace_of x).refused) h.ran
 

@@ -155,6 +155,7 @@ pub record AwaitsDescriptor (g : Catalog) (l : Limits) (start : ℕ) (c : List S
   pub receives : Receives fs
   pub more : Inside fs (length u)
 
+-- the octets of a good marker before this one
 abbrev pub marker_front : Mark → List ℕ
 marker_front First = []
 marker_front Second = 224 ∷ []
@@ -165,6 +166,7 @@ marker_front Fourth = 224 ∷ 1 ∷ 0 ∷ []
 abbrev pub Front : Catalog → Limits → ℕ → List Slot → List Value → List ℕ → Type 0
 Front g l start c s u = ((u ≡ []) × (s ≡ []) × (start ≡ 0)) ⊎ (Pieces g l u s c × (length u ≡ start))
 
+-- so many octets of a marker stand before this one
 abbrev pub marker_place : Mark → ℕ
 marker_place First = 0
 marker_place Second = 1
@@ -178,6 +180,7 @@ MarkCame Second good w = (w ≡ 224 ∷ []) × (good ≡ true)
 MarkCame Third good w = (x : ℕ) × (w ≡ 224 ∷ x ∷ []) × (good ≡ (true && (x == 1)))
 MarkCame Fourth good w = (x y : ℕ) × (w ≡ 224 ∷ x ∷ y ∷ []) × (good ≡ ((true && (x == 1)) && (y == 0)))
 
+-- where the first octet of a marker is awaited, no octet came before it
 abbrev pub AtFirst : Mark → List ℕ → Type 0
 AtFirst First before = before ≡ []
 AtFirst _ before = Unit {0}
@@ -187,6 +190,7 @@ abbrev pub IfGood : Bool → Type 0 → Type 0
 IfGood true P = P
 IfGood false P = Unit {0}
 
+-- in a version marker, behind pieces or none yet
 pub record MarkerStands (g : Catalog) (l : Limits) (start : ℕ) (c : List Slot) (s : List Value) (fs : List Frame) (m : Mark) (good : Bool) (u : List ℕ) : Type
     0 where
   pub before : List ℕ
@@ -268,6 +272,7 @@ pub record AnnotationStands (g : Catalog) (l : Limits) (start : ℕ) (c : List S
   pub room : stop < end
   pub going : length u < stop
 
+-- in a VarUInt, by what it stands for
 abbrev pub NumberStands : Catalog → Limits → ℕ → List Slot → List Value → List Frame → Purpose → ℕ → List ℕ → Type 0
 NumberStands g l start c s fs (purposes.Length form) a u = LengthStands g l start c s fs form a u
 NumberStands g l start c s (frames.Fields end ms ∷ fs) purposes.FieldName a u = NameStands g l start c s fs end ms a u
@@ -291,6 +296,7 @@ pub record BodyStands (g : Catalog) (l : Limits) (start : ℕ) (c : List Slot) (
   pub head : Header form size header
   pub room : BodyMayEnd l start fs form end
 
+-- what the octets are, by the machine's phase
 abbrev pub Standing : Catalog → Limits → ℕ → List Slot → List Value → List Frame → List ℕ → Phase → List ℕ → Type 0
 Standing g l start c s fs body (InMarker m good) u = MarkerStands g l start c s fs m good u
 Standing g l start c s fs body Ready u = AwaitsDescriptor g l start c s fs u

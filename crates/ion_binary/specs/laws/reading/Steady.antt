@@ -46,6 +46,7 @@ abbrev pub FineFrame : Frame → Type 0
 FineFrame (frames.Named end ms name) = Decides name
 FineFrame _ = Unit {0}
 
+-- the ids of all open field names were looked up
 abbrev pub FineFrames : List Frame → Type 0
 FineFrames [] = Unit {0}
 FineFrames (f ∷ fs) = FineFrame f × FineFrames fs

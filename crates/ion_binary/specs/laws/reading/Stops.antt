@@ -37,6 +37,7 @@ pub record Stop (g : Catalog) (l : Limits) (to : ℕ) (m : Machine) (u : List �
   pub offset : r.offset ≡ to + length before + 1
   pub refused : feed (under g l) n b ≡ refuses r.reason
 
+-- a run that is refused is refused at one of its octets
 pub stop_of : (g : Catalog) (l : Limits) (to : ℕ) (m : Machine) (u : List ℕ) (r : Refusal) → (run g l to m u).now ≡ Err r → Stop g l to m u r
 stop_of g l to m [] r h = absurd cc
 stop_of g l to m (b ∷ bs) r h = go (feed (under g l) m b) refl (λ n. stop_of g l (to + 1) n bs r) h

@@ -25,6 +25,7 @@ opens_typed code n h =
 other : (n k : ℕ) → n ≢ k → (n == k) ≡ false
 other n k h = ne_eqb n k h
 
+-- a number that is less than another isn't the same
 pub below : (n k : ℕ) → n < k → (n == k) ≡ false
 below n k h = ne_eqb n k (λ e. absurd (omega arith))
 
@@ -75,6 +76,7 @@ usual forms.OrderedStruct n h = absurd h
 usual forms.Wrapper n h = refl
 usual forms.Pad n h = refl
 
+-- the header that is written for a body is one of its form and length
 pub header_is : (form : Form) (n : ℕ) → IsBodyLength form n → n < 2 ^ 63 → Header form n (header (type_code form) n)
 header_is form n h small =
     elim (cases_lt n 14) [

@@ -224,5 +224,6 @@ struct_row : bin_of (struct_value ∷ []) ≡
 unfolding bin_of system_names system_texts
 struct_row = value_row system_names false struct_value [] (Some (codes "a") ∷ []) _ _ [] struct_symbols table_a struct_octets refl
 
+-- the documents of the worked streams have the octets that are shown
 pub worked_binary : map (λ (row : List Value × List ℕ). bin_of row.0) worked ≡ map (λ (row : List Value × List ℕ). row.1) worked
 worked_binary = rw (none_row, name_row, symbols_row_of, list_row, year_row, zero_row, struct_row) refl

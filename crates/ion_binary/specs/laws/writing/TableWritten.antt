@@ -30,9 +30,11 @@ use Rattle.ion_binary.specs.writer.Names.{Resolves, AreAmong, Starts, slots, Are
 abbrev pub table_word : Option (List ℕ)
 table_word = Some (codes "$ion_symbol_table")
 
+-- the field's name `imports`
 abbrev pub imports_word : Option (List ℕ)
 imports_word = Some (codes "imports")
 
+-- the field's name `symbols`
 abbrev pub symbols_word : Option (List ℕ)
 symbols_word = Some (codes "symbols")
 
@@ -46,6 +48,7 @@ imports_value = bare (payloads.Symbol table_word)
 abbrev symbols_value : Names → Value
 symbols_value more = bare (payloads.List (map string_value more))
 
+-- the fields of the table that appends these names
 abbrev pub table_fields : Names → List Field
 table_fields more = field_of imports_word imports_value ∷ field_of symbols_word (symbols_value more) ∷ []
 

@@ -201,6 +201,7 @@ module _ (c : List Slot) (names : Names) where
       (header_is forms.Struct (length body) (never_one c body ms q) (omega (arith, framed_long 13 body))) q
 
   mutual
+    -- the octets that are written of a kept value are that value, where its symbols have these ids
     pub value_is : (v : Value) → IsKept v → Resolves c names (symbols_of v) → length (value_octets names v) < 2 ^ 63 → Binary c (value_octets names v) v
     value_is _ (kept ss p ts k) r small =
         let r' = subst (Resolves c names) (symbols-out (annotated ss p)) r in

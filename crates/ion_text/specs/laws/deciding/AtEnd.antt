@@ -57,6 +57,7 @@ lexes_are : (ts : List Placed) (colon : Bool) (before : ℕ) (octets : List ℕ)
 lexes_are [] colon before octets h = (colon, before, octets, (refl, refl, refl))
 lexes_are (t ∷ ts) colon before octets (q, b, h) = let x = lexes_are ts (colon_behind t) t.lexeme.end q h in (x.0, x.1, x.2, (q, b, x.3))
 
+-- the last of the tokens ends where all of them do
 pub last_ends : (ts : List Placed) (t : Placed) (colon : Bool) (before : ℕ) (octets : List ℕ) (after : Bool) (end : ℕ) (rest : List ℕ)
     → LexesTo colon before octets (ts ++ t ∷ []) after end rest → t.lexeme.end ≡ end
 last_ends [] t colon before octets after end rest (q, b, h) = h.1

@@ -56,6 +56,7 @@ module _ (l : Limits) (c : List Slot) where
   says_so : (ks : List Container) (fs : List Frame) (t : Placed) (d : Content) → containers fs ≡ ks → Says (place_of ks) t d → Says (value_place fs) t d
   says_so ks fs t d e h = subst (λ p. Says p t d) (place_there ks fs e) h
 
+  -- as many containers are held as stand open
   pub same_levels : (ks : List Container) (fs : List Frame) → containers fs ≡ ks → length fs ≡ length ks
   same_levels ks fs e = sym (levels_same fs) ∙ ap length e
 
@@ -172,20 +173,25 @@ module _ (g : Catalog) (l : Limits) where
   stays_apart front (x ∷ item) t d more p h says a = h
 
   module _ (c : List Slot) (ks : List Container) (said : Content) (ts : List Placed) (h : Comes g l c ks said ts) where
+    -- the octets of the item that stands open
     abbrev pub item : List Placed
     item = h.item ++ h.notes
 
+    -- the tokens before the one that comes
     abbrev pub before : List Placed
     before = h.front ++ item
 
+    -- the tokens are those before the one that comes, and then this one
     pub cut : ts ≡ before ++ h.token ∷ []
     cut = h.parts ∙ sym (append_assoc h.front item (h.token ∷ []))
 
+    -- what the reader would hold of the item that stands open
     pub f : Framed l c ks h.item
     f = framed l c ks h.item h.open'
 
     -- where a value may come
     module _ (takes : TakesValue ks) where
+      -- the token comes in the place of a value behind what is held
       pub here : place_of ks ≡ value_place f.held
       here = place_there l c ks f.held f.same
 
@@ -202,9 +208,11 @@ module _ (g : Catalog) (l : Limits) where
         noted = noted;
       }
 
+      -- the tokens before it lead the reader to the place in which it comes
       pub came : Came g l before (place_of ks)
       came = subst (Came g l before) (sym here) (stands_read g l c h.front h.values f.held h.symbols nows.Ready item h.pieces f.deep ready h.apart)
 
+      -- behind the tokens before it the reader settles to where a value may come
       pub settles : (s : ℕ) × SettlesTo g l before (at s c f.held h.symbols nows.Ready)
       settles = ready_settles g l c h.front h.values f.held h.symbols item h.pieces f.deep ready h.apart
 
@@ -245,28 +253,34 @@ module _ (g : Catalog) (l : Limits) where
   struct_of c ks ts (frames.Named ss ms x ∷ fs) e o d = absurd cc
 
   module _ (c : List Slot) (ks : List Container) (said : Content) (ts : List Placed) (h : Comes g l c (InStruct ∷ ks) said ts) where
+    -- where a name comes next, the innermost of what the reader would hold is a struct
     pub struct : Struct c h.item
     struct = let f = framed l c (InStruct ∷ ks) h.item h.open' in struct_of c ks h.item f.held f.same f.opened f.deep
 
     bare : h.item ++ h.notes ≡ h.item
     bare = ap (λ x. h.item ++ x) h.may ∙ append-nil h.item
 
+    -- the tokens before the name
     abbrev pub up_to : List Placed
     up_to = h.front ++ h.item
 
+    -- the tokens are those before the name, and then the name
     pub cut_name : ts ≡ up_to ++ h.token ∷ []
     cut_name = h.parts ∙ (ap (λ x. h.front ++ (x ++ h.token ∷ [])) bare ∙ sym (append_assoc h.front h.item (h.token ∷ [])))
 
     apart : (ends_long h.front && begins_as_long h.item) ≡ false
     apart = subst (λ x. (ends_long h.front && begins_as_long x) ≡ false) bare h.apart
 
+    -- the tokens before the name lead the reader to the place of names
     pub came_name : Came g l up_to places.Name
     came_name = stands_read g l c h.front h.values (frames.Fields struct.notes struct.fields ∷ struct.outer) [] nows.Name h.item h.pieces struct.deep
         (struct.opened, tt) apart
 
+    -- behind the tokens before the name the reader settles to where a name may come
     pub settles_name : (s : ℕ) × SettlesTo g l up_to (at s c (frames.Fields struct.notes struct.fields ∷ struct.outer) [] nows.Name)
     settles_name = struct_settles g l c h.front h.values struct.notes struct.fields struct.outer h.item true h.pieces struct.deep struct.opened apart
 
+    -- whatever token comes in place of the name is read as where a name may come
     pub go_on_name : (t : Placed) (d : Content) → Says places.Name t d → JoinsNothing d → (s : ℕ)
         × (reads g l (origin g l) (up_to ++ t ∷ []) ≡ adds_values h.values
         (reads g l (at s c (frames.Fields struct.notes struct.fields ∷ struct.outer) [] nows.Name) (t ∷ [])))

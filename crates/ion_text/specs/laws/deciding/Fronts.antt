@@ -43,6 +43,7 @@ use Rattle.ion_text.specs.laws.showing.tokens.Once.{begins_lexed}
 use Rattle.ion_text.specs.laws.showing.tokens.Stays.{Arrived, arrived, opened_read}
 use Rattle.ion_text.specs.laws.showing.tokens.Walks.{walking_said, adds_is, behind_read}
 
+-- nothing is asked of the scanner and the octets
 abbrev pub Any : Known → List ℕ → Type 0
 Any s octets = Unit {0}
 
@@ -51,6 +52,7 @@ abbrev pub last_of : Placed → List Placed → Placed
 last_of t [] = t
 last_of t (u ∷ us) = last_of u us
 
+-- the last of the tokens is the last of those behind a front
 pub last_behind : (front : List Placed) (x : Placed) (ts : List Placed) (d : Placed) → last_of d (front ++ x ∷ ts) ≡ last_of x ts
 last_behind [] x ts d = refl
 last_behind (y ∷ front) x ts d = last_behind front x ts y
@@ -76,6 +78,7 @@ split (y ∷ before) t (z ∷ front) x after e =
     by h (inr (more, i)) = inr (more, ap (λ l. y ∷ l) i ∙ ap (λ w. w ∷ (front ++ x ∷ more)) h)
 
 module _ (g : Catalog) (l : Limits) where
+  -- the reader of tokens where a document begins
   abbrev pub origin : Reading
   origin = fresh system_slots
 

@@ -113,6 +113,7 @@ abbrev pub NotLate : Effect → Type 0
 NotLate (fails e) = HasRow e → ⊥
 NotLate _ = Unit {0}
 
+-- an octet that ends no token is refused for no reason that rows have
 pub noticed_quiet : (l : Limits) (r : Reading) (s : Known) → NotLate (noticed l r s)
 noticed_quiet l r s = go (shut r.now && not (is_idle s.mode)) (nat_le (reaches r.frames r s) l.item)
   where
@@ -144,6 +145,7 @@ abbrev pub TurnLate : (Reading → Type 0) → Turn → Type 0
 TurnLate P (late e n) = P n
 TurnLate P _ = Unit {0}
 
+-- the limit on items doesn't change what a late reason goes on with
 pub within_late : (P : Reading → Type 0) (item start end : ℕ) (t : Turn) → TurnLate P t → TurnLate P (within item start end t)
 within_late P item start end t h = go (nat_le end (start + item))
   where
@@ -157,6 +159,7 @@ top_late P item start end c v (Ok d) true = within_late P item start end (goes (
 top_late P item start end c v (Err e) true = tt
 top_late P item start end c v d false = within_late P item start end (gives v (fresh c)) tt
 
+-- where a value ends, no reason is late
 pub ended_late : (P : Reading → Type 0) (setting : Setting) (spot : Spot) (fs : List Frame) (v : Value) → TurnLate P (ended setting spot fs v)
 ended_late P setting spot [] v = top_late P setting.limits.item spot.start spot.end spot.context v (next spot.context v setting.catalog) (is_table v)
 ended_late P setting spot (frames.Items listing ss vs ∷ fs) v = tt

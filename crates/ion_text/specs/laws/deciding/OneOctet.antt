@@ -41,6 +41,7 @@ behind_kind kinds.KindName = 1
 behind_kind (kinds.Mark marks.FieldsOpen) = 1
 behind_kind _ = 0
 
+-- one octet behind a word, a typed null or the `{` of a struct shows it
 pub bare_behind : (k : TokenKind) → IsBare k → behind_kind k ≡ 1
 bare_behind kinds.Word h = refl
 bare_behind kinds.KindName h = refl
@@ -53,6 +54,7 @@ pub data Seen (g : Catalog) (l : Limits) (u : List ℕ) (e : Reason) : Type 0 wh
       → length rest ≡ behind_kind t.lexeme.kind → Seen g l u e
   unfollowed : (ts : List Placed) → Pends g l ts e → NoColons u ts → Seen g l u e
 
+-- a keyword is a token that the octet behind it shows
 pub keyword_bare : (said : Content) → IsKeyword said → BareSaid said
 keyword_bare (Word w) k = tt
 keyword_bare (TypedNull k) i = tt
@@ -79,6 +81,7 @@ module _ (g : Catalog) (l : Limits) (u : List ℕ) where
       token_seen ts t e [] are s (λ front all. mark_ended g l u p t x says closing n)
       (sym (ap behind_kind (mark_kind t.lexeme.kind t.lexeme.octets x says.body) ∙ none))
 
+  -- where a row decides, its last token is refused, or waits for `::`, which doesn't follow
   pub seen : (e : Reason) → Decides g l u e → Seen g l u e
   seen _ (no_symbol ts c ks id e shown h fails) = bare_seen ts c ks (Id id) e shown h tt (id_stops g l ts c ks id e h fails)
   seen _ (keyword_as_name ts c ks said shown h k) = bare_seen ts c (InStruct ∷ ks) said KeywordAsName shown h (keyword_bare said k)
@@ -265,6 +268,7 @@ module _ (g : Catalog) (l : Limits) where
     waited_ended : (ts : List Placed) (e : Reason) (p : Pends g l ts e) → NoColons u ts → HasEnded g l u p.token
     waited_ended ts e p n = ended_by_rest g l u p.front p.token n.o n.rest p.plain (subst (λ z. Are u z (n.rest ++ n.o ∷ [])) p.is n.are)
 
+    -- where two rows decide and the one's octets begin with the other's, they are the same, for one reason
     pub met : (e f : Reason) → Seen g l u e → Seen g l (u ++ v) f → AtOneOctet e f
     met e f (refused ts t rest s are ended size) (refused ws w left s' are' ended' size') =
         by (agreed g l u v s.front s'.front t w ended s.came s'.came (lexes_front (s.front ++ t ∷ []) u rest are)

@@ -28,10 +28,12 @@ container (frames.Items listings.Sexp ss vs) = InSexp
 container (frames.Fields ss ms) = InStruct
 container (frames.Named ss ms s) = InField
 
+-- the containers that the reader holds, the innermost first
 abbrev pub containers : List Frame → List Container
 containers [] = []
 containers (f ∷ fs) = container f ∷ containers fs
 
+-- what the reader holds and what stands open have the same place for a value
 pub place_same : (fs : List Frame) → value_place fs ≡ place_of (containers fs)
 place_same [] = refl
 place_same (frames.Items listings.List ss vs ∷ fs) = refl
@@ -39,10 +41,12 @@ place_same (frames.Items listings.Sexp ss vs ∷ fs) = refl
 place_same (frames.Fields ss ms ∷ fs) = refl
 place_same (frames.Named ss ms s ∷ fs) = refl
 
+-- as many containers stand open as the reader holds
 pub levels_same : (fs : List Frame) → length (containers fs) ≡ length fs
 levels_same [] = refl
 levels_same (f ∷ fs) = ap suc (levels_same fs)
 
+-- where the reader holds a container that receives a value, a value may come
 pub takes_value : (fs : List Frame) → Receives fs → TakesValue (containers fs)
 takes_value [] h = tt
 takes_value (frames.Items listings.List ss vs ∷ fs) h = tt
@@ -61,6 +65,7 @@ pub noted_there : (c : List Slot) (fs : List Frame) (notes : List Placed) (ss : 
     → Annotations c (place_of (containers fs)) notes ss
 noted_there c fs notes ss h = subst (λ p. Annotations c p notes ss) (place_same fs) h
 
+-- what a token says in the place that the reader looks in, it says in the place of what stands open
 pub says_there : (fs : List Frame) (t : Placed) (said : Content) → Says (value_place fs) t said → Says (place_of (containers fs)) t said
 says_there fs t said h = subst (λ p. Says p t said) (place_same fs) h
 

@@ -78,6 +78,7 @@ mark_bare _ h = absurd h
 other_bare : (c d : Content) → c ≡ d → (BareSaid d → ⊥) → BareSaid c → ⊥
 other_bare c d e n h = n (subst BareSaid e h)
 
+-- what says a word, an id, a typed null or the `{` of a struct is a token that the octet behind it shows
 pub said_bare : (k : TokenKind) (octets : List ℕ) (c : Content) → IsBody k octets (Ok c) → BareSaid c → IsBare k
 said_bare kinds.Word octets c b h = tt
 said_bare kinds.KindName octets c b h = tt
@@ -111,6 +112,7 @@ colons_told p k since s idle ran (w, more, is, e) = by (subst (Is p x) ran (one_
     by (inr e) = let n : x.kind ≡ kinds.Operator = e.1 in cc
 
 module _ (p : Place) (s : Known) (u : List ℕ) (ts : List Placed) (ahead : List ℕ) (h : Scanned p s u ts ahead) (o : ℕ) (next : Continues (o ∷ []) ahead) where
+  -- the tokens that a scanner was told of, and what is open behind them, before the octet
   abbrev pub k : OpenBehind p s u ts ahead
   k = behind_tokens p s u ts ahead h
 
@@ -154,6 +156,7 @@ module _ (p : Place) (s : Known) (u : List ℕ) (ts : List Placed) (ahead : List
         after = colons_told p k.end k.since s idle (subst (λ c. run p k.since (at modes.Blank [] c k.end k.end) ≡ Next s) colon k.reached);
       }
 
+  -- where a colon may stand behind the last token, it may behind all of them
   pub flag : (us : List Placed) (t : Placed) → ts ≡ us ++ t ∷ [] → colon_behind t ≡ true → k.colon ≡ true
   flag us t e c = sym (last_flag us t false 0 (u ++ o ∷ []) k.colon k.end (k.since ++ o ∷ [])
       (subst (λ x. LexesTo false 0 (u ++ o ∷ []) x k.colon k.end (k.since ++ o ∷ [])) e all)) ∙ c
@@ -264,6 +267,7 @@ MarkShown sight ts marks.Comma = Unit {0}
 MarkShown sight ts marks.Colon = Unit {0}
 MarkShown sight ts _ = sight.mark ts
 
+-- what is seen of a token that says this: a word, a struct's `{` or another mark, and nothing of others
 abbrev pub Shown : Sight → List Placed → Content → Type 0
 Shown sight ts (Word v) = sight.word ts
 Shown sight ts (Id id) = sight.word ts
@@ -273,6 +277,7 @@ Shown sight ts _ = Unit {0}
 
 module _ (p : Place) (s : Known) (u : List ℕ) (ts : List Placed) (ahead : List ℕ) (h : Scanned p s u ts ahead) (o : ℕ) (next : Continues (o ∷ []) ahead)
     (x : Lexeme) (s' : Known) (pass : Passes x.kind x.octets) (c : Content) (body : IsBody x.kind x.octets (Ok c)) where
+  -- of a token that ends with the octet, this octet shows what is to be seen
   pub given_shown : feed p s o ≡ Given x s' → Shown (by_octet (u ++ o ∷ [])) (ts ++ placed p x ∷ []) c
   given_shown e = go c refl
     where
@@ -292,6 +297,7 @@ module _ (p : Place) (s : Known) (u : List ℕ) (ts : List Placed) (ahead : List
       go (Mark' _) f = ends
       go _ f = tt
 
+  -- of a token that ended before the octet, this octet shows what is to be seen
   pub left_shown : is_sane s.mode ≡ true → feed p s o ≡ Left x s' → Shown (by_octet (u ++ o ∷ [])) (ts ++ placed p x ∷ []) c
   left_shown sane e = go c refl
     where

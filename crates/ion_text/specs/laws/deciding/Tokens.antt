@@ -97,6 +97,7 @@ bare_plain kinds.LongString b e = absurd b
 bare_plain kinds.Clob b e = absurd b
 bare_plain kinds.Blob b e = absurd b
 
+-- a token that the octet behind it shows has ended where an octet stands behind it
 pub bare_ended : (g : Catalog) (l : Limits) (u : List ℕ) (ts : List Placed) (t : Placed) (p : Place) (d : Content) (o : ℕ) (rest : List ℕ) → Says p t d
     → BareSaid d → Are u (ts ++ t ∷ []) (rest ++ o ∷ []) → HasEnded g l u t
 bare_ended g l u ts t p d o rest says b are = ended_by_rest g l u ts t o rest (bare_plain t.lexeme.kind (said_bare t.lexeme.kind t.lexeme.octets d says.body b))
@@ -124,12 +125,14 @@ mark_ended g l u p t m says closing n = record {
 
 -- 2. Contents that end what waits.
 
+-- nothing that waits goes on with a word
 pub word_apart : (w : List ℕ) → JoinsNothing (Word w)
 word_apart w = record { long = λ v e. cc; quoted = λ v e. cc; colons = λ e. cc }
 
 id_apart : (id : ℕ) → JoinsNothing (Id id)
 id_apart id = record { long = λ v e. cc; quoted = λ v e. cc; colons = λ e. cc }
 
+-- nothing that waits goes on with a typed null
 pub null_apart : (k : _) → JoinsNothing (TypedNull k)
 null_apart k = record { long = λ v e. cc; quoted = λ v e. cc; colons = λ e. cc }
 
@@ -169,18 +172,21 @@ Refusing e (refuses f) = f ≡ e
 Refusing e (late f r) = f ≡ e
 Refusing e _ = ⊥
 
+-- behind a turn that refuses no token is read
 pub refusing_stops : (e : Reason) (t : Turn) (more : Reading → Walk) → Refusing e t → on_turn t more ≡ stopped
 refusing_stops e (refuses x) more h = refl
 refusing_stops e (late x r) more h = refl
 refusing_stops e (goes r) more h = absurd h
 refusing_stops e (gives v r) more h = absurd h
 
+-- a turn refuses for one reason
 pub one_refusing : (d e : Reason) (t : Turn) → Refusing d t → Refusing e t → d ≡ e
 one_refusing d e (refuses x) h k = sym h ∙ k
 one_refusing d e (late x r) h k = sym h ∙ k
 one_refusing d e (goes r) h k = absurd h
 one_refusing d e (gives v r) h k = absurd h
 
+-- a turn that is the refusal for a reason refuses for this reason
 pub refusing_is : (e : Reason) (t : Turn) → t ≡ refuses e → Refusing e t
 refusing_is e t h = subst (Refusing e) (sym h) refl
 
@@ -264,6 +270,7 @@ module _ (g : Catalog) (l : Limits) where
     levels : l.depth ≤ length ks → nat_lt (length held) l.depth ≡ false
     levels deep = too_many (length held) (length ks) l.depth deep (same_levels l c ks held (f g l c ks said ts h).same)
 
+    -- a mark that opens a container beyond the limit on levels is refused
     pub open_stops : (bracket : Bracket) → said ≡ Mark' (open_mark bracket) → l.depth ≤ length ks → Stops g l ts h.token reasons.Depth
     open_stops bracket e deep =
         value_stops reasons.Depth (subst JoinsNothing (sym e) (mark_apart (open_mark bracket) (λ k. no_colons bracket (ap Mark' k))))
@@ -284,6 +291,7 @@ module _ (g : Catalog) (l : Limits) where
       abbrev pub pending_word : ℕ → Reading
       pending_word s = at (begun_at s h.token.lexeme.start held h.symbols) c held h.symbols (nows.Pending word h.token.lexeme.end)
 
+      -- where the token that comes waits for `::`, the tokens up to it lead to where it waits
       pub read_to : (more : List Placed) → (s : ℕ) × (reads g l (origin g l) (front ++ h.token ∷ more) ≡ adds_values h.values (reads g l (pending_word s) more))
       read_to more =
           let x = go_on g l c ks said ts h takes h.token said more h.says apart in (
@@ -351,6 +359,7 @@ module _ (g : Catalog) (l : Limits) where
       → resolve c id ≡ Err e → Stops g l ts h.token e
   id_value ts c ks id e takes h fails = value_stops c ks (Id id) ts h takes e (id_apart id) (λ s. refusing_unresolved e (resolve c id) _ fails)
 
+  -- an id for which the context has no symbol is refused, for the reason that the context gives
   pub id_stops : (ts : List Placed) (c : List Slot) (ks : List Container) (id : ℕ) (e : Reason) → (h : Comes g l c ks (Id id) ts) → resolve c id ≡ Err e
       → Stops g l ts h.token e
   id_stops ts c (InStruct ∷ ks) id e h fails = name_stops c ks (Id id) ts h e (id_apart id) (λ s. refusing_unresolved e (resolve c id) _ fails)
@@ -359,6 +368,7 @@ module _ (g : Catalog) (l : Limits) where
   id_stops ts c (InSexp ∷ ks) id e h fails = id_value ts c (InSexp ∷ ks) id e tt h fails
   id_stops ts c (InField ∷ ks) id e h fails = id_value ts c (InField ∷ ks) id e tt h fails
 
+  -- a keyword where a field's name comes is refused
   pub keyword_stops : (ts : List Placed) (c : List Slot) (ks : List Container) (said : Content) → (h : Comes g l c (InStruct ∷ ks) said ts) → IsKeyword said
       → Stops g l ts h.token reasons.KeywordAsName
   keyword_stops ts c ks (Word w) h k = name_stops c ks (Word w) ts h reasons.KeywordAsName (word_apart w)
@@ -366,6 +376,7 @@ module _ (g : Catalog) (l : Limits) where
   keyword_stops ts c ks (TypedNull k) h i = name_stops c ks (TypedNull k) ts h reasons.KeywordAsName (null_apart k) (λ s. refl)
   keyword_stops ts c ks _ h k = absurd k
 
+  -- the `::` behind a keyword is refused
   pub keyword_note_stops : (ts : List Placed) (colons : Placed) (c : List Slot) (ks : List Container) (said : Content) → Comes g l c ks said ts → TakesValue ks
       → IsKeyword said → Says (place_of ks) colons (Mark' marks.Colons) → Stops g l (ts ++ colons ∷ []) colons reasons.KeywordAsName
   keyword_note_stops ts colons c ks (Word w) h takes k says =
@@ -387,6 +398,7 @@ module _ (g : Catalog) (l : Limits) where
     pub closes : Says (close_place more) close (Mark' marks.FieldsClose)
     pub at_close : Stops g l ts close e
 
+  -- a local symbol table that the context doesn't take is refused at its `}`
   pub table_stops : (ts : List Placed) (c : List Slot) (ss : Symbols) (ms : List Field) (e : Reason) → Ends g l c (annotated ss (payloads.Fields ms)) ts
       → is_table (annotated ss (payloads.Fields ms)) ≡ true
       → next c (annotated ss (payloads.Fields ms)) g ≡ Err e → TableStops ts e

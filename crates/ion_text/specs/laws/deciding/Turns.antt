@@ -133,6 +133,7 @@ module _ (g : Catalog) (l : Limits) (sight : Sight) where
   abbrev pub Decided : Reason → Type 0
   Decided e = HasRow e → Gives g l sight e
 
+  -- where the turn refuses for a reason that rows have, one of them says that this is seen
   abbrev pub TurnDecided : Turn → Type 0
   TurnDecided (goes r) = Unit {0}
   TurnDecided (gives v r) = Unit {0}

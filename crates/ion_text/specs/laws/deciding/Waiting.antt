@@ -112,9 +112,11 @@ colons_shown u ws x ys colon after end k rest left here lexes kind =
     (colons_token x.place d.flag b.token d.second.0 x.lexeme.kind x.lexeme.octets b.is kind).0 one.2
 
 module _ (g : Catalog) (l : Limits) (ws : List Placed) (reason : Reason) (p : Pends g l ws reason) where
+  -- the reader of tokens that waits for `::` behind these tokens
   abbrev pub pend : Reading
   pend = at p.start p.context [] p.notes (nows.Pending p.held p.end)
 
+  -- where what waits is settled without `::`, no token is read behind it
   pub settling_stops : (f : Reading → Walk) → on_turn (settle g l pend) f ≡ stopped
   settling_stops f = refusing_stops reason (settle g l pend) f p.why
 
@@ -252,6 +254,7 @@ module _ (g : Catalog) (l : Limits) where
           why = refused start end;
         }
 
+  -- the marker of another version waits for `::`, and is refused where none follows
   pub version_pends : (ts : List Placed) (c : List Slot) (w : List ℕ) → (h : Comes g l c [] (Word w) ts) → h.notes ≡ [] → is_version w ≡ true → w ≢ the_marker
       → Pends g l ts Version
   version_pends ts c w h bare version other =
@@ -265,6 +268,7 @@ module _ (g : Catalog) (l : Limits) where
   has_null (Payload-F.Null k) = true
   has_null _ = false
 
+  -- a null that is a local symbol table, which is refused, waits for `::`
   pub null_pends : (ts : List Placed) (c : List Slot) (ss : Symbols) (k : Kind) (e : Reason) → Ends g l c (annotated ss (payloads.Null k)) ts
       → is_table (annotated ss (payloads.Null k)) ≡ true → next c (annotated ss (payloads.Null k)) g ≡ Err e → Pends g l ts e
   null_pends ts c ss k e h table fails = value places.Top h.item (annotated ss (payloads.Null k)) h.means refl refl refl

@@ -19,6 +19,7 @@ open_turns brackets.List setting spot fs ss = refl
 open_turns brackets.Sexp setting spot fs ss = refl
 open_turns brackets.Fields setting spot fs ss = refl
 
+-- what opens a container is no `::`
 pub no_colons : (bracket : Bracket) → Mark' (open_mark bracket) ≡ Mark' marks.Colons → ⊥
 no_colons brackets.List e = cc
 no_colons brackets.Sexp e = cc
@@ -31,6 +32,7 @@ pub data Closes : Bracket → List Frame → Type 0 where
   ends_struct : (ss : Symbols) (ms : List Field) (fs : List Frame) → Closes brackets.Fields (frames.Fields ss ms ∷ fs)
   ends_none : (bracket : Bracket) (fs : List Frame) → ((setting : Setting) (spot : Spot) → closed bracket setting spot fs ≡ unexpected) → Closes bracket fs
 
+-- each close either ends the innermost container or is not expected
 pub closes_or_not : (bracket : Bracket) (fs : List Frame) → Closes bracket fs
 closes_or_not brackets.List (frames.Items listings.List ss vs ∷ fs) = ends_list ss vs fs
 closes_or_not brackets.Sexp (frames.Items listings.Sexp ss vs ∷ fs) = ends_sexp ss vs fs

@@ -473,5 +473,6 @@ module _ (g : Catalog) (l : Limits) where
   of_now (Ok m) h = ends_decide m.scan.used m.reading (at_end (place m.reading) m.scan) m.reading.now (mode_well (place m.reading) m.scan m.scan.mode)
   of_now (Err r) h = inl h
 
+  -- the end refuses for a reason that the octets decide, or for want of more of them
   pub end_reason : (u : List ℕ) (r : Refusal) → (trace g l u).ends ≡ Err r → IsEndReason r.reason
   end_reason u r e = subst AnswersAtEnd e (of_now (run g l 0 begun u).now (run_decides u 0 begun))

@@ -29,6 +29,7 @@ module _ (g : Catalog) (l m : Limits) (deep : l.depth ≤ m.depth) (long : l.ite
   pieces_wider _ _ _ (holds ts us s c v p is table version low fits apart) =
       holds ts us s c v (pieces_wider ts s c p) is table version (omega arith) (omega arith) apart
 
+  -- what is a document within some limits is one with the same values within wider ones
   pub wider : (u : List ℕ) (s : List Value) → Document g l u s → Document g m u s
   wider u s d = record { tokens = d.tokens; context = d.context; lexed = d.lexed; pieces = pieces_wider d.tokens s d.context d.pieces }
 

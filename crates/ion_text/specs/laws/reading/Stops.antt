@@ -33,6 +33,7 @@ end_offset (Err r) d = r.offset
 end_offset (Ok v) d = d
 
 module _ (g : Catalog) (l : Limits) where
+  -- a state that stands for octets has used just these
   pub stood_used : (u : List ℕ) (vs : List Value) (m : State) → Stood g l u vs m → m.scan.used ≡ length u
   stood_used u vs m b =
       let k = stands_used b.scanned.behind b.scanned.front (b.front ++ b.item) b.scanned.left b.scanned.told in
@@ -55,6 +56,7 @@ module _ (g : Catalog) (l : Limits) where
     pub stopped : (run g l 0 begun (before ++ o ∷ [])).now ≡ Err r
     pub same : run g l 0 begun u ≡ run g l 0 begun (before ++ o ∷ [])
 
+  -- a run over octets and more goes on over these where the first led
   pub behind_run : (u w : List ℕ) → run g l 0 begun (u ++ w) ≡ on_now (run g l 0 begun u).given (run g l 0 begun u).now (λ n. run g l (length u) n w)
   behind_run u w = run-append g l 0 (length u) u w (omega arith) begun
 
@@ -79,6 +81,7 @@ module _ (g : Catalog) (l : Limits) where
           ∙ refused_on (run g l 0 begun (done ++ o ∷ [])) q (λ n. run g l (length (done ++ o ∷ [])) n os) f) in
           record { before = done; o = o; rest = os; n = n; parts = refl; ran = h; stopped = ap (λ (x : Run). x.now) (sym whole) ∙ e; same = whole }
 
+  -- where a run is refused, it is by one octet, behind others with which it goes on
   pub stop_of : (u : List ℕ) (r : Refusal) → (run g l 0 begun u).now ≡ Err r → Stop u r
   stop_of u r e = stop_from u [] begun r refl e
 
@@ -112,6 +115,7 @@ module _ (g : Catalog) (l : Limits) where
       let k = stop_offset u r p in
       ap (λ (x : ℕ). take x u) k ∙ (ap (take (length p.before + 1)) p.parts ∙ take-append-add p.before (p.o ∷ p.rest) 1)
 
+  -- a refusal's offset lies within the octets
   pub stop_within : (u : List ℕ) (r : Refusal) → Stop u r → r.offset ≤ length u
   stop_within u r p = let k = stop_offset u r p in omega (arith, k, ap length p.parts, length-append p.before (p.o ∷ p.rest))
 
@@ -128,6 +132,7 @@ module _ (g : Catalog) (l : Limits) where
   refused_is (Ok m) r h = absurd cc
   refused_is (Err e) r h = let k : e ≡ r = cc in ap Err k
 
+  -- what the trace says of a refusal is that of the run
   pub refused_run : (u : List ℕ) (r : Refusal) → (trace g l u).refused ≡ Some r → (run g l 0 begun u).now ≡ Err r
   refused_run u r h = refused_is (run g l 0 begun u).now r h
 

@@ -100,6 +100,7 @@ tables_last [] v h k = (k, tt)
 tables_last (w ∷ s) v h k = (h.0, tables_last s v h.1 k)
 
 module _ (g : List Table) (l : Limits) where
+  -- no value of whole pieces is a local symbol table
   pub pieces_values : (ts : List Placed) (s : List Value) (c : List Slot) → Pieces g l ts s c → NoTables s
   pieces_values _ _ _ begins = tt
   pieces_values _ _ _ (marked ts s c t p a b) = pieces_values ts s c p

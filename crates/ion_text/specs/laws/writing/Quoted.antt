@@ -222,9 +222,11 @@ module _ (s : Style) (q : ℕ) (b : Between s q false) where
     means = sym e ∙ text_means cs;
   }
 
+-- the quotes of a string are double, and characters beyond ASCII may stand between them
 pub string_between : Between styles.ShortString 34 false
 string_between = record { quote = refl; either = inl refl; short = refl; clob = refl }
 
+-- the quotes of a symbol are single, and characters beyond ASCII may stand between them
 pub symbol_between : Between styles.QuotedSymbol 39 false
 symbol_between = record { quote = refl; either = inr refl; short = refl; clob = refl }
 
@@ -264,10 +266,6 @@ pub quoted_utf8 : (text : List ℕ) → IsUtf8 text → IsUtf8 (quoted of_symbol
 quoted_utf8 text (cs, h) =
     let whole = subst (λ (w : List ℕ). IsUtf8 (escaped_text of_symbol w)) h.1 (chars_utf8 styles.QuotedSymbol 39 symbol_between cs h.0) in
     ascii_then 39 _ (omega arith) (IsUtf8-append (escaped_text of_symbol text) (39 ∷ []) whole (ascii_then 39 [] (omega arith) IsUtf8-nil))
-
--- a symbol of unknown text
-pub unknown_utf8 : IsUtf8 (36 ∷ 48 ∷ [])
-unknown_utf8 = ascii_then 36 _ (omega arith) (ascii_then 48 [] (omega arith) IsUtf8-nil)
 
 -- a symbol of a known text
 pub known_utf8 : (text : List ℕ) → IsUtf8 text → IsUtf8 (known_text text)

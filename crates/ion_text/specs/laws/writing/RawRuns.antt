@@ -23,6 +23,7 @@ raw_prefix quotes (o ∷ os) = by (is_raw quotes o) refl (raw_prefix quotes os) 
       omega arith in next) (e, rest)
   by false e rest = tt
 
+-- the octets up to the first that needs an escape stand for themselves
 pub raw_run : (quotes : Quotes) (octets : List ℕ) (n : ℕ) → n ≡ length (take_while (is_raw quotes) octets) → AreRaw quotes (take n octets)
 raw_run quotes octets n e =
     subst (λ (k : ℕ). AreRaw quotes (take k octets)) (sym (length-prefix_len (is_raw quotes) octets) ∙ sym e) (raw_prefix quotes octets)
@@ -32,6 +33,7 @@ raw_letter quotes o h = let a = and_parts _ _ h in let b = and_parts _ _ a.1 in 
   by : not (o == 92) ≡ true → not (o == quotes.delimiter) ≡ true → nat_le 32 o ≡ true → letter_for quotes.delimiter o ≡ None
   by x y z = grind (arith, nat_tests)
 
+-- an octet that stands for itself is written as it is
 pub raw_escape : (quotes : Quotes) (o : ℕ) → is_raw quotes o ≡ true → escape quotes o ≡ o ∷ []
 raw_escape quotes o h =
     let b = and_parts _ _ (and_parts _ _ h).1 in

@@ -58,6 +58,7 @@ one_and_a_half = record { negative = false; magnitude = 15; exponent = negsuc 0 
 abbrev fields : List Field
 fields = field_of (Some (codes "a")) (bare (payloads.Decimal one_and_a_half)) ∷ []
 
+-- the worked values as one stream
 abbrev pub worked : List Value
 worked =
     marker_symbol
@@ -129,5 +130,6 @@ blob_text : value_text (bare (payloads.Blob (1 ∷ 2 ∷ 3 ∷ 4 ∷ []))) ≡ c
 unfolding Rattle.base64.specs.Rfc4648.encode_symbols
 blob_text = text_layer [] (payloads.Blob (1 ∷ 2 ∷ 3 ∷ 4 ∷ [])) _ (views.outs-Blob (1 ∷ 2 ∷ 3 ∷ 4 ∷ []))
 
+-- the document of the worked values, a line for each
 pub worked_text : text_of worked ≡ codes "'$ion_1_0'\n-0d0\n2007T\n$0\n\"a'\\x07\"\n''\na::[null.int,('+' b)]\n{a:15d-1}\n{{\"\\x00\\\"\\xc8\"}}\n{{AQIDBA==}}\n"
 worked_text = rw (marker_text, zero_text, year_text, unknown_text, bell_text, empty_text, nested_text, struct_text, clob_text, blob_text) refl

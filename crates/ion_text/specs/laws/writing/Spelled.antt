@@ -147,6 +147,7 @@ unknown_spelled c p r a = record {
   is = is_id 0 None refl;
 }
 
+-- what is written of a symbol is one token that says it, where nothing follows that goes on with words
 pub symbol_spelled : (c : List Slot) (p : Place) (s : Option (List ℕ)) (r : List ℕ) → IsText s → EndsWords r → SymbolSpelling c p s r
 symbol_spelled c p None r t a = unknown_spelled c p r a
 symbol_spelled c p (Some w) r u a = by (is_unquoted w) refl where
@@ -156,6 +157,7 @@ symbol_spelled c p (Some w) r u a = by (is_unquoted w) refl where
 
 -- 3. Numbers, bools, nulls and strings.
 
+-- what is written of a number is one token that says it, before what ends numbers
 pub number_spelled : (p : Place) (n : Number) (r : List ℕ) → is_name p ≡ false → ReadsNumber (number_text n) (Ok n) → EndsNumbers r
     → Spelling p (number_text n) r (Number' n)
 number_spelled p n r place h s =
@@ -177,6 +179,7 @@ ascii_text (o ∷ os) h =
       by : (o : ℕ) → nat_lt o 128 ≡ true → o < 128
       by o h = grind (arith, nat_tests)
 
+-- what is written of a boolean is one word, where nothing follows that goes on with words
 pub truth_spelled : (p : Place) (b : Bool) (r : List ℕ) → EndsWords r → Spelling p (truth_text b) r (Word (truth_text b))
 truth_spelled p false r a = word_spelled p (codes "false") r refl (ascii_text (codes "false") refl) a
 truth_spelled p true r a = word_spelled p (codes "true") r refl (ascii_text (codes "true") refl) a
@@ -196,6 +199,7 @@ typed_null p k r e f a = record {
   short = refl;
 }
 
+-- what is written of a null is one token that says it, where nothing follows that goes on with words
 pub null_spelled : (p : Place) (k : Kind) (r : List ℕ) → EndsWords r → Spelling p (null_text k) r (null_said k)
 null_spelled p values.Null r a = word_spelled p (codes "null") r refl (ascii_text (codes "null") refl) a
 null_spelled p values.Bool r a = typed_null p values.Bool r (all_each is_word_octet (kind_name values.Bool) refl) refl a
@@ -211,6 +215,7 @@ null_spelled p values.List r a = typed_null p values.List r (all_each is_word_oc
 null_spelled p values.Sexp r a = typed_null p values.Sexp r (all_each is_word_octet (kind_name values.Sexp) refl) refl a
 null_spelled p values.Fields r a = typed_null p values.Fields r (all_each is_word_octet (kind_name values.Fields) refl) refl a
 
+-- what is written of a string is one token of a short string that says its text
 pub string_spelled : (p : Place) (text r : List ℕ) → IsUtf8 text → Spelling p (quoted of_string text) r (Short text)
 string_spelled p text r u = record {
   kind = kinds.ShortString;
@@ -222,6 +227,7 @@ string_spelled p text r u = record {
 
 -- 4. Lobs.
 
+-- what is written of a clob is one token that says its octets
 pub clob_spelled : (p : Place) (octets r : List ℕ) → is_name p ≡ false → AreOctets octets → Spelling p (clob_text octets) r (Clob octets)
 clob_spelled p octets r place h = record {
   kind = kinds.Clob;
@@ -248,6 +254,7 @@ unfiltered : (os : List ℕ) → Each is_base64 os → filter (λ o. not (is_whi
 unfiltered [] h = refl
 unfiltered (o ∷ os) h = rw (no_white o h.0) (ap (λ (x : List ℕ). o ∷ x) (unfiltered os h.1))
 
+-- what is written of a blob is one token that says its octets
 pub blob_spelled : (p : Place) (octets r : List ℕ) → is_name p ≡ false → AreOctets octets → Spelling p (blob_text octets) r (Blob octets)
 blob_spelled p octets r place h =
     let e = base64_each octets h in

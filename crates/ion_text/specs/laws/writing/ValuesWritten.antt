@@ -69,6 +69,7 @@ starts_badly [] = false
 starts_badly (o ∷ []) = bad_octet o
 starts_badly (o ∷ p ∷ os) = bad_octet o || ((36 == o) && (105 == p))
 
+-- where neither of two tests holds, the first fails
 pub either_false : (a b : Bool) → (a || b) ≡ false → a ≡ false
 either_false false b h = refl
 either_false true b h = absurd (false≢true (sym h))
@@ -231,6 +232,7 @@ comma_stops r = record { apart = record { word = refl; dot = refl; quote = refl 
 pub space_stops : (r : List ℕ) → EndsNumbers (32 ∷ r)
 space_stops r = record { apart = record { word = refl; dot = refl; quote = refl }; stop = refl }
 
+-- a line feed ends numbers
 pub line_stops : (r : List ℕ) → EndsNumbers (10 ∷ r)
 line_stops r = record { apart = record { word = refl; dot = refl; quote = refl }; stop = refl }
 
@@ -379,6 +381,7 @@ notes_no_colon (s ∷ ss) w r h =
     ∙ (append_assoc (symbol_text s ++ codes "::") (notes_text ss) (w ++ r) ∙ append_assoc (symbol_text s) (codes "::") (notes_text ss ++ (w ++ r)))))
     (symbol_no_colon s more)
 
+-- what is written of a value begins with no colon, blank or comment, and not with `$i`
 pub value_no_colon : (v : Value) → IsKept v → (r : List ℕ) → starts_badly (value_text v ++ r) ≡ false
 value_no_colon _ (kept ss x t k) r =
     subst (λ (w : List ℕ). starts_badly (w ++ r) ≡ false) (sym (text-out (annotated ss x)))

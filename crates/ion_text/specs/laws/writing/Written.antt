@@ -15,6 +15,7 @@ use Rattle.ion_text.specs.laws.writing.Spelled.{Spelling}
 
 -- 1. Tokens of octets.
 
+-- the token of these octets behind so many others, in this place
 abbrev pub placed : Place → ℕ → List ℕ → TokenKind → List ℕ → Placed
 placed p before w kind kept = record { place = p; lexeme = record { start = before; end = before + length w; kind = kind; octets = kept } }
 
@@ -51,6 +52,7 @@ end_is : (from : ℕ) (ts : List Placed) (colon : Bool) (octets : List ℕ) (aft
 end_is from [] colon octets after end rest h = h.1
 end_is from (t ∷ ts) colon octets after end rest (others, b, h) = end_is t.lexeme.end ts _ others after end rest h
 
+-- tokens span no more than the octets between where they may begin and where they end
 pub span_within : (colon : Bool) (before : ℕ) (octets : List ℕ) (ts : List Placed) (after : Bool) (end : ℕ) (rest : List ℕ)
     → LexesTo colon before octets ts after end rest → span ts ≤ end - before
 span_within colon before octets [] after end rest h = omega arith
@@ -65,6 +67,7 @@ span_within colon before octets (t ∷ ts) after end rest (others, b, h) =
 abbrev pub NoneLong : List Placed → Type 0
 NoneLong ts = AllByRecursion (λ (t : Placed). is_long t ≡ false) ts
 
+-- tokens and others behind them have no segment where none of either has
 pub none_long : (ts us : List Placed) → NoneLong ts → NoneLong us → NoneLong (ts ++ us)
 none_long [] us h k = k
 none_long (t ∷ ts) us h k = (h.0, none_long ts us h.1 k)
@@ -93,6 +96,7 @@ both_lex colon before x y rest ts us c after h k =
     (subst (λ (o : List ℕ). LexesTo colon before o (ts ++ us) after ((before + length x) + length y) rest) (sym (append_assoc x y rest))
     (lexes_then colon before (x ++ (y ++ rest)) ts us c (before + length x) (y ++ rest) after ((before + length x) + length y) rest h k))
 
+-- what is written as tokens, and what is behind it as others, is written as all of them
 pub both : (Is Js Ks : List Placed → Type 0) (before : ℕ) (x y rest : List ℕ) (h : Written Is before x (y ++ rest)) (k : Written Js (before + length x) y rest)
     → Ks (tokens h ++ tokens k) → Written Ks before (x ++ y) rest
 both Is Js Ks before x y rest h k is = record {
@@ -104,6 +108,7 @@ both Is Js Ks before x y rest h k is = record {
   is = is;
 }
 
+-- what is written as tokens is so for whatever else holds of them
 pub written_as : (Is Js : List Placed → Type 0) (before : ℕ) (w rest : List ℕ) (h : Written Is before w rest) → Js (tokens h) → Written Js before w rest
 written_as Is Js before w rest h is = record { first = h.first; others = h.others; after = h.after; lexes = h.lexes; short = h.short; is = is }
 
@@ -111,6 +116,7 @@ written_as Is Js before w rest h is = record { first = h.first; others = h.other
 white_blank : (o : ℕ) (b : List ℕ) → is_white o ≡ true → IsBlank b → IsBlank (o ∷ b)
 white_blank o b h k = record { pieces = White o ∷ k.pieces; each = (h, k.each); spelled = ap (λ (x : List ℕ). o ∷ x) k.spelled }
 
+-- a white octet may stand before tokens
 pub white_before : (o : ℕ) → is_white o ≡ true → (R : Bool → ℕ → List ℕ → Type 0) (colon : Bool) (before : ℕ) (octets : List ℕ) (t : Placed) (ts : List Placed)
     → LexesBefore R colon (before + 1) octets (t ∷ ts) → LexesBefore R colon before (o ∷ octets) (t ∷ ts)
 white_before o white R colon before octets t ts (others, b, h) = (
@@ -147,6 +153,7 @@ white_written o white Is before w rest h = record {
 pub data One (p : Place) (said : Content) : List Placed → Type 0 where
   one : (t : Placed) → Says p t said → One p said (t ∷ [])
 
+-- the spelling of what a token says is written as one token
 pub one_written : (p : Place) (before : ℕ) (w rest : List ℕ) (said : Content) → Spelling p w rest said → Written (One p said) before w rest
 one_written p before w rest said h = record {
   first = placed p before w h.kind h.octets;
@@ -177,6 +184,7 @@ pub record MarkWritten (p : Place) (m : Mark) (before : ℕ) (rest : List ℕ) :
   pub short : is_long token ≡ false
   pub lexes : (colon : Bool) → MarkStands p colon m → LexesTo colon before (mark_spelling m ++ rest) (token ∷ []) false (before + length (mark_spelling m)) rest
 
+-- a mark before octets that don't make it longer is written as one token
 pub mark_written : (p : Place) (m : Mark) (before : ℕ) (rest : List ℕ) → MarkEnds m rest → MarkWritten p m before rest
 mark_written p m before rest ends = record {
   token = placed p before (mark_spelling m) (kinds.Mark m) [];

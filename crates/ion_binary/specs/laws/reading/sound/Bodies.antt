@@ -87,6 +87,7 @@ module _ (g : Catalog) (l : Limits) where
         };
       })
 
+  -- what an octet of a pad leads to stands for the octets
   pub pad_stands : (spot : Spot) (s : List Value) (fs : List Frame) (u : List ℕ) (b n : ℕ) (came : List ℕ)
       → BodyStands g l spot.start spot.context s fs forms.Pad n came u → spot.used ≡ length (u ++ b ∷ [])
       → Leaves g l (u ++ b ∷ []) s (on_pad (under g l) spot fs n)

@@ -26,6 +26,7 @@ ends_back l start (frames.Items end x vs ∷ fs) form to i r = r
 ends_back l start (frames.Fields end ms ∷ fs) form to i r = r
 ends_back l start (frames.Named end ms name ∷ fs) form to i r = r
 
+-- a struct is no pad
 pub struct_sized : (form : Form) (n : ℕ) → IsStructOf form n → is_pad form ≡ false
 struct_sized forms.Pad n h = absurd h
 struct_sized (forms.Scalar t) n h = refl
@@ -34,6 +35,7 @@ struct_sized forms.Struct n h = refl
 struct_sized forms.OrderedStruct n h = refl
 struct_sized forms.Wrapper n h = refl
 
+-- where a reason would be given unless a test held, and none is, the test holds
 pub cond_none : (b : Bool) (x : Reason) → cond b None (Some x) ≡ None → b ≡ true
 cond_none true x h = refl
 cond_none false x h = cc
@@ -42,6 +44,7 @@ top_room : (b : Bool) (item start to : ℕ) → cond (b || nat_le to (start + it
 top_room true item start to h e = absurd cc
 top_room false item start to h e = leb-true to (start + item) (cond_none _ _ h)
 
+-- a body may end where that isn't refused
 pub misfits_ends : (l : Limits) (start : ℕ) (fs : List Frame) (form : Form) (to : ℕ) → misfits l.item start fs form to ≡ None → BodyMayEnd l start fs form to
 misfits_ends l start [] form to h = top_room (is_pad form) l.item start to h
 misfits_ends l start (frames.Annotated end ss ∷ fs) form to h = eqb-true to end (cond_none _ _ h)
@@ -49,11 +52,13 @@ misfits_ends l start (frames.Items end x vs ∷ fs) form to h = leb-true to end 
 misfits_ends l start (frames.Fields end ms ∷ fs) form to h = leb-true to end (cond_none _ _ h)
 misfits_ends l start (frames.Named end ms name ∷ fs) form to h = leb-true to end (cond_none _ _ h)
 
+-- where a number may go on, the octets so far are within what is open
 pub unending_going : (l : Limits) (start : ℕ) (fs : List Frame) (form : Form) (used : ℕ) → unending l.item start fs form used ≡ None
     → Going l start fs form used
 unending_going l start [] form used h = top_room (is_pad form) l.item start used h
 unending_going l start (f ∷ fs) form used h = ltb-true used (end_of f) (cond_none _ _ h)
 
+-- where of two reasons none is given, neither is
 pub or_none : (a b : Option Reason) → or_else a b ≡ None → (a ≡ None) × (b ≡ None)
 or_none None b h = (refl, h)
 or_none (Some e) b h = absurd cc
@@ -65,6 +70,7 @@ stray_bare (frames.Items end x vs ∷ fs) form i h = tt
 stray_bare (frames.Fields end ms ∷ fs) form i h = tt
 stray_bare (frames.Named end ms name ∷ fs) form i h = tt
 
+-- where values may come and a form is not astray, the innermost container accepts it
 pub stray_accepts : (fs : List Frame) (form : Form) → Receives fs → stray fs form ≡ None → Accepts form fs
 stray_accepts fs forms.Pad r h = (r, stray_bare fs forms.Pad refl h)
 stray_accepts fs forms.Wrapper r h = stray_bare fs forms.Wrapper refl h
@@ -88,11 +94,13 @@ named_struct (frames.Named end ms (Err e) ∷ fs) form p h = let k : cond (is_pa
     cond-false' false e h = refl
 
 module _ (g : Catalog) (l : Limits) where
+  -- an outcome stands for the octets, if each reason against it decides there
   pub unless_leaves : (u : List ℕ) (s : List Value) (r : Outcome) (o : Option Reason) → ((e : Reason) → o ≡ Some e → Decides g l u e)
       → (o ≡ None → Leaves g l u s r) → Leaves g l u s (unless o r)
   unless_leaves u s r None w h = h refl
   unless_leaves u s r (Some x) w h = w x refl
 
+  -- a judged body stands for the octets, if the reason against it decides there
   pub judged_leaves : (u : List ℕ) (s : List Value) (spot : Spot) (fs : List Frame) (r : Result Payload Reason) → ((e : Reason) → r ≡ Err e → Decides g l u e)
       → ((p : Payload) → r ≡ Ok p → Leaves g l u s (deliver (under g l) spot fs (bare p))) → Leaves g l u s (judged (under g l) spot fs r)
   judged_leaves u s spot fs (Ok p) w h = h p refl

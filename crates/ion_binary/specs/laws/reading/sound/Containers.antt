@@ -31,6 +31,7 @@ abbrev Comes : List Slot → List Frame → List ℕ → Value → Type 0
 Comes c (frames.Annotated end ss ∷ fs) w v = Plain c w v.payload
 Comes c _ w v = Binary c w v
 
+-- a value without annotations may come in the innermost container
 pub plain_comes : (c : List Slot) (fs : List Frame) (w : List ℕ) (p : Payload) → Plain c w p → Comes c fs w (bare p)
 plain_comes c [] w p h = unannotated w p h
 plain_comes c (frames.Annotated end ss ∷ fs) w p h = h
@@ -59,6 +60,7 @@ struct_is c forms.Wrapper n h body ms i d e b = absurd i
 pub regroup : (a b c d : List ℕ) → a ++ (b ++ c) ++ d ≡ a ++ (b ++ (c ++ d))
 regroup a b c d = append_assoc a (b ++ c) d ∙ ap (λ x. a ++ x) (append_assoc b c d)
 
+-- three parts have as many octets as each has alone, together
 pub length_3 : (a b c : List ℕ) → length (a ++ (b ++ c)) ≡ length a + length b + length c
 length_3 a b c = let i = length-append a (b ++ c) in let j = length-append b c in omega arith
 
@@ -225,6 +227,7 @@ module _ (g : Catalog) (l : Limits) where
         within = omega arith;
       }) e
 
+  -- no more levels are open than the limit has
   pub shallow : (start : ℕ) (c : List Slot) (s : List Value) (fs : List Frame) (u : List ℕ) → Opened g l start c s fs u → levels fs ≤ l.depth
   shallow start c s [] u o = omega arith
   shallow start c s (frames.Items end x vs ∷ fs) u o = let d = o.deep in omega arith

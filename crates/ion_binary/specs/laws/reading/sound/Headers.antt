@@ -168,6 +168,7 @@ module _ (g : Catalog) (l : Limits) where
         };
       })
 
+  -- what a whole header leads to stands for the octets
   pub sized_stands : (spot : Spot) (s : List Value) (fs : List Frame) (u h : List ℕ) (form : Form) (n : ℕ) → Opened g l spot.start spot.context s fs u
       → (stray fs form ≡ None → Accepts form fs) → Header form n h → spot.used ≡ length (u ++ h) → Receives fs
       → HeaderEnds g l spot.context spot.start fs form n (u ++ h)

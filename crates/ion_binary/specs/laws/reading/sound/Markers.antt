@@ -85,6 +85,7 @@ typed_marker t n =
     (either P (t == 4) _ _ (either P ((n == 0) || (n == 4) || (n == 8)) _ _ (err Float) (err Malformed))
     (either P (t == 13) _ _ (either P (n == 1) _ _ ordered body) body))))))
 
+-- the octet E0 alone opens a version marker
 pub marker_is : (b : ℕ) → opening_of b ≡ Marker → b ≡ 224
 unfolding opening_of descriptor_of
 marker_is b h =
@@ -137,6 +138,7 @@ module _ (g : Catalog) (l : Limits) where
   front_is start c s u (inl h) = inl h.0
   front_is start c s u (inr h) = inr (s, c, h.0)
 
+  -- what an octet of a version marker leads to stands for the octets
   pub marker_stands : (spot : Spot) (s : List Value) (fs : List Frame) (u : List ℕ) (b : ℕ) (m : Mark) (good : Bool)
       → MarkerStands g l spot.start spot.context s fs m good u → spot.used ≡ length (u ++ b ∷ [])
       → Leaves g l (u ++ b ∷ []) s (on_marker spot fs m good b)

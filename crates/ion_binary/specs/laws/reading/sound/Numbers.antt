@@ -273,6 +273,7 @@ module _ (g : Catalog) (l : Limits) where
           })
   came_stands spot s _ u _ a b n o w en v e = absurd o
 
+  -- a number so far is below 2^63
   pub number_bound : (start : ℕ) (c : List Slot) (s : List Value) (fs : List Frame) (p : Purpose) (a : ℕ) (u : List ℕ) → NumberStands g l start c s fs p a u
       → a < 2 ^ 63
   number_bound start c s fs (purposes.Length form) a u o = o.bound
@@ -281,6 +282,7 @@ module _ (g : Catalog) (l : Limits) where
   number_bound start c s (frames.Annotated end ss ∷ fs) (purposes.Annotation stop) a u o = o.bound
   number_bound start c s _ _ a u o = absurd o
 
+  -- what an octet of a number leads to stands for the octets
   pub number_stands : (spot : Spot) (s : List Value) (fs : List Frame) (u : List ℕ) (p : Purpose) (a b : ℕ) → a < 2 ^ 63
       → NumberStands g l spot.start spot.context s fs p a u → spot.used ≡ length (u ++ b ∷ [])
       → Leaves g l (u ++ b ∷ []) s (on_number (under g l) spot fs p a b)

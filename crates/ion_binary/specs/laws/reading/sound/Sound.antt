@@ -29,6 +29,7 @@ module _ (g : Catalog) (l : Limits) where
   step_stands m s (InBody t n) u b e o = let i = length-one u b in body_stands g l (counted m).spot s m.frames u b t n m.body o (omega arith)
   step_stands m s (InPad n) u b e o = let i = length-one u b in pad_stands g l (counted m).spot s m.frames u b n o.0 o.1 (omega arith)
 
+  -- what comes of an octet stands for the octets up to it, if the machine stood for those before
   pub feed_stands : (m : Machine) (u : List ℕ) (s : List Value) (b : ℕ) → MachineStands g l u s m → Leaves g l (u ++ b ∷ []) s (feed (under g l) m b)
   feed_stands m u s b o = step_stands m s m.phase u b o.used o.standing
 

@@ -59,6 +59,7 @@ use Rattle.ion_text.specs.laws.reading.sound.Admits.{at_end_fine}
 
 -- nothing waits at the top level behind what was settled, and what waits is calm where no token has begun
 
+-- where no token has begun, what waits at the top level is calm
 pub idle_calm : (n : Now) (m : Mode) → IsTopNow n → is_idle m ≡ true → CalmNow n m
 idle_calm nows.Ready m k i = tt
 idle_calm (nows.Pending h e) m k i = i
@@ -124,6 +125,7 @@ module _ (g : Catalog) (l : Limits) where
   released_settled spot [] (s ∷ ss) h = paid_settled spot [] (s ∷ ss) (held_payload h)
   released_settled spot (f ∷ fs) ss h = paid_settled spot (f ∷ fs) ss (held_payload h)
 
+  -- behind what was settled at the top level it is calm, whatever token has begun
   pub settle_settled : (start : ℕ) (c : List Slot) (fs : List Frame) (ss : Symbols) (now : Now) → (is_top fs ≡ true → IsTopNow now)
       → SettledCalm (settle g l (at start c fs ss now))
   settle_settled start c fs ss (nows.Pending h end) k = released_settled (spot_at end start c) fs ss h
@@ -243,6 +245,7 @@ module _ (g : Catalog) (l : Limits) where
         go false w = by (settle g l r) refl w (settle_same g l r.start r.context r.frames r.notes r.now)
             (settle_still g l r.start r.context r.frames r.notes r.now) (settle_settled r.start r.context r.frames r.notes r.now ok) (settled w)
 
+  -- what goes on to wait at the top level at an octet that ends no token is calm
   pub waits_calm : (fs : List Frame) (now : Now) (s : Known) → (is_top fs ≡ true → IsTopNow now) → waits_now (is_top fs) now (Next s) ≡ true → is_top fs ≡ true
       → CalmNow now s.mode
   waits_calm fs (nows.Pending h e) s k w top = w
@@ -304,6 +307,7 @@ module _ (g : Catalog) (l : Limits) where
       by (refuses y) h e = absurd e
       by (late y n) h e = absurd e
 
+  -- where a value may come, settling changes nothing
   pub ready_still : (r : Reading) → r.now ≡ nows.Ready → settle g l r ≡ goes r
   ready_still r e = subst (λ n. settle g l (at r.start r.context r.frames r.notes n) ≡ goes (at r.start r.context r.frames r.notes n)) (sym e) refl
 

@@ -39,21 +39,27 @@ use Rattle.ion_text.specs.machine.Run.{token_of, is_top}
 use Rattle.ion_text.specs.machine.Places.{pending_at, long_at, name_at}
 use Rattle.ion_text.specs.machine.TokenLists.{done, on_turn, then_walk, continues, continues_now, reads, reads-append, first_token, behind_waiting, adds_none}
 
+-- how deep the deepest of these values is
 abbrev pub depths : List Value → ℕ
 depths vs = greatest (map depth vs)
 
+-- a list is one level deeper than its deepest element
 pub depth-list : (ss : Symbols) (vs : List Value) → depth (annotated ss (payloads.List vs)) ≡ suc (depths vs)
 depth-list ss vs = depth-at-List (annotated ss (payloads.List vs)) vs refl
 
+-- an s-expression is one level deeper than its deepest element
 pub depth-sexp : (ss : Symbols) (vs : List Value) → depth (annotated ss (payloads.Sexp vs)) ≡ suc (depths vs)
 depth-sexp ss vs = depth-at-Sexp (annotated ss (payloads.Sexp vs)) vs refl
 
+-- how deep the deepest of these fields' values is
 abbrev pub field_depths : List Field → ℕ
 field_depths ms = greatest (map (λ f. depth f.value) ms)
 
+-- a struct is one level deeper than the deepest value of its fields
 pub depth-struct : (ss : Symbols) (ms : List Field) → depth (annotated ss (payloads.Fields ms)) ≡ suc (field_depths ms)
 depth-struct ss ms = depth-at-Fields (annotated ss (payloads.Fields ms)) ms refl
 
+-- tokens whose last ones end in a long string end in one
 pub ends_behind : (ts us : List Placed) → ends_long us ≡ true → ends_long (ts ++ us) ≡ true
 ends_behind [] us h = h
 ends_behind (x ∷ []) [] h = absurd cc
@@ -65,10 +71,12 @@ pub last_end : (front : List Placed) (t : Placed) (ts : List Placed) (k d : ℕ)
 last_end [] t ts k d = refl
 last_end (x ∷ xs) t ts k d = last_end xs t ts x.lexeme.end d
 
+-- tokens end where the last of them ends
 pub end_more : (ts : List Placed) (t : Placed) (d : ℕ) → end_of d (ts ++ t ∷ []) ≡ t.lexeme.end
 end_more [] t d = refl
 end_more (u ∷ ts) t d = end_more ts t u.lexeme.end
 
+-- with one field more the deepest is the deeper of those before and that one's value
 pub field_deepest-more : (ms : List Field) (m : Field) → field_depths (ms ++ m ∷ []) ≡ max (field_depths ms) (depth m.value)
 field_deepest-more [] m = omega arith
 field_deepest-more (n ∷ ms) m = omega (arith, field_deepest-more ms m)
@@ -77,6 +85,7 @@ field_deepest-more (n ∷ ms) m = omega (arith, field_deepest-more ms m)
 spelled_other : (said : Content) (octets w : List ℕ) → said ≢ Long w → Spells said octets (Ok (Long w)) → ⊥
 spelled_other said octets w n h = n (sym h.0)
 
+-- what says a segment is a token of one
 pub segment_kind : (k : TokenKind) (octets w : List ℕ) → IsBody k octets (Ok (Long w)) → is_segment k ≡ true
 segment_kind kinds.Word octets w h = absurd (go (id_of octets) h)
   where
@@ -97,6 +106,7 @@ segment_kind kinds.Clob octets w h = absurd cc
 segment_kind kinds.Blob octets w h = absurd cc
 segment_kind (kinds.Mark m) octets w h = absurd cc
 
+-- the segments of a long string end in a long string
 pub segments_long : (p : Place) (ts : List Placed) (w : List ℕ) → Segments p ts w → ends_long ts ≡ true
 segments_long p _ _ (segment t w h) = segment_kind t.lexeme.kind t.lexeme.octets w h.body
 segments_long p _ _ (joined ts v w t d h) = ends_long_more ts t ∙ segment_kind t.lexeme.kind t.lexeme.octets w h.body
@@ -106,6 +116,7 @@ segments_long p _ _ (joined ts v w t d h) = ends_long_more ts t ∙ segment_kind
     ends_long_more (u ∷ []) t = refl
     ends_long_more (u ∷ v ∷ ts) t = ends_long_more (v ∷ ts) t
 
+-- what says a word is the token of a word, of these octets
 pub word_token : (k : TokenKind) (octets w : List ℕ) → IsBody k octets (Ok (Word w)) → (k ≡ kinds.Word) × (octets ≡ w)
 word_token kinds.Word octets w h = (refl, go (id_of octets) h)
   where
@@ -167,6 +178,7 @@ word_held w h = go (bytes_eq w (codes "null")) (bytes_eq w (codes "true")) (byte
     go false false false false true h = (refl, refl)
     go false false false false false h = (refl, refl)
 
+-- where the first of the tokens begins, or else this
 abbrev pub first_start : ℕ → List Placed → ℕ
 first_start d [] = d
 first_start d (t ∷ ts) = t.lexeme.start
@@ -259,6 +271,7 @@ module _ (g : Catalog) (l : Limits) where
       segments_some _ _ (joined [] v w t d h) = (t, [], refl)
       segments_some _ _ (joined (u ∷ ts) v w t d h) = (u, ts ++ t ∷ [], refl)
 
+  -- what was held is taken for a value unless it is a bare word of a marker's form at the top level
   pub released_paid : (end start : ℕ) (c : List Slot) (fs : List Frame) (ss : Symbols) (h : Held) → (fs ≡ [] → ss ≡ [] → not_version h ≡ true)
       → released (under g l) (spot_at end start c) fs ss h ≡ paid (under g l) (spot_at end start c) fs ss (held_payload h)
   released_paid end start c [] [] (helds.Version b s) n = absurd (let e : false ≡ true = n refl refl in cc)
@@ -321,6 +334,7 @@ module _ (g : Catalog) (l : Limits) where
   end_of_front [] us t d = refl
   end_of_front (x ∷ ts) us t d = end_of_front ts us t x.lexeme.end
 
+  -- tokens behind others are read from where these lead
   pub read_behind : (r n : Reading) (ts us : List Placed) → reads g l r ts ≡ done n → reads g l r (ts ++ us) ≡ reads g l n us
   read_behind r n ts us e = reads-append g l ts us r ∙ (ap (λ x. then_walk x (λ k. reads g l k us)) e ∙ adds_none g l (reads g l n us))
 
@@ -339,6 +353,7 @@ module _ (g : Catalog) (l : Limits) where
     -- what may go on
     pub shuts : (t : Token) → continues now t ≡ true → (t.said ≡ Mark' marks.Colons) ⊎ ((ends_long ts ≡ true) × (w : List ℕ) × (t.said ≡ Long w))
 
+  -- a symbol that waits goes on with `::` alone
   pub pending_goes : (start : ℕ) (c : List Slot) (fs : List Frame) (ss : Symbols) (h : Held) (end : ℕ) (t : Token)
       → continues (at start c fs ss (nows.Pending h end)) t ≡ true → t.said ≡ Mark' marks.Colons
   pending_goes start c fs ss h end t e = go t.said e
@@ -434,6 +449,7 @@ module _ (g : Catalog) (l : Limits) where
     pub says : Says p first said
     pub no_colons : said ≡ Mark' marks.Colons → ⊥
 
+  -- no symbol is `::`
   pub symbol_no_colons : (c : List Slot) (said : Content) (s : Option (List ℕ)) → IsSymbol c said s → said ≡ Mark' marks.Colons → ⊥
   symbol_no_colons c _ _ (is_word w h) e = cc
   symbol_no_colons c _ _ (is_id id s h) e = cc
@@ -464,6 +480,7 @@ module _ (g : Catalog) (l : Limits) where
     no_colons = b.no_colons;
   }
 
+  -- segments begin with a token, which isn't `::`
   pub segments_begin : (p : Place) (ts : List Placed) (w : List ℕ) → Segments p ts w → Begins p ts
   segments_begin p _ _ (segment t w h) = record { first = t; later = []; said = Long w; cut = refl; says = h; no_colons = λ e. cc }
   segments_begin p _ _ (joined ts v w t d h) = begins_more p ts (t ∷ []) (segments_begin p ts v d)
@@ -483,6 +500,7 @@ module _ (g : Catalog) (l : Limits) where
   plain_begins c p _ _ (is_sexp p' o e ts vs h d i) = record { first = o; later = ts ++ e ∷ []; said = _; cut = refl; says = h; no_colons = λ e. cc }
   plain_begins c p _ _ (is_struct p' o e ts ms more h d i) = record { first = o; later = ts ++ e ∷ []; said = _; cut = refl; says = h; no_colons = λ e. cc }
 
+  -- annotations and what stands behind them begin with a token, which isn't `::`
   pub notes_begin : (c : List Slot) (p : Place) (ts us : List Placed) (ss : Symbols) → Annotations c p ts ss → Begins p us → Begins p (ts ++ us)
   notes_begin c p _ us _ no_annotation b = b
   notes_begin c p _ us _ (one_annotation ts ss t colons said s d h i j) b =
@@ -497,6 +515,7 @@ module _ (g : Catalog) (l : Limits) where
         no_colons = symbol_no_colons c said s i;
       }))
 
+  -- a value begins with a token, which isn't `::`
   pub means_begins : (c : List Slot) (p : Place) (ts : List Placed) (v : Value) → Means c p ts v → Begins p ts
   means_begins c p _ _ (means p' notes ts ss q a d) = notes_begin c p notes ts ss a (plain_begins c p ts q d)
 
@@ -573,6 +592,7 @@ module _ (g : Catalog) (l : Limits) where
       → Says p t (Mark' m) → (m ≡ marks.Colons → ⊥) → turn g l n (token_of t.lexeme (Mark' m)) ≡ x → reads g l r (ts ++ t ∷ []) ≡ on_turn x done
   closed_by c p r n ts t m x here d h k e = mark_behind c p r n ts t m here d h k ∙ ap (λ y. on_turn y done) e
 
+  -- tokens behind which nothing waits lead to the state that they are read to
   pub ready_reached : (c : List Slot) (r n : Reading) (ts : List Placed) → settle g l n ≡ goes n → ((t : Token) → continues n t ≡ false)
       → reads g l r ts ≡ done n → Reached c r ts n
   ready_reached c r n ts s k e = record { now = n; read = e; settles = s; shuts = λ t i. absurd (let j : true ≡ false = sym i ∙ k t in cc) }
@@ -611,6 +631,7 @@ module _ (g : Catalog) (l : Limits) where
       ≡ done (at start c (frames.Fields ss ms ∷ fs) [] nows.Name)
   InStruct c start fs ss ts ms false = Reached c (at start c (frames.Fields ss [] ∷ fs) [] nows.Name) ts (at start c (frames.Fields ss ms ∷ fs) [] nows.After)
 
+  -- the `}` behind the fields of a struct ends it with these fields
   pub struct_ends : (c : List Slot) (start : ℕ) (fs : List Frame) (ss : Symbols) (ts : List Placed) (ms : List Field) (more : Bool) (t : Placed)
       → InStruct c start fs ss ts ms more → Says (close_place more) t (Mark' marks.FieldsClose)
       → reads g l (at start c (frames.Fields ss [] ∷ fs) [] nows.Name) (ts ++ t ∷ [])
@@ -629,6 +650,7 @@ module _ (g : Catalog) (l : Limits) where
   symbol_named c start end fs _ _ (is_id id s h) = ap (λ r. resolved r (λ s. goes (at start c fs [] (nows.Keyed s)))) h
   symbol_named c start end fs _ _ (is_quoted w) = refl
 
+  -- segments where a field's name may come are read as a long name, which waits
   pub long_named : (c : List Slot) (start : ℕ) (fs : List Frame) (ts : List Placed) (w : List ℕ) → places.Name ≡ place_in fs nows.Name
       → Segments places.Name ts w → reads g l (at start c fs [] nows.Name) ts ≡ done (at start c fs [] (nows.LongName w))
   long_named c start fs _ _ here (segment t w h) = first_token g l places.Name (at start c fs [] nows.Name) t (Long w) [] h here (inr refl)
@@ -695,6 +717,7 @@ module _ (g : Catalog) (l : Limits) where
         (ended (under g l) (spot_at (end_of 0 x) (begun_at (starts start fs notes) (first_start 0 x) fs ss) c) fs (annotated ss q))) b.cut
         (plain_read c p (starts start fs notes) fs ss ts q here d (unnoted c p notes ts ss fs a v) deep)))
 
+    -- the elements of a list lead the reader from its `[` to a list of them
     pub elements_read : (c : List Slot) (start : ℕ) (fs : List Frame) (ss : Symbols) (ts : List Placed) (vs : List Value) (more : Bool) → Elements c ts vs more
         → depths vs + suc (length fs) ≤ l.depth → InList c start fs ss ts vs more
     elements_read c start fs ss _ _ _ no_element deep = refl
@@ -713,6 +736,7 @@ module _ (g : Catalog) (l : Limits) where
         (at start c (frames.Items listings.List ss vs ∷ fs) [] nows.After) ts t
         marks.Comma refl (elements_read c start fs ss ts vs false d deep) h (λ e. cc)
 
+    -- the elements of an s-expression lead the reader from its `(` to an s-expression of them
     pub row_read : (c : List Slot) (start : ℕ) (fs : List Frame) (ss : Symbols) (ts : List Placed) (vs : List Value) → Row c ts vs
         → depths vs + suc (length fs) ≤ l.depth
         → Reached c (at start c (opened brackets.Sexp ss ∷ fs) [] nows.Ready) ts (at start c (frames.Items listings.Sexp ss vs ∷ fs) [] nows.Ready)
@@ -730,6 +754,7 @@ module _ (g : Catalog) (l : Limits) where
         (subst (λ (x : ℕ). LeadsToTurn c (f ∷ fs) before us (goes (at x c (frames.Items listings.Sexp ss (vs ++ v ∷ []) ∷ fs) [] nows.Ready)))
         (starts_in start f fs us) (means_read c places.Sexp start (f ∷ fs) us v refl m (λ e. absurd cc) (omega arith))))
 
+    -- the fields of a struct lead the reader from its `{` to a struct of them
     pub members_read : (c : List Slot) (start : ℕ) (fs : List Frame) (ss : Symbols) (ts : List Placed) (ms : List Field) (more : Bool) → Members c ts ms more
         → field_depths ms + suc (length fs) ≤ l.depth → InStruct c start fs ss ts ms more
     members_read c start fs ss _ _ _ no_field deep = refl

@@ -40,6 +40,7 @@ exact modes.Quote start used = used ≡ start + 1
 exact modes.Quotes start used = used ≡ start + 2
 exact _ start used = Unit {0}
 
+-- where quotes are open, the scanner has used just these since the token began
 pub record Exact (s : Known) : Type 0 where
   pub is : exact s.mode s.start s.used
 

@@ -39,6 +39,7 @@ pub data Finds : Known → List ℕ → List Placed → Type 0 where
       → Finds s' (drop (s'.used - s.used) octets) ts → Finds s octets (t ∷ ts)
   unclosed : (s : Known) (octets : List ℕ) (t w : Placed) → t.lexeme.kind ≡ kinds.Operator → w.lexeme.kind ≡ kinds.Word → Finds s octets (t ∷ w ∷ [])
 
+-- where the same outcome goes on, the scanner knows the same
 pub next_is : (s t : Known) → Next s ≡ Next t → s ≡ t
 next_is s t e = ap (state_in s) e
   where
@@ -71,6 +72,7 @@ lexes_found _ _ _ (found.Unclosed s octets t ts s' colon letters bare e f first 
     by (inl none) = absurd (bare none)
     by (inr (w, alone, word)) = subst (λ y. Finds s octets (t ∷ y)) (sym alone) (unclosed s octets t w operator word)
 
+-- the scanner finds the tokens that octets are, up to their end
 pub lexes_finds : (octets : List ℕ) (ts : List Placed) → Lexes false 0 octets ts → Finds initial octets ts
 lexes_finds octets ts h = lexes_found initial octets ts (stands_finds initial [] [] [] octets ts Begun octets refl h)
 

@@ -84,6 +84,7 @@ by_mode s x o = go s.mode refl
     go modes.Brace e h i = absurd h
     go (modes.Lob t) e h i = absurd h
 
+-- an octet that is left is used next, or behind an operator left once more at most
 pub feed_leaves : (p : Place) (s : Known) (o : ℕ) → Fine s → Leaving o (feed p s o)
 feed_leaves p s o f = go (feed p s o) (again.feed_leaves p s o) (feed_fine p s o f)
   where
@@ -150,6 +151,7 @@ module _ (g : Catalog) (l : Limits) where
   NotLeaves (leaves v m) = ⊥
   NotLeaves _ = Unit {0}
 
+  -- an octet that ends no token ends no value before it
   pub noticed_stays : (r : Reading) (s : Known) → NotLeaves (noticed l r s)
   noticed_stays r s = go (shut r.now && not (is_idle s.mode)) (nat_le (reaches r.frames r s) l.item)
     where
@@ -164,12 +166,14 @@ module _ (g : Catalog) (l : Limits) where
   worse_stays e (leaves v m) = tt
   worse_stays e (fails f) = tt
 
+  -- an octet that is the last of a token ends no value before it
   pub given_stays : (s : Known) (t : Turn) → NotLeaves (behind_given l s t)
   given_stays s (goes r) = noticed_stays r s
   given_stays s (gives v r) = tt
   given_stays s (refuses e) = tt
   given_stays s (late e r) = worse_stays e (noticed l r s)
 
+  -- where what a token says ends no value before its octet, neither does the token
   pub said_stays : (c : Result Content Reason) (f : Content → Effect) → ((c : Content) → NotLeaves (f c)) → NotLeaves (on_said c f)
   said_stays (Ok c) f h = h c
   said_stays (Err e) f h = tt
@@ -180,6 +184,7 @@ module _ (g : Catalog) (l : Limits) where
   scan_stays again r (Left x s) u = absurd u
   scan_stays again r (Refused n e) u = tt
 
+  -- where nothing waits, an octet that the scanner uses ends no value before it
   pub eats_stays : (r : Reading) (s : Known) (o : ℕ) → settle g l r ≡ goes r → IsUsed (feed (place r) s o) → NotLeaves (eats g l (with_scan s r) o)
   eats_stays r s o e u = go (unsettled s r (feed (place r) s o))
     where

@@ -39,6 +39,7 @@ abbrev pub Operators : List Placed → Type 0
 Operators [] = Unit {0}
 Operators (t ∷ ts) = (t.lexeme.kind ≡ kinds.Operator → is_sexp t.place ≡ true) × Operators ts
 
+-- where no container is open, the place is the top level
 pub top_place : (fs : List Frame) (now : Now) → is_top fs ≡ true → place_in fs now ≡ places.Top
 top_place [] now h = refl
 top_place (f ∷ fs) now h = absurd cc
@@ -153,9 +154,11 @@ module _ (g : Catalog) (l : Limits) where
   abbrev pub Direct : Reading → Token → Type 0
   Direct r t = (continues r t ≡ true) ⊎ (settle g l r ≡ goes r)
 
+  -- what is said of a token in the place that the reader looks in, it says there
   pub says_so : (r : Reading) (t : Placed) (c : Content) → t.place ≡ place r → said t.lexeme.kind t.lexeme.octets ≡ Ok c → Says (place r) t c
   says_so r t c e f = record { place = e; body = said_body t.lexeme.kind t.lexeme.octets c f }
 
+  -- a token with which what waits goes on, or where nothing does, leads to where the others go on
   pub going_turn : (r : Reading) (t : Placed) (ts : List Placed) (all : List Value) (c : Content) → Going r (t ∷ ts) all → said t.lexeme.kind t.lexeme.octets
       ≡ Ok c → Direct r (token_of t.lexeme c) → TurnGoes (turn g l r (token_of t.lexeme c)) ts all
   going_turn r t ts all c d e w =
@@ -163,6 +166,7 @@ module _ (g : Catalog) (l : Limits) where
       turn_goes (turn g l r (token_of t.lexeme c)) ts d.vs d.later all d.n d.c (sym (first_token g l (place r) r t c ts (says_so r t c p e) refl w) ∙ d.read)
       d.ends d.whole
 
+  -- where what waits doesn't go on with the token, it is settled to where the tokens go on
   pub going_settle : (r : Reading) (t : Placed) (ts : List Placed) (all : List Value) (c : Content) → Going r (t ∷ ts) all → said t.lexeme.kind t.lexeme.octets
       ≡ Ok c → continues r (token_of t.lexeme c) ≡ false → TurnGoes (settle g l r) (t ∷ ts) all
   going_settle r t ts all c d e w = turn_goes (settle g l r) (t ∷ ts) d.vs d.later all d.n d.c (sym here ∙ d.read) d.ends d.whole
@@ -201,6 +205,7 @@ module _ (g : Catalog) (l : Limits) where
   turn_ends (refuses x) all c e = absurd cc
   turn_ends (late x r) all c e = absurd cc
 
+  -- where no token is left, what waits is settled to a whole document
   pub going_ends : (r : Reading) (all : List Value) → Going r [] all → TurnEnds (settle g l r) all
   unfolding values_in reading_in
   going_ends r all d =
@@ -229,6 +234,7 @@ module _ (g : Catalog) (l : Limits) where
   InsideTurn start (refuses e) = Unit {0}
   InsideTurn start (late e r) = Unit {0}
 
+  -- what waits in a container is settled there, in the same item
   pub settle_inside : (start : ℕ) (c : List Slot) (fs : List Frame) (ss : Symbols) (now : Now) → is_top fs ≡ false
       → InsideTurn start (settle g l (at start c fs ss now))
   settle_inside start c fs ss now h = go now refl
@@ -272,6 +278,7 @@ module _ (g : Catalog) (l : Limits) where
       go (refuses y) k d = absurd d
       go (late y m) k d = absurd d
 
+  -- where a container is open, nothing is asked of what waits at the top level
   pub never_top : (r : Reading) → is_top r.frames ≡ false → is_top r.frames ≡ true → IsTopNow r.now
   never_top r h k = let n : true ≡ false = sym k ∙ h in absurd cc
 
@@ -280,6 +287,7 @@ module _ (g : Catalog) (l : Limits) where
   inside_direct r t c ts all h d e w = inside_turn r t c ts all h (turn g l r (token_of t.lexeme c)) (turn_spans g l r (token_of t.lexeme c) (never_top r h))
       (going_turn r t ts all c d e w)
 
+  -- behind a token in a container the item is open still, or the token closed it
   pub inside_token : (r : Reading) (t : Placed) (c : Content) (ts : List Placed) (all : List Value) → is_top r.frames ≡ false → Going r (t ∷ ts) all
       → said t.lexeme.kind t.lexeme.octets ≡ Ok c → InsideNext r.start t c ts
   inside_token r t c ts all h d e = go (continues r (token_of t.lexeme c)) refl
@@ -362,6 +370,7 @@ module _ (g : Catalog) (l : Limits) where
   waiting_end (nows.LongName v) end d w k = absurd w
   waiting_end (nows.Keyed s) end d w k = absurd w
 
+  -- what is settled at the top level, and then goes on or ends, is within the limit on items
   pub settled_bound : (start end : ℕ) (fs : List Frame) (t : Turn) (ts : List Placed) (all : List Value) → is_top fs ≡ true → SettlesWithin g l start end fs t
       → TurnGoes t ts all ⊎ TurnEnds t all → end ≤ start + l.item
   settled_bound start end fs (goes r) ts all h (inl k) d = absurd (let n : true ≡ false = sym h ∙ k.0 in cc)
@@ -382,6 +391,7 @@ module _ (g : Catalog) (l : Limits) where
   EndsPast used [] = Unit {0}
   EndsPast used (t ∷ ts) = (used ≤ t.lexeme.end) ⊎ (t.lexeme.kind ≡ kinds.Operator)
 
+  -- where no token has begun, the next ends behind the octets used, unless it is an operator
   pub idle_past : (s : Known) (os : List ℕ) (ts : List Placed) → Meets s os ts → Fine s → is_idle s.mode ≡ true → EndsPast s.used ts
   idle_past s os [] meets f idle = tt
   idle_past s os (t ∷ ts) meets f idle = idle_span s os t ts meets f idle

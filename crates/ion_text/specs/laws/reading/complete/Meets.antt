@@ -49,6 +49,7 @@ pub data Meets : Known → List ℕ → List Placed → Type 0 where
 
 -- what the table says of a text, and of a token that is left
 
+-- the text of a long string is open
 abbrev pub is_long_text : Mode → Bool
 is_long_text (modes.Text styles.LongString w) = true
 is_long_text _ = false
@@ -75,9 +76,11 @@ abbrev is_long_mode : Mode → Bool
 is_long_mode (modes.Text s w) = is_long_string s
 is_long_mode _ = false
 
+-- an octet of a text goes on with it, ends it or is refused, in a long string as such
 pub text_text : (s : Style) (w : Within) (o : ℕ) → Text (is_long_string s) (in_text s w o)
 text_text s w o = record { is = by_rows_where is_text (λ sexp m. text (is_long_mode m)) (λ c t. refl) places.Top false (modes.Text s w) o refl }
 
+-- where no escape is open in a text, an octet goes on with it, ends it or is refused
 pub raw_text : (s : Style) (o : ℕ) → Text (is_long_string s) (raw s o)
 raw_text s o = text_text s within.Plain o
 
@@ -97,6 +100,7 @@ long_acts p s o actions.EndWord h = absurd cc
 long_acts p s o (actions.Split n) h = absurd cc
 long_acts p s o actions.EndBlob h = absurd cc
 
+-- an octet in a long string goes on with it, ends the segment or is refused
 pub long_feed : (p : Place) (s : Known) (o : ℕ) → is_long_text s.mode ≡ true → LongOn (feed p s o)
 long_feed p s o h = long_acts p s o (next p s.colon s.mode o) (by_rows_where is_long_text (λ sexp m. text true) (λ c t. refl) p s.colon s.mode o h)
 
@@ -129,6 +133,7 @@ idle_acts p s o (actions.Before kinds.Operator k m) h = inr (refl, h)
 idle_acts p s o (actions.Before (kinds.Mark marks.Colon) k modes.Blank) h = inl (refl, omega arith)
 idle_acts p s o (actions.Before _ k m) h = absurd cc
 
+-- where no token has begun, what is left is a colon, or in an s-expression an operator
 pub idle_left : (p : Place) (s : Known) (o : ℕ) → is_idle s.mode ≡ true → IdleLeft p s.used (feed p s o)
 idle_left p s o h = idle_acts p s o (next p s.colon s.mode o) (by_rows_where is_idle (λ sexp m. leaves_idle sexp) (λ c t. refl) p s.colon s.mode o h)
 
@@ -138,9 +143,11 @@ mark_closing : (k : TokenKind) → is_mark k ≡ false → is_closing k ≡ fals
 mark_closing (kinds.Mark m) h = absurd cc
 mark_closing _ h = refl
 
+-- whatever outcome an octet has follows the mode before it as the table promises
 pub follows_as : (p : Place) (s : Known) (o : ℕ) (x : Outcome) → is_sane s.mode ≡ true → feed p s o ≡ x → Follows p s.mode x
 follows_as p s o x h e = subst (Follows p s.mode) e (feed_follows p s o h)
 
+-- whatever outcome an octet has, its token is as long and of such a kind as the table promises
 pub finely_as : (p : Place) (s : Known) (o : ℕ) (x : Outcome) → Fine s → feed p s o ≡ x → Finely s.mode x
 finely_as p s o x h e = subst (Finely s.mode) e (feed_fine p s o h)
 

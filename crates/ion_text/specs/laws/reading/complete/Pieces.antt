@@ -29,6 +29,7 @@ use Rattle.ion_text.specs.laws.reading.complete.Complete.{means_read, LeadsToTur
 abbrev pub GoesOn : Token → Type 0
 GoesOn t = ((w : List ℕ) × (t.said ≡ Long w)) ⊎ ((w : List ℕ) × (t.said ≡ Quoted w) × ((t.end == t.start + 2) ≡ true))
 
+-- what says a quoted symbol is the token of one
 pub quoted_kind : (k : TokenKind) (octets w : List ℕ) → IsBody k octets (Ok (Quoted w)) → k ≡ kinds.QuotedSymbol
 quoted_kind kinds.QuotedSymbol octets w h = refl
 quoted_kind kinds.Word octets w h = absurd (go (id_of octets) h)
@@ -66,6 +67,7 @@ module _ (g : Catalog) (l : Limits) where
     pub all : s ≡ given ++ later
     pub shuts : (t : Token) → continues now t ≡ true → (t.said ≡ Mark' marks.Colons) ⊎ ((ends_long ts ≡ true) × GoesOn t)
 
+  -- walks that are the same gave the same values, and led to the same reading
   pub walked_now : (vs ws : List Value) (r n : Reading) → walked vs r ≡ walked ws n → (vs ≡ ws) × (r ≡ n)
   walked_now vs ws r n e = (ap (values_of vs) e, ap (reading_of r) e)
     where

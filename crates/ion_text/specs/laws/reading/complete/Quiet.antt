@@ -48,6 +48,7 @@ EndedIn used (nows.Pending h end) = end ≤ used
 EndedIn used (nows.Long w end) = end ≤ used
 EndedIn used _ = Unit {0}
 
+-- what waits and ended within so many octets ended within more
 pub ended_more : (n : Now) (used more : ℕ) → used ≤ more → EndedIn used n → EndedIn more n
 ended_more (nows.Pending h end) used more le e = omega (arith, le, e)
 ended_more (nows.Long w end) used more le e = omega (arith, le, e)
@@ -57,6 +58,7 @@ ended_more nows.Name used more le e = tt
 ended_more (nows.LongName w) used more le e = tt
 ended_more (nows.Keyed s) used more le e = tt
 
+-- what waits and ended at an octet ended within those up to it
 pub ended_at : (n : Now) (end : ℕ) → EndsAt n end → EndedIn end n
 ended_at (nows.Pending h e) end at' = omega (arith, at')
 ended_at (nows.Long w e) end at' = omega (arith, at')
@@ -66,9 +68,11 @@ ended_at nows.Name end at' = tt
 ended_at (nows.LongName w) end at' = tt
 ended_at (nows.Keyed s) end at' = tt
 
+-- at the top level no token has begun that could disturb what waits, which ended within the octets used
 abbrev pub Calm : Known → Reading → Type 0
 Calm s r = is_top r.frames ≡ true → CalmNow r.now s.mode × EndedIn s.used r.now
 
+-- what is calm is what may be at the top level
 pub calm_now : (n : Now) (m : Mode) → CalmNow n m → IsTopNow n
 calm_now nows.Ready m c = tt
 calm_now (nows.Pending h end) m c = tt
@@ -78,6 +82,7 @@ calm_now nows.Name m c = c
 calm_now (nows.LongName w) m c = c
 calm_now (nows.Keyed s) m c = c
 
+-- where it is calm, the reader is as it may be at the top level
 pub calm_ok : (g : Catalog) (l : Limits) (s : Known) (r : Reading) → Calm s r → TopOk g l r
 calm_ok g l s r c h = calm_now r.now s.mode (c h).0
 

@@ -14,10 +14,12 @@ use Rattle.ion_text.specs.machine.EachToken.{Reading}
 use Rattle.ion_text.specs.machine.Run.{has_segment, in_segment, is_top, unsettled, waits, waits_now}
 use Rattle.ion_text.specs.laws.reading.complete.Meets.{LongOn, is_long_text, long_feed}
 
+-- no test holds and fails
 pub never : (b : Bool) → b ≡ false → b ≡ true → ⊥
 never true e f = cc
 never false e f = cc
 
+-- in the text of a long string quotes are open
 pub long_quoting : (m : Mode) → is_long_text m ≡ true → is_quoting m ≡ true
 long_quoting (modes.Text styles.LongString w) h = refl
 long_quoting modes.Quote h = refl

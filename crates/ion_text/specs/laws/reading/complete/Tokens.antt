@@ -70,6 +70,7 @@ mark_colons marks.ListClose top h e start end = refl
 mark_colons marks.SexpOpen top h e start end = refl
 mark_colons marks.SexpClose top h e start end = refl
 
+-- a token is `::` just where a symbol that waits goes on with what it says
 pub colons_agree : (top : Bool) (h : Held) (e start end : ℕ) (k : TokenKind) (octets : List ℕ) (c : Content) → IsBody k octets (Ok c)
     → is_colons k ≡ continues_now top (nows.Pending h e) (record { start = start; end = end; said = c })
 colons_agree top h e start end k octets (Mark' m) b = ap is_colons (mark_kind k octets m b) ∙ mark_colons m top h e start end
@@ -84,10 +85,12 @@ colons_agree top h e start end k octets (Operator w) b = no_colons k octets (Ope
 colons_agree top h e start end k octets (Clob w) b = no_colons k octets (Clob w) refl b
 colons_agree top h e start end k octets (Blob w) b = no_colons k octets (Blob w) refl b
 
+-- what is said is a segment
 abbrev pub is_long_said : Content → Bool
 is_long_said (Long w) = true
 is_long_said _ = false
 
+-- a token is a segment just where it says one
 pub segment_agree : (k : TokenKind) (octets : List ℕ) (c : Content) → IsBody k octets (Ok c) → is_segment k ≡ is_long_said c
 segment_agree k octets (Long w) b = segment_kind k octets w b
 segment_agree k octets (Mark' m) b = no_segment k octets (Mark' m) (λ w e. cc) b
@@ -241,6 +244,7 @@ quotes_left p s s' o x f e h = go (o == 39) (sym (ap (λ m. acts p s o (next p s
         let to : s.used - 0 ≡ x.end = ap (λ (y : Lexeme). y.end) same in
         (sym kind, omega (arith, from, to, span, starts))
 
+-- a token that is left where quotes are open is `''`
 pub quoting_left : (p : Place) (s s' : Known) (o : ℕ) (x : Lexeme) → Exact s → is_quoting s.mode ≡ true → feed p s o ≡ Left x s' → IsEmptyQuotes s x
 quoting_left p s s' o x f q h = go s.mode refl q
   where
@@ -288,6 +292,7 @@ left_two p s s' o x f e h = go (is_quoting s.mode) refl
     go true q = empty_two s x (quoting_left p s s' o x e q h)
     go false q = let k = (finely_as p s o (Left x s') f h).2 q in left_none x.kind x.start x.end k ∙ sym k
 
+-- no token that is left is `::`
 pub left_colons : (p : Place) (s s' : Known) (o : ℕ) (x : Lexeme) → is_sane s.mode ≡ true → feed p s o ≡ Left x s' → is_colons x.kind ≡ false
 left_colons p s s' o x h e = go (is_idle s.mode) refl
   where

@@ -89,6 +89,7 @@ pub record Sized (s : Known) : Type 0 where
   pub enough : start_of s.mode s.start s.used + wants s.mode ≤ s.used
   pub letters : lettered s.mode ≡ true
 
+-- what each scanner knows of its open token's octets, one that begins knows
 pub sized_initial : Sized initial
 sized_initial = record { enough = omega arith; letters = refl }
 
@@ -259,6 +260,7 @@ end_wants p modes.Quotes = omega arith
 end_wants p modes.Brace = omega arith
 end_wants p _ = tt
 
+-- where the end ends a token, this has an octet
 pub token_wants : (p : Place) (s : Known) (x : Lexeme) → at_end p s ≡ Ok (Some x) → 1 ≤ wants s.mode
 token_wants p s x h = by (end_of p s.mode) (end_wants p s.mode) h
   where

@@ -39,9 +39,11 @@ use Rattle.ion_visiting.specs.declared.bracket.Bracket.{Bracket}
 
 -- the nodes of what is open so far: of the containers, of the annotations that wait, and of what waits itself
 
+-- how many nodes these values have together
 abbrev pub many : List Value → ℕ
 many vs = sum (map nodes vs)
 
+-- how many nodes these fields have together: those of their values, and one for each name
 abbrev pub many_fields : List Field → ℕ
 many_fields ms = sum (map (λ f. suc (nodes f.value)) ms)
 
@@ -50,10 +52,12 @@ frame_nodes (frames.Items listing ss vs) = length ss + suc (many vs)
 frame_nodes (frames.Fields ss ms) = length ss + suc (many_fields ms)
 frame_nodes (frames.Named ss ms s) = suc (length ss + suc (many_fields ms))
 
+-- how many nodes the open containers have so far
 abbrev pub frames_nodes : List Frame → ℕ
 frames_nodes [] = 0
 frames_nodes (f ∷ fs) = frame_nodes f + frames_nodes fs
 
+-- how many nodes what waits has: one, where something does
 abbrev pub now_nodes : Now → ℕ
 now_nodes (nows.Pending h end) = 1
 now_nodes (nows.Long w end) = 1
@@ -61,6 +65,7 @@ now_nodes (nows.LongName w) = 1
 now_nodes (nows.Keyed s) = 1
 now_nodes _ = 0
 
+-- how many nodes have come of the open item
 abbrev pub open_nodes : Reading → ℕ
 open_nodes r = frames_nodes r.frames + length r.notes + now_nodes r.now
 
@@ -88,6 +93,7 @@ Weighs n item start end top (gives v r) = (nodes v ≤ n) × (end ≤ start + it
 Weighs n item start end top (refuses e) = Unit {0}
 Weighs n item start end top (late e r) = Unit {0}
 
+-- a further field adds the nodes of its value and one
 pub fields_more : (ms : List Field) (m : Field) → many_fields (ms ++ m ∷ []) ≡ many_fields ms + suc (nodes m.value)
 fields_more ms m =
     let all = sum-map (λ (f : Field). suc (nodes f.value)) (ms ++ m ∷ []) in
@@ -101,6 +107,7 @@ fields_more ms m =
 abbrev pub IsNoContainer : Payload → Type 0
 IsNoContainer q = layer_nodes (views.out-Payload q) ≡ 1
 
+-- what is no container has one node, and one more for each annotation
 pub flat_nodes : (ss : Symbols) (q : Payload) → IsNoContainer q → nodes (annotated ss q) ≡ length ss + 1
 flat_nodes ss q h = let n = nodes-out (annotated ss q) in omega (arith, n, h)
 

@@ -93,6 +93,7 @@ token_fine m s ends'.Blank x f h = absurd (let n : Ok None ≡ Ok (Some x) = h i
 token_fine m s (ends'.Token kind k) x f h = subst (KindFine m) (ap (λ y. kind_in y x.kind) h) f
 token_fine m s (ends'.Refuse e) x f h = absurd cc
 
+-- a token that the end ends is no segment and no close, and quoted only where quotes are open
 pub at_end_fine : (p : Place) (s : Known) (x : Lexeme) → at_end p s ≡ Ok (Some x) → KindFine s.mode x.kind
 at_end_fine p s x h = token_fine s.mode s (end_of p s.mode) x (end_fine p s.mode) h
 
@@ -114,6 +115,7 @@ abbrev answered : Option Value → Result (Option Value) Refusal
 answered last = Ok last
 
 module _ (g : Catalog) (l : Limits) where
+  -- where no item is open, no tokens of one have come
   pub no_item : (S : Scans) (u : List ℕ) (vs : List Value) (s : Known) (r : Reading) (ahead : List ℕ) (A : Type 0) → (b : Behind g l S u vs s r ahead A)
       → is_fresh r ≡ true → b.item ≡ []
   no_item S u vs s r ahead A b h = fresh_empty r.start r.context r.frames r.notes r.now b.item h b.stands
@@ -130,6 +132,7 @@ module _ (g : Catalog) (l : Limits) where
         pieces = b.pieces;
       }
 
+  -- the end accepts nothing that is refused late
   pub late_never : (used : ℕ) (e : Reason) (last : Option Value) → end_late used e ≡ Ok last → ⊥
   late_never used reasons.Depth last h = cc
   late_never used _ last h = cc

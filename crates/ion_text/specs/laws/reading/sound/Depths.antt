@@ -57,24 +57,30 @@ GoesDeep n (late e r) = Unit {0}
 abbrev pub Flat : Symbols → Payload → Type 0
 Flat ss q = depth (annotated ss q) ≡ 0
 
+-- a null has no value inside
 pub flat_null : (ss : Symbols) (k : _) → Flat ss (payloads.Null k)
 flat_null ss k = depth-at (annotated ss (payloads.Null k)) _ refl ∙ ap layer_depth (views.outs-Null k)
 
 flat_truth : (ss : Symbols) (b : _) → Flat ss (payloads.Truth b)
 flat_truth ss b = depth-at (annotated ss (payloads.Truth b)) _ refl ∙ ap layer_depth (views.outs-Truth b)
 
+-- a symbol has no value inside
 pub flat_symbol : (ss : Symbols) (s : _) → Flat ss (payloads.Symbol s)
 flat_symbol ss s = depth-at (annotated ss (payloads.Symbol s)) _ refl ∙ ap layer_depth (views.outs-Symbol s)
 
+-- a string has no value inside
 pub flat_text : (ss : Symbols) (w : _) → Flat ss (payloads.Str w)
 flat_text ss w = depth-at (annotated ss (payloads.Str w)) _ refl ∙ ap layer_depth (views.outs-Str w)
 
+-- a clob has no value inside
 pub flat_clob : (ss : Symbols) (w : _) → Flat ss (payloads.Clob w)
 flat_clob ss w = depth-at (annotated ss (payloads.Clob w)) _ refl ∙ ap layer_depth (views.outs-Clob w)
 
+-- a blob has no value inside
 pub flat_blob : (ss : Symbols) (w : _) → Flat ss (payloads.Blob w)
 flat_blob ss w = depth-at (annotated ss (payloads.Blob w)) _ refl ∙ ap layer_depth (views.outs-Blob w)
 
+-- a number has no value inside
 pub flat_number : (ss : Symbols) (n : Number) → Flat ss (number_payload n)
 flat_number ss (numbers.Int z) = depth-at (annotated ss (payloads.Int z)) _ refl ∙ ap layer_depth (views.outs-Int z)
 flat_number ss (numbers.Decimal z) = depth-at (annotated ss (payloads.Decimal z)) _ refl ∙ ap layer_depth (views.outs-Decimal z)
@@ -84,6 +90,7 @@ pub payload_in : Result Payload Reason → Payload → Payload
 payload_in (Ok q) d = q
 payload_in (Err e) d = d
 
+-- what is held has no value inside
 pub flat_held : (ss : Symbols) (h : Held) (q : Payload) → held_payload h ≡ Ok q → Flat ss q
 unfolding payload_in
 flat_held ss (helds.Symbol s) q e = subst (Flat ss) (ap (λ x. payload_in x q) e) (flat_symbol ss s)

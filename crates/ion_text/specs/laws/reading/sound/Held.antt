@@ -52,9 +52,11 @@ NoSegment top (Given x s) = is_segment x.kind ≡ false
 NoSegment top (Left x s) = (top && is_quoted x.kind) ≡ false
 NoSegment top (Refused n e) = Unit {0}
 
+-- what comes of this octet goes on with no long string
 abbrev pub ApartAt : ℕ → Known → Reading → Type 0
 ApartAt o s r = NoSegment (is_top r.frames) (feed (place r) s o)
 
+-- where a token has begun that becomes no segment, the next octet goes on with no long string
 pub open_apart : (top : Bool) (p : Place) (s : Known) (o : ℕ) → is_sane s.mode ≡ true → Fine s → NoLongText s.mode → NoSegment top (feed p s o)
 open_apart top p s o h f k = go (feed p s o) (feed_follows p s o h) (feed_fine p s o f)
   where
@@ -64,6 +66,7 @@ open_apart top p s o h f k = go (feed p s o) (feed_follows p s o h) (feed_fine p
     go (Left x t) a b = both_not top (is_quoted x.kind) (b.2 k.1)
     go (Refused n e) a b = tt
 
+-- where neither of two tests holds, each of them fails
 pub or_parts : (a b : Bool) → (a || b) ≡ false → (a ≡ false) × (b ≡ false)
 or_parts false false h = (refl, refl)
 or_parts false true h = absurd cc
@@ -85,6 +88,7 @@ name_apart top (Refused n e) t h = tt
 
 -- of tokens in a row
 
+-- tokens end in a long string just where the last of them is a segment
 pub last_long : (ts : List Placed) (t : Placed) → ends_long (ts ++ t ∷ []) ≡ is_long t
 last_long [] t = refl
 last_long (x ∷ []) t = refl
@@ -95,10 +99,12 @@ abbrev pub IsFirst : List Placed → ℕ → Type 0
 IsFirst [] n = Unit {0}
 IsFirst (t ∷ ts) n = t.lexeme.start ≡ n
 
+-- there is a token
 abbrev pub IsSome : List Placed → Type 0
 IsSome [] = ⊥
 IsSome (t ∷ ts) = Unit {0}
 
+-- tokens with one among them aren't none
 pub some_more : (ts us : List Placed) (t : Placed) → IsSome (ts ++ t ∷ us)
 some_more [] us t = tt
 some_more (x ∷ ts) us t = tt
@@ -127,10 +133,12 @@ opened_some c (frames.Items listing ss vs ∷ fs) more o = absurd (no_middle o.f
 opened_some c (frames.Fields ss ms ∷ fs) more o = absurd (no_middle o.front o.notes o.body o.open' o.whole)
 opened_some c (frames.Named ss ms s ∷ fs) more o = absurd (no_middle o.front o.notes (o.body ++ (o.name ++ o.colon ∷ [])) o.open' o.whole)
 
+-- where there are no tokens, there are no annotations
 pub no_notes : (c : List Slot) (p : Place) (ts : List Placed) (ss : Symbols) → Annotations c p ts ss → [] ≡ ts → ss ≡ []
 no_notes c p _ _ no_annotation e = refl
 no_notes c p _ _ (one_annotation ts ss t colons said s d i j k) e = absurd (no_middle [] ts (colons ∷ []) t e)
 
+-- where there are no annotations, there are no tokens of them
 pub none_noted : (c : List Slot) (p : Place) (ts : List Placed) (ss : Symbols) → Annotations c p ts ss → ss ≡ [] → ts ≡ []
 none_noted c p _ _ no_annotation e = refl
 none_noted c p _ _ (one_annotation ts ss t u said s d h i j) e = absurd (none ss e)
@@ -139,6 +147,7 @@ none_noted c p _ _ (one_annotation ts ss t u said s d h i j) e = absurd (none ss
     none [] e = cc
     none (x ∷ ss) e = cc
 
+-- where a field's name may come, tokens have come
 pub name_some : (c : List Slot) (fs : List Frame) (ts : List Placed) → Opened c fs ts true → IsStruct fs → [] ≡ ts → ⊥
 name_some c (frames.Fields ss ms ∷ fs) ts o k e = no_middle o.front o.notes o.body o.open' (e ∙ o.whole)
 name_some c [] ts o k e = k
@@ -422,6 +431,7 @@ module _ (g : Catalog) (l : Limits) where
             ∙ (last_long (b.front ++ b.item) (placed (place r) x) ∙ k)) ∙ i in cc))
             (turn g l r (token_of x c))
 
+  -- what follows for each reading follows for the one that a turn leads to
   pub map_turn : (P Q : Reading → Type 0) → ((r : Reading) → P r → Q r) → (t : Turn) → Leading g l P t → Leading g l Q t
   map_turn P Q f (goes r) h = f r h
   map_turn P Q f (gives v r) h = f r h
@@ -516,6 +526,7 @@ module _ (g : Catalog) (l : Limits) where
       fine = b.fine;
     }
 
+    -- where what waited is settled by the end, what the reader holds stands for the octets still
     pub settled_end : (r : Reading) → Behind S u vs s r ahead A → Reads S u vs s ahead (λ n. Unit {0}) (settle g l r)
     settled_end r b = go r.now refl
       where

@@ -41,6 +41,7 @@ other_word t said n m h = go t.lexeme.kind h
     go kinds.Blob h = refl
     go (kinds.Mark m) h = refl
 
+-- where the second of two tests fails, they don't hold together
 pub both_not : (a b : Bool) → b ≡ false → (a && b) ≡ false
 both_not true b h = h
 both_not false b h = refl
@@ -88,6 +89,7 @@ pub more_words : (t : Placed) (us : List Placed) (u : Placed) → is_version_wor
 more_words t [] u = refl
 more_words t (x ∷ us) u = refl
 
+-- segments are no word of the form of a version marker
 pub segments_no_word : (p : Place) (ts : List Placed) (w : List ℕ) → Segments p ts w → is_version_word ts ≡ false
 segments_no_word p _ _ (segment t w h) = other_word t (Long w) (λ v e. cc) (λ id e. cc) h.body
 segments_no_word p _ _ (joined [] v w t d h) = other_word t (Long w) (λ v e. cc) (λ id e. cc) h.body
@@ -125,6 +127,7 @@ unmarked_word w h = go (bytes_eq w (codes "null")) (bytes_eq w (codes "true")) (
     go false false false false true i j k m n h = absurd cc
     go false false false false false i j k m n h = n
 
+-- a word that is held as no version marker has not the form of one
 pub word_no_word : (t : Placed) (w : List ℕ) → IsBody t.lexeme.kind t.lexeme.octets (Ok (Word w)) → is_unmarked (held_word w) ≡ true → is_version_word (t ∷ [])
     ≡ false
 word_no_word t w h n = let e = word_token t.lexeme.kind t.lexeme.octets w h in

@@ -47,6 +47,7 @@ quotes_fit n q (actions.Give kind k) = not (is_quoted kind) || nat_le 2 n
 quotes_fit n q (actions.Before kind k m) = (is_left_in m && not (is_segment kind)) && ((not (is_quoted kind) || q) && not (is_close kind))
 quotes_fit n q _ = true
 
+-- where a number is at most another, the test says so
 pub le_to : (a b : ℕ) → a ≤ b → nat_le a b ≡ true
 le_to a b h = grind (arith, nat_tests)
 
@@ -67,6 +68,7 @@ Finely m (Left l s) = Fine s × (is_segment l.kind ≡ false) × (is_quoting m �
     × ((is_idle s.mode ≡ true) ⊎ (l.kind ≡ kinds.Operator)) × (is_close l.kind ≡ false) × (l.end ≤ s.used)
 Finely m (Refused n e) = Unit {0}
 
+-- where the test says so, a number is at most another
 pub le_of : (a b : ℕ) → nat_le a b ≡ true → a ≤ b
 le_of a b h = grind (arith, nat_tests)
 
@@ -74,6 +76,7 @@ not_true : (b : Bool) → not b ≡ true → b ≡ false
 not_true false h = refl
 not_true true h = absurd cc
 
+-- where a test holds that implies another, the other holds
 pub implies : (a b : Bool) → (not a || b) ≡ true → a ≡ true → b ≡ true
 implies true b h e = h
 implies false b h e = absurd cc
@@ -143,6 +146,7 @@ given_far x h = go x.kind h
     go kinds.QuotedSymbol k = far x.start x.end (k refl)
     go _ k = refl
 
+-- a token that isn't quoted is no `''`
 pub left_none : (k : TokenKind) (start end : ℕ) → is_quoted k ≡ false → is_two_quotes k start end ≡ false
 left_none kinds.QuotedSymbol start end h = absurd cc
 left_none _ start end h = refl

@@ -104,6 +104,7 @@ long_behind c (frames.Fields ss ms ∷ fs) ts o = false
 long_behind c (frames.Named ss ms s ∷ fs) ts o = false
 long_behind c [] ts o = false
 
+-- two tests fail together where the second does
 pub and_false : (b x : Bool) → x ≡ false → (b && x) ≡ false
 and_false false x h = refl
 and_false true x h = h
@@ -113,11 +114,13 @@ pub no_segment : (k : TokenKind) (octets : List ℕ) (said : Content) → ((w : 
 no_segment kinds.LongString octets said n h = absurd (n octets h.0)
 no_segment _ octets said n h = refl
 
+-- no symbol is a segment
 pub symbol_no_long : (c : List Slot) (said : Content) (s : Option (List ℕ)) → IsSymbol c said s → (w : List ℕ) → said ≡ Long w → ⊥
 symbol_no_long c _ _ (is_word v h) w e = cc
 symbol_no_long c _ _ (is_id id s h) w e = cc
 symbol_no_long c _ _ (is_quoted v) w e = cc
 
+-- a token that says no segment is none
 pub not_long : (p : Place) (t : Placed) (said : Content) → Says p t said → ((w : List ℕ) → said ≡ Long w → ⊥) → is_long t ≡ false
 not_long p t said h n = no_segment t.lexeme.kind t.lexeme.octets said n h.body
 
@@ -129,6 +132,7 @@ notes_not_long c p _ us _ t (one_annotation ts ss a colons said s d i j k) h =
     ap begins_long (append_assoc ts (a ∷ colons ∷ []) (t ∷ us))
     ∙ notes_not_long c p ts (colons ∷ t ∷ us) ss a d (not_long p a said i (symbol_no_long c said s j))
 
+-- whether an item begins with a long string is seen from its first segments
 pub begins_long_more : (notes segments us : List Placed) (p : Place) (w : List ℕ) → Segments p segments w → begins_long (notes ++ (segments ++ us))
     ≡ begins_long (notes ++ segments)
 begins_long_more (n ∷ notes) segments us p w d = refl
@@ -142,6 +146,7 @@ pub record HoldsWhatIsSaid (c : List Slot) (said : Content) (h : Held) : Type 0 
   pub marker : (s : Option (List ℕ)) → h ≡ helds.Version true s → said ≡ Word the_marker
   pub note : (s : Option (List ℕ)) → held_symbol h ≡ Ok s → IsSymbol c said s
 
+-- the open item's tokens where a value may come: those of its containers, and annotations of the value
 pub record ReadyFor (c : List Slot) (fs : List Frame) (ss : Symbols) (ts : List Placed) : Type 0 where
   pub front : List Placed
   pub notes : List Placed
@@ -177,6 +182,7 @@ module _ (c : List Slot) (fs : List Frame) (ss : Symbols) (bracket : Bracket) wh
   whole_behind Body ts us o = ap (λ x. x ++ us) o.whole ∙ (append_assoc o.front (o.notes ++ (o.open' ∷ o.body)) us
       ∙ ap (λ x. o.front ++ x) (append_assoc o.notes (o.open' ∷ o.body) us))
 
+  -- the tokens of an open container go on, where those in it do
   pub more_around : (Body More : List Placed → Type 0) (ts us : List Placed) (o : Around c fs ss ts bracket (λ front. Opened c fs front true) Body)
       → More (o.body ++ us) → Around c fs ss (ts ++ us) bracket (λ front. Opened c fs front true) More
   more_around Body More ts us o more = record {
@@ -208,6 +214,7 @@ IsHeld c (Quoted w) h = h ≡ helds.Symbol (Some w)
 IsHeld c (TypedNull k) h = h ≡ helds.Null k
 IsHeld c _ h = Unit {0}
 
+-- the open item's tokens where the last of them waits for `::`, which would make it an annotation
 pub record PendingFor (c : List Slot) (fs : List Frame) (ss : Symbols) (h : Held) (ts : List Placed) : Type 0 where
   pub before : List Placed
   pub ready : ReadyFor c fs ss before
@@ -221,6 +228,7 @@ pub record PendingFor (c : List Slot) (fs : List Frame) (ss : Symbols) (h : Held
   pub known : IsHeld c said h
   pub unmarked : is_unmarked h ≡ true → is_version_word (token ∷ []) ≡ false
 
+-- the open item's tokens where the last of them are a long string that waits for a further segment
 pub record LongFor (c : List Slot) (fs : List Frame) (ss : Symbols) (w : List ℕ) (ts : List Placed) : Type 0 where
   pub before : List Placed
   pub ready : ReadyFor c fs ss before
@@ -229,6 +237,7 @@ pub record LongFor (c : List Slot) (fs : List Frame) (ss : Symbols) (w : List �
   pub are : Segments (value_place fs) segments w
   pub apart : (long_behind c fs ready.front ready.outer && begins_long (ready.notes ++ segments)) ≡ false
 
+-- the open item's tokens where the last of them are a field's name of this sort
 pub record NameFor (c : List Slot) (fs : List Frame) (P : List Placed → Type 0) (ts : List Placed) : Type 0 where
   pub before : List Placed
   pub name : List Placed
@@ -237,6 +246,7 @@ pub record NameFor (c : List Slot) (fs : List Frame) (P : List Placed → Type 0
   pub struct : IsStruct fs
   pub is : P name
 
+-- what the reader holds of the open item stands for these tokens
 abbrev pub NowStands : List Slot → List Frame → Symbols → List Placed → Now → Type 0
 NowStands c fs ss ts nows.Ready = ReadyFor c fs ss ts
 NowStands c fs ss ts (nows.Pending h end) = PendingFor c fs ss h ts
@@ -246,6 +256,7 @@ NowStands c fs ss ts nows.Name = Opened c fs ts true × IsStruct fs
 NowStands c fs ss ts (nows.LongName w) = NameFor c fs (λ n. Segments places.Name n w) ts
 NowStands c fs ss ts (nows.Keyed s) = NameFor c fs (λ n. IsName c n s) ts
 
+-- the same with the context of symbols
 abbrev pub ReadingStands : List Slot → Reading → List Placed → Type 0
 ReadingStands c r ts = (r.context ≡ c) × NowStands c r.frames r.notes ts r.now
 
@@ -323,6 +334,7 @@ word_stood c w = go (bytes_eq w (codes "null")) (bytes_eq w (codes "true")) (byt
           λ s h. subst (IsSymbol c (Word w)) (let n : Some w ≡ s = cc in n) (symbol false false false false i j k m);
     }
 
+-- a symbol that is held stands for what is said
 pub symbol_stood : (c : List Slot) (said : Content) (s : Option (List ℕ)) → IsSymbol c said s → HoldsWhatIsSaid c said (helds.Symbol s)
 symbol_stood c said s d = record {
   value = λ q h. subst (IsScalar c said) (let n : payloads.Symbol s ≡ q = cc in n) (is_symbol said s d);
@@ -331,6 +343,7 @@ symbol_stood c said s d = record {
   note = λ t h. subst (IsSymbol c said) (let n : s ≡ t = cc in n) d;
 }
 
+-- where there are no annotations there are no tokens of any
 pub no_note : (c : List Slot) (p : Place) (notes : List Placed) → Annotations c p notes [] → notes ≡ []
 no_note c p _ a = go _ [] a refl
   where

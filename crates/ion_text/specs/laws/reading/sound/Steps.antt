@@ -173,6 +173,7 @@ module _ (g : Catalog) (l : Limits) where
             (or_parts (waits r (feed (place r) s o)) (in_segment r.now s) e).0)
             (places_only r.frames r.now (settle g l r) (settle_same g l r.start r.context r.frames r.notes r.now))
 
+    -- an octet leads from what stands for octets to what stands for these and the octet
     pub takes_after : (n : ℕ) (s : Known) (r : Reading) (ahead : List ℕ) → Continues (o ∷ []) ahead → Behind g l Scanned u vs s r ahead (ApartAt o s r)
         → After u vs o (takes g l n (with_scan s r) o)
     takes_after zero s r ahead c b = tt
@@ -254,6 +255,7 @@ module _ (g : Catalog) (l : Limits) where
       (λ xs n h. subst (λ x. StoodBehind x xs (run g l (to + 1) n os)) (append_assoc u (o ∷ []) os) (run_ran os (u ++ o ∷ []) xs (to + 1) n h))
       (eats g l m o) (b.front, m.reading.context, b.pieces) (eats_after u vs m o b)
 
+  -- a reader that begins stands for no octets and no values
   pub begun_stood : Stood [] [] begun
   begun_stood =
       nothing_open g l Scanned [] [] initial system_slots [] [] (NoLongText initial.mode)

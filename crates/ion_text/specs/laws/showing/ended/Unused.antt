@@ -49,6 +49,7 @@ use Rattle.ion_visiting.specs.declared.bracket.Bracket.TheVariants as brackets
 
 -- 1. What an octet does where neither a quoted text nor a lob is open, nor a brace that may begin a lob.
 
+-- neither a quoted text nor a lob is open, nor what may begin one
 abbrev pub is_plain : Mode → Bool
 is_plain modes.Quote = false
 is_plain (modes.Text s w) = false
@@ -282,6 +283,7 @@ module _ (g : Catalog) (l : Limits) where
 
 -- 3. What an octet does there: if a value comes, the octet isn't used.
 
+-- if a value comes, the octet isn't used to give it
 abbrev pub IsUntold : Effect → Type 0
 IsUntold (tells v m) = ⊥
 IsUntold (uses m) = Unit {0}
@@ -349,6 +351,7 @@ module _ (g : Catalog) (l : Limits) where
         go false = settled_untold m.scan x (settle g l m.reading)
             (settled_stays g l m.reading.start m.reading.context m.reading.frames m.reading.notes m.reading.now a.0 a.1) p
 
+  -- at the top level, where neither quotes nor a lob are open, an octet isn't used to give a value
   pub takes_untold : (n o : ℕ) (m : State) → is_plain m.scan.mode ≡ true → AtTop m.reading → IsUntold (takes g l n m o)
   takes_untold zero o m p a = tt
   takes_untold (suc n) o m p a = octet_untold (λ k. takes g l n k o) (λ k. takes_untold n o k) m (feed (place m.reading) m.scan o) a
@@ -427,6 +430,7 @@ IsGiven (refuses e) = ⊥
 IsGiven (late e r) = ⊥
 
 module _ (g : Catalog) (l : Limits) where
+  -- where nothing waits, an end that ends no token gives no value
   pub no_value : (b : Bool) (used : ℕ) (v : Value) → (if b then Ok None else cut_short used) ≡ Ok (Some v) → ⊥
   no_value true used v h = let n : Ok None ≡ Ok (Some v) = h in cc
   no_value false used v h = cc
@@ -437,6 +441,7 @@ module _ (g : Catalog) (l : Limits) where
   given_end used (refuses e) v h = cc
   given_end used (late e r) v h = late_never g l used e (Some v) h
 
+  -- where the end gives a value that waited, no token ends with it, and settling gives the value
   pub waiting_end : (used : ℕ) (x : Result (Option Lexeme) Reason) (t : Turn) (v : Value) → end_waiting g l used x t ≡ Ok (Some v) → (x ≡ Ok None) × IsGiven t
   waiting_end used (Ok None) t v h = (refl, given_end used t v h)
   waiting_end used (Ok (Some x)) (goes r) v h = absurd cc
@@ -488,6 +493,7 @@ module _ (g : Catalog) (l : Limits) where
   brace_end used start c [] ss (nows.LongName w) begin end v t i h = i
   brace_end used start c [] ss (nows.Keyed s) begin end v t i h = i
 
+  -- no container is open, and neither a quoted text nor a lob, nor what may begin one
   abbrev pub StandsSo : Known → Reading → Type 0
   StandsSo s r = (is_plain s.mode ≡ true) × AtTop r
 
@@ -540,6 +546,7 @@ module _ (g : Catalog) (l : Limits) where
       let w = waiting_end used (at_end (place (at start c fs ss now)) s) (settle g l (at start c fs ss now)) v h in
       (blank_plain (place (at start c fs ss now)) s w.0, (settled_top start end fs (settle g l (at start c fs ss now)) k w.1, i))
 
+  -- where the end gives a value, no container is open, and neither a quoted text nor a lob
   pub ends_so : (s : Known) (start : ℕ) (c : List Slot) (fs : List Frame) (ss : Symbols) (now : Now) (v : Value) → (is_top fs ≡ true → IsTopNow now)
       → ends g l (record { scan = s; reading = at start c fs ss now }) ≡ Ok (Some v) → StandsSo s (at start c fs ss now)
   ends_so s start c fs ss (nows.Pending k e) v ok h = waits_so s.used s start c fs ss (nows.Pending k e) e v tt

@@ -151,6 +151,7 @@ module _ (g : Catalog) (l : Limits) (u : List ℕ) (o : ℕ) (vs : List Value) (
         go (nows.LongName q) f j = j
         go (nows.Keyed q) f j = j
 
+    -- where something waits and the octet is refused, the tokens told end no piece that remains one
     pub item_end : ⊥
     item_end = by h.stops
       where

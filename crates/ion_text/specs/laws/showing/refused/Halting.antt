@@ -69,6 +69,7 @@ module _ (g : Catalog) (l : Limits) (u : List ℕ) (o : ℕ) (vs : List Value) (
     pub are : AreOctets octets
     pub ends : (z : Lexeme) → Is p z (run p (o ∷ octets) s) → z.end ≤ s.used → (t : Known) × (feed p s o ≡ Left z t)
 
+  -- there are octets behind a refused one that end no token which ended in front, but one that it leaves
   pub chosen : Chosen
   chosen = go (feed p s o) refl
     where

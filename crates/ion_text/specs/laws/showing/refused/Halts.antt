@@ -36,10 +36,12 @@ use Rattle.ion_text.specs.laws.showing.shown.Symbols.{colon_free}
 use Rattle.ion_text.specs.laws.showing.tokens.Froms.{Waits, fresh_parts, idle_waits}
 use Rattle.ion_text.specs.laws.showing.tokens.Cuts.{Keeps, feed_keeps}
 
+-- where no token has begun, no text of a long string is open
 pub idle_no_text : (m : Mode) → is_idle m ≡ true → is_long_text m ≡ false
 idle_no_text (modes.Text s w) h = absurd cc
 idle_no_text _ h = refl
 
+-- where no quotes are open, no text of a long string is
 pub quoting_no_text : (m : Mode) → is_quoting m ≡ false → is_long_text m ≡ false
 quoting_no_text m h = go (is_long_text m) refl
   where
@@ -53,10 +55,12 @@ NotColons (Next t) = is_idle t.mode ≡ false
 NotColons (Given x t) = is_colons x.kind ≡ false
 NotColons _ = Unit {0}
 
+-- a token that is no mark is no `::`
 pub mark_colons : (k : TokenKind) → is_mark k ≡ false → is_colons k ≡ false
 mark_colons (kinds.Mark m) h = absurd cc
 mark_colons _ h = refl
 
+-- an octet for which no symbol waits doesn't go on behind one
 pub symbol_colons : (x : Outcome) → symbol_waits x ≡ false → NotColons x
 symbol_colons (Next t) h = h
 symbol_colons (Given x t) h = h
@@ -95,6 +99,7 @@ module _ (g : Catalog) (l : Limits) where
   StopsAt s r x = (((unsettled s r x ≡ true) ⊎ (settle g l r ≡ goes r)) × ScanRefused r x) ⊎ ((unsettled s r x ≡ false) × TurnRefuses (settle g l r))
 
   module _ (u : List ℕ) (o : ℕ) where
+    -- what the reader holds stands for the octets before this one, which goes on with no long string
     abbrev pub Before : List Value → Known → Reading → List ℕ → Type 0
     Before vs s r ahead = Behind g l Scanned u vs s r ahead (ApartAt o s r)
 
@@ -104,6 +109,7 @@ module _ (g : Catalog) (l : Limits) where
       pub waits : is_top r.frames ≡ true → Waits g l s r.now
       pub bare : is_fresh r ≡ true → ends_long b.front ≡ true → is_long_text s.mode ≡ false
 
+    -- what stands for the octets before a refused one, once it has ended tokens, and what refuses it there
     pub record Halted (vs : List Value) : Type 0 where
       pub s : Known
       pub r : Reading
@@ -123,6 +129,7 @@ module _ (g : Catalog) (l : Limits) where
       pub colon : (y : Lexeme) (t : Known) → feed (place m.reading) m.scan o ≡ Left y t → y.kind ≡ kinds.Mark marks.Colon
 
     module _ (vs : List Value) where
+      -- where the octet ends a value before it, or is refused, this is what stands for the octets then
       abbrev pub Chain : Effect → Type 0
       Chain (uses m) = Unit {0}
       Chain (tells v m) = Unit {0}
@@ -135,6 +142,7 @@ module _ (g : Catalog) (l : Limits) where
       chain_by (leaves v m) n f = absurd n
       chain_by (fails e) n f = f e refl
 
+      -- an octet that is refused late is refused where the reader stands, whatever it does then
       pub worse_chain : (e : Reason) (x : Effect) → Halted vs → Chain (or_worse e x)
       worse_chain e (fails f) h = h
       worse_chain e (uses m) h = h

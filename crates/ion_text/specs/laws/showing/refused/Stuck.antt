@@ -147,6 +147,7 @@ module _ (g : Catalog) (l : Limits) where
       still : settle g l r ≡ goes r
       still = ap (settle g l) whole_reading ∙ ap goes (sym whole_reading)
 
+      -- where no item is open and the octet is refused, a token that it leaves begins no piece
       pub fresh_left : ⊥
       fresh_left = by h.stops
         where

@@ -182,6 +182,7 @@ module _ (l : Limits) (r : Reading) (t : Known) where
       (subst (λ (fs : List Frame). reaches fs r t ≤ l.item) (sym top)
       (subst (λ (m : Now). longest_top r.start t.used m r.notes (begun_in t) (is_long_begun (begun_in t)) ≤ l.item) (sym n) (omega (arith, fits)))) e f
 
+  -- a long string that waits at the top level within the limit is refused at no octet outside its segments
   pub long_fits : r.frames ≡ [] → (w : List ℕ) (end : ℕ) → r.now ≡ nows.Long w end → end ≤ r.start + l.item → is_long_text t.mode ≡ false → (e : Reason)
       → noticed l r t ≡ fails e → ⊥
   long_fits top w end n fits text e f =

@@ -60,6 +60,7 @@ module _ (g : Catalog) (l : Limits) (u : List ℕ) (o : ℕ) (vs : List Value) (
   abbrev A : Type 0
   A = ApartAt o h.s h.r
 
+  -- the scanner has used the octets before the refused one, and no more
   pub used : s.used ≡ length u
   used = behind_used g l u vs s r h.ahead A h.b
 
@@ -286,6 +287,7 @@ module _ (g : Catalog) (l : Limits) (u : List ℕ) (o : ℕ) (vs : List Value) (
               (closes_past (λ s octets. Unit {0}) g l (length u) n (o ∷ following) zs found fine.0 operators (omega (arith, kept, used))
               (omega (arith, kept, used)) m others i q)
 
+      -- where an item is open and the octet is refused, a token that it leaves goes on in no piece
       pub item_left : ⊥
       item_left = go (is_top r.frames) refl
         where

@@ -31,6 +31,7 @@ use Rattle.ion_text.specs.laws.showing.shown.Symbols.{HasBegun}
 abbrev pub front_end : Known → Reading → ℕ
 front_end s r = if is_fresh r then start_of s.mode s.start s.used else r.start
 
+-- where no container is open, nothing noted and a value may come, no item is open
 pub fresh_is : (start : ℕ) (c : List Slot) (fs : List Frame) (ss : Symbols) (now : Now) → fs ≡ [] → ss ≡ [] → now ≡ nows.Ready → is_fresh (at start c fs ss now)
     ≡ true
 fresh_is start c fs ss now a b d = ap (λ x. is_fresh (at start c x ss now)) a
@@ -64,6 +65,7 @@ module _ (g : Catalog) (l : Limits) where
     abbrev pub k : OpenBehind p s u (b.front ++ b.item) ahead
     k = behind_tokens p s u (b.front ++ b.item) ahead b.scanned
 
+    -- octets that go on with the one ahead do so whatever follows them
     pub continues : (following : List ℕ) → Continues (more ++ following) ahead
     continues following = (next.0 ++ following, ap (λ x. x ++ following) next.1 ∙ append_assoc ahead next.0 following)
 
@@ -271,6 +273,7 @@ module _ (g : Catalog) (l : Limits) where
             (e ∙ append_assoc w (codes "''") more) in
             quotes_never (place m.reading) shut.colon x.now (shut.end + length w) x.token following more m.scan x.same x.ran i.0 i.1
 
+    -- where no octet is refused, whole pieces stand in front of the open item, whatever follows
     pub stood_front : Fronted u vs m.scan m.reading
     stood_front = subst (λ x. Fronted x vs m.scan m.reading) (append-nil u)
         (front_before u vs m.scan m.reading [] [] open' b ([], refl) begun_colons begun_quotes)

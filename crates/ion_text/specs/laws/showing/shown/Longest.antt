@@ -54,6 +54,7 @@ module _ (g : Catalog) (l : Limits) (u : List ℕ) (vs : List Value) (s : Known)
   abbrev p : Place
   p = place r
 
+  -- the tokens that the scanner was told of, and what is open behind them
   abbrev pub k : OpenBehind p s u (b.front ++ b.item) ahead
   k = behind_tokens p s u (b.front ++ b.item) ahead b.scanned
 
@@ -66,9 +67,11 @@ module _ (g : Catalog) (l : Limits) (u : List ℕ) (vs : List Value) (s : Known)
 
   -- whole pieces at the front of the octets, before octets that follow
   module _ (v rest following : List ℕ) (t : List Value) (cut : u ≡ v ++ rest) (w : Whole g l v (rest ++ following) t) where
+    -- the front and what follows it are the octets and what follows them
     pub octets : v ++ (rest ++ following) ≡ u ++ following
     octets = sym (append_assoc v rest following) ∙ ap (λ x. x ++ following) (sym cut)
 
+    -- the tokens of the whole pieces are those of the octets and what follows
     pub theirs : LexesTo false 0 (u ++ following) w.tokens w.colon w.end (w.blank ++ (rest ++ following))
     theirs = subst (λ x. LexesTo false 0 x w.tokens w.colon w.end (w.blank ++ (rest ++ following))) octets w.lexed
 
@@ -82,9 +85,11 @@ module _ (g : Catalog) (l : Limits) (u : List ℕ) (vs : List Value) (s : Known)
         (lexes_operators (λ a b' o. (a ≡ c) × (b' ≡ e) × (o ≡ left)) b.front false 0 (u ++ following) ours) (whole_operators g l v (rest ++ following) t w)
         (fresh system_slots) vs t pieces_going (whole_going g l v (rest ++ following) t w)
 
+    -- the whole pieces end where the blank behind their tokens does
     pub size : w.end + length w.blank ≡ length v
     size = whole_ends g l v (rest ++ following) t w
 
+    -- the whole pieces have no more octets than there are
     pub long : length v ≤ length u
     long = omega (arith, ap length cut, length-append v rest)
 

@@ -64,6 +64,7 @@ lexed_from n [] colon before octets after end rest g l k h = tt
 lexed_from n (t ∷ ts) colon before octets after end rest g l k (q, b, h) =
     (omega (arith, k, b.start), lexed_from n ts (colon_behind t) t.lexeme.end q after end rest g l (omega (arith, k, b.end)) h)
 
+-- a segment is the token of a long string
 pub segment_is : (k : TokenKind) → is_segment k ≡ true → k ≡ kinds.LongString
 segment_is kinds.LongString h = refl
 segment_is _ h = absurd cc
@@ -83,10 +84,12 @@ pub colons_token : (p : Place) (colon : Bool) (w r : List ℕ) (k : TokenKind) (
     → (w ≡ codes "::") × (colon ≡ true)
 colons_token p colon w r k kept h e = let i = subst (λ x. IsLexeme p colon w r x kept) e h in (i.1, i.2)
 
+-- a segment of a long string begins with `''`
 pub long_token : (p : Place) (colon : Bool) (w r : List ℕ) (k : TokenKind) (kept : List ℕ) → IsLexeme p colon w r k kept → k ≡ kinds.LongString → (x : List ℕ)
     × (w ≡ codes "''" ++ x)
 long_token p colon w r k kept h e = let i = subst (λ x. IsLexeme p colon w r x kept) e h in (39 ∷ (i.0 ++ codes "'''"), i.2)
 
+-- a quoted symbol of two octets is `''`
 pub quoted_token : (p : Place) (colon : Bool) (w r : List ℕ) (k : TokenKind) (kept : List ℕ) → IsLexeme p colon w r k kept → k ≡ kinds.QuotedSymbol
     → length w ≡ 2 → w ≡ codes "''" ++ []
 quoted_token p colon w r k kept h e n = let i = subst (λ x. IsLexeme p colon w r x kept) e h in by (i.0) (i.2)
@@ -142,6 +145,7 @@ module _ (g : Catalog) (l : Limits) (u : List ℕ) (vs : List Value) (s : Known)
   abbrev pub k : OpenBehind p s u (b.front ++ b.item) ahead
   k = behind_all g l u vs s r ahead A b used
 
+  -- an item is open
   pub new : is_fresh r ≡ false
   new = by (is_fresh r) refl
     where
@@ -149,6 +153,7 @@ module _ (g : Catalog) (l : Limits) (u : List ℕ) (vs : List Value) (s : Known)
       by false e = refl
       by true e = absurd (let n : [] ≡ x ∷ xs = sym (no_item g l Scanned u vs s r ahead A b e) ∙ some in cc)
 
+  -- the tokens of the open item lead the reader of tokens to where it stands
   pub a : Arrived g l r.context r.frames r.notes r.now b.item
   a = arrived g l r.context r.frames r.notes r.now b.item b.deep b.stands new
 
@@ -175,6 +180,7 @@ module _ (g : Catalog) (l : Limits) (u : List ℕ) (vs : List Value) (s : Known)
   read : reads g l (fresh system_slots) (b.front ++ b.item) ≡ walked (vs ++ []) a.r
   read = more_read g l b.front b.item vs r.context (pieces_read g l b.front vs r.context b.pieces) first b.first ∙ ap (adds_values vs) a.read
 
+  -- the open item begins where the first of its tokens does
   pub begins : starts g l 0 [] b.item ≡ r.start
   begins = subst (λ y. IsFirst y r.start → starts g l 0 [] y ≡ r.start) (sym some) (λ e. e) b.begins
 
@@ -197,15 +203,19 @@ module _ (g : Catalog) (l : Limits) (u : List ℕ) (vs : List Value) (s : Known)
 
   -- whole pieces at the front of the octets, before octets that go on with those ahead
   module _ (more : List ℕ) (c : Continues more ahead) (v rest : List ℕ) (t : List Value) (cut : u ≡ v ++ rest) (w : Whole g l v (rest ++ more) t) where
+    -- the tokens of the whole pieces are those of the octets and what follows
     pub theirs : LexesTo false 0 (u ++ more) w.tokens w.colon w.end (w.blank ++ (rest ++ more))
     theirs = their_tokens g l u vs s r ahead A b used v rest more t cut w
 
+    -- the whole pieces end where the blank behind their tokens does
     pub size : w.end + length w.blank ≡ length v
     size = their_size g l u vs s r ahead A b used v rest more t cut w
 
+    -- the whole pieces have no more octets than there are
     pub long : length v ≤ length u
     long = their_long g l u vs s r ahead A b used v rest more t cut w
 
+    -- the tokens that were told are those of the octets and what follows
     pub ours : LexesTo false 0 (u ++ more) (b.front ++ b.item) k.colon k.end (k.since ++ more)
     ours = k.lexes more c
 
@@ -351,9 +361,11 @@ module _ (g : Catalog) (l : Limits) (u : List ℕ) (vs : List Value) (s : Known)
           lexes_once (b.front ++ b.item) false 0 (u ++ more) k.colon w.colon k.end w.end (k.since ++ more) (w.blank ++ (rest ++ more)) ours
           (subst (λ z. LexesTo false 0 (u ++ more) z w.colon w.end (w.blank ++ (rest ++ more))) e theirs)
 
+      -- where the pieces have all tokens told, no `::` follows where a colon may stand
       pub no_colons : k.colon ≡ true → BlankThen (codes "::") (k.since ++ more) → ⊥
       no_colons h q = w.no_annotation (sym one_end.0 ∙ h) (subst (BlankThen (codes "::")) one_end.2 q)
 
+      -- where the pieces have all tokens told, no `''` follows a long string
       pub no_quotes : ends_long (b.front ++ b.item) ≡ true → BlankThen (codes "''") (k.since ++ more) → ⊥
       no_quotes h q = w.no_segment (ap ends_long e ∙ h) (subst (BlankThen (codes "''")) one_end.2 q)
 

@@ -333,6 +333,7 @@ module _ (g : Catalog) (l : Limits) where
   EndsStill (Ok n) = HasBegun n.scan n.reading
   EndsStill (Err e) = Unit {0}
 
+  -- where a token has begun behind each symbol that no longer waits, one has behind a run too
   pub run_still : (os u : List ℕ) (vs : List Value) (to : ℕ) (m : State) → Stood g l u vs m → HasBegun m.scan m.reading → EndsStill (run g l to m os).now
   run_still [] u vs to m b h = h
   run_still (o ∷ os) u vs to m b h = step (λ xs n c i. run_still os (u ++ o ∷ []) xs (to + 1) n c i) (eats g l m o) (eats_after g l u vs m o b)

@@ -429,5 +429,6 @@ module _ (g : Catalog) (l : Limits) (s : List Value) (ts : List Placed) (c : Lis
         };
       }
 
+-- a document is whole pieces, and behind them what may stand open
 pub document_pieces : (g : Catalog) (l : Limits) (u : List ℕ) (s : List Value) → Document g l u s → HasPieces (Whole g l) (λ front rest. OpenRest l rest) u s
 document_pieces g l u s d = let k = last_blank d.tokens false 0 u d.lexed in by_last g l s d.tokens d.context d.pieces u k k.is_last

@@ -45,6 +45,7 @@ start_from n modes.Blank start used h k = omega (arith, k)
 start_from n modes.Slash start used h k = omega (arith, k)
 start_from n _ start used h k = h
 
+-- where the next token begins at `n` or later, so does the one that a run ends or leaves open
 pub run_from : (p : Place) (os : List ℕ) (n : ℕ) (s : Known) → Fine s → n ≤ start_of s.mode s.start s.used → TokenFrom n (run p os s)
 run_from p [] n s f h = h
 run_from p (o ∷ os) n s f h = go (feed p s o) refl (feed_keeps p s o) (λ t i k. run_from p os n t i k)
@@ -102,6 +103,7 @@ begins_after colon k octets t r w more b plain is e =
     (subst (Is t.place t.lexeme) ran (one_found colon k octets t r b)) plain
 
 module _ (R : Known → List ℕ → Type 0) where
+  -- the scanner finds these tokens in the octets, and what it comes to where none is left is as `R` says
   abbrev pub Found' : Known → List ℕ → List Placed → Type 0
   Found' = FindsUpTo R (Unit {0})
 
@@ -165,6 +167,7 @@ module _ (R : Known → List ℕ → Type 0) where
         by true h = no_operator g l r t h c.0 ops.0 k
         by false h = inside (inside_token g l r t c.1 [] a h d c.2)
 
+    -- in a word behind which no octets come, this word is the one token, or there is none
     pub alone : (letters : List ℕ) (colon : Bool) (start used : ℕ) (ts : List Placed) → Found' (in_word letters colon start used) [] ts → (ts ≡ [])
         ⊎ ((w : Placed) × (ts ≡ w ∷ []) × (w.lexeme.kind ≡ kinds.Word) × (w.lexeme.end ≡ used))
     alone letters colon start used _ (Nothing _ _ f) = inl refl
@@ -179,6 +182,7 @@ module _ (R : Known → List ℕ → Type 0) where
     alone letters colon start used _ (Unclosed _ _ t ts s' c more bare e f first operator rest) =
         absurd (let h = ap (at_end t.place) (next_is (in_word letters colon start used) s' e) ∙ f in cc)
 
+    -- an operator behind which a word is open at the end goes on to no whole document
     pub unclosed_never : (t : Placed) (ts : List Placed) (letters : List ℕ) (colon : Bool) (start used : ℕ) (r : Reading) (a : List Value)
         → t.lexeme.kind ≡ kinds.Operator → Found' (in_word letters colon start used) [] ts → Operators (t ∷ ts) → Going g l r (t ∷ ts) a → ⊥
     unclosed_never t ts letters colon start used r a k f ops d = by (alone letters colon start used ts f)
@@ -202,6 +206,7 @@ module _ (R : Known → List ℕ → Type 0) where
     token_in (Ok (Some x)) d = x
     token_in _ d = d
 
+    -- tokens in the same place with the same lexeme are the same
     pub placed_same : (t u : Placed) → t.place ≡ u.place → t.lexeme ≡ u.lexeme → t ≡ u
     placed_same t u e f = ap (λ p. record { place = p; lexeme = t.lexeme }) e ∙ ap (λ x. record { place = u.place; lexeme = x }) f
 
@@ -224,6 +229,7 @@ module _ (R : Known → List ℕ → Type 0) where
           (token_once t ts us (rest us (subst (λ (z : Known). Found' z (drop (z.used - s.used) octets) us) j f) ops') r a b d
           (subst (λ z. Going g l r (z ∷ us) b) (sym (placed_same t u (here u us e) i)) e))
 
+    -- of two lists of tokens that go on to a document's end in the same octets, one is the front of the other
     pub compare : (s : Known) (octets : List ℕ) (ts : List Placed) → Found' s octets ts → (ws : List Placed) → Found' s octets ws → Operators ts → Operators ws
         → Same ts ws
     unfolding lexeme_in state_in token_in

@@ -38,6 +38,7 @@ pub record Parted (colon : Bool) (before : ℕ) (octets : List ℕ) (ts us : Lis
   pub first : LexesTo colon before octets ts flag mid left
   pub second : LexesTo flag mid left us after end rest
 
+-- where octets are tokens in two parts, they end in parts where those do
 pub parted : (ts us : List Placed) (colon : Bool) (before : ℕ) (octets : List ℕ) (after : Bool) (end : ℕ) (rest : List ℕ)
     → LexesTo colon before octets (ts ++ us) after end rest → Parted colon before octets ts us after end rest
 parted [] us colon before octets after end rest h = record { flag = colon; mid = before; left = octets; first = (refl, refl, refl); second = h }
@@ -69,6 +70,7 @@ parts_meet (x ∷ xs) ys (z ∷ zs) ws e =
       | inr (y, f, g) ↦ inr (y, ap (λ l. z ∷ l) f ∙ ap (λ o. o ∷ (xs ++ y)) (sym head), g)
     ]
 
+-- octets cut in two ways behind as many of them have the same parts
 pub parts_same : (xs ys zs ws : List ℕ) → xs ++ ys ≡ zs ++ ws → length xs ≡ length zs → (xs ≡ zs) × (ys ≡ ws)
 parts_same [] ys [] ws e n = (refl, e)
 parts_same [] ys (z ∷ zs) ws e n = absurd (omega arith)
@@ -121,6 +123,7 @@ acts_keeps p s o (actions.Split n) = (refl, refl, refl)
 acts_keeps p s o actions.EndBlob = blob_keeps p s (blob_of s.kept)
 acts_keeps p s o (actions.Refuse e) = tt
 
+-- an octet keeps where the open token begins, and whether a colon may stand, unless it ends a token
 pub feed_keeps : (p : Place) (s : Known) (o : ℕ) → Keeps p s (feed p s o)
 feed_keeps p s o = acts_keeps p s o (next p s.colon s.mode o)
 
@@ -172,6 +175,7 @@ module _ (p : Place) (s : Known) (u : List ℕ) (ts : List Placed) (ahead : List
       by (inl (none, same)) = (more, ap (λ l. l ++ r) none ∙ c ∙ ap (λ l. l ++ more) same)
       by (inr (front, since, none)) = (front ++ r, ap (λ l. l ++ r) since ∙ append_assoc h.left front r)
 
+  -- octets that the scanner was told of are the tokens told, and behind them what is open
   pub behind_tokens : OpenBehind p s u ts ahead
   behind_tokens =
       let tells = stands_tells h.behind h.front ts h.left h.told h.pass in
@@ -202,6 +206,7 @@ Is p x (Left l s) = l ≡ x
 Is p x (Next s) = (at_end p s ≡ Ok (Some x)) ⊎ ((at_end p s ≡ Err reasons.Incomplete) × (x.kind ≡ kinds.Operator))
 Is p x (Refused n e) = ⊥
 
+-- the first token that the scanner finds in octets is the one that a run over them shows
 pub finds_is : (R : Known → List ℕ → Type 0) (B : Type 0) (s : Known) (octets : List ℕ) (t : Placed) (ts : List Placed) → FindsUpTo R B s octets (t ∷ ts)
     → Is t.place t.lexeme (run t.place octets s)
 finds_is R B _ _ _ _ (Last s octets t s' e f) = subst (Is t.place t.lexeme) (sym e) (inl f)
@@ -222,6 +227,7 @@ is_once p x y (Next s) (inr a) (inl b) n = absurd (let k : Err reasons.Incomplet
 is_once p x y (Next s) a (inr b) n = absurd (n b.1)
 is_once p x y (Refused n e) a b m = absurd a
 
+-- the token with which octets begin, behind a blank, is the one that a run over them shows
 pub one_found : (colon : Bool) (k : ℕ) (octets : List ℕ) (t : Placed) (r : List ℕ) → BeginsWith colon k octets t r
     → Is t.place t.lexeme (run t.place octets (at modes.Blank [] colon k k))
 one_found colon k octets t r b = finds_is (λ s octets. Unit {0}) (Unit {0}) (at modes.Blank [] colon k k) octets t []
@@ -249,6 +255,7 @@ pub record PastBlank (p : Place) (colon : Bool) (used : ℕ) (s : Known) (r more
   pub same : token ++ r ≡ more
   pub ran : run p token (blank colon now used) ≡ Next s
 
+-- where a token is open behind octets, a run over those behind the blank leads there too
 pub past_blank : (p : Place) (colon : Bool) (k : ℕ) (since r w more : List ℕ) (s : Known) → run p since (at modes.Blank [] colon k k) ≡ Next s
     → is_sane s.mode ≡ true → is_idle s.mode ≡ false → IsBlank w → since ++ r ≡ w ++ more → PastBlank p colon (k + length w) s r more
 past_blank p colon k since r w more s ran sane idle b e = by (parts_meet since r w more e)

@@ -53,6 +53,7 @@ opens_item (kinds.Mark marks.SexpOpen) = true
 opens_item (kinds.Mark marks.FieldsOpen) = true
 opens_item _ = false
 
+-- the first of the tokens, if there is one, may begin an item that is open
 abbrev pub OpensItem : List Placed → Type 0
 OpensItem [] = Unit {0}
 OpensItem (t ∷ ts) = opens_item t.lexeme.kind ≡ true
@@ -74,6 +75,7 @@ number_symbol octets (Clob n) h e = h
 number_symbol octets (Blob n) h e = h
 number_symbol octets (Mark' n) h e = h
 
+-- a token that says a symbol may begin an item that is open
 pub symbol_kind : (k : TokenKind) (octets : List ℕ) (c : Content) → IsBody k octets (Ok c) → symbol_said c ≡ true → opens_item k ≡ true
 symbol_kind kinds.Word octets c h e = refl
 symbol_kind kinds.KindName octets c h e = refl
@@ -142,6 +144,7 @@ behind_first : (ts us : List Placed) → OpensItem ts → ([] ≡ ts → ⊥) �
 behind_first [] us a n = absurd (n refl)
 behind_first (t ∷ ts) us a n = a
 
+-- the tokens that the reader's open item stands for begin with one that may begin it
 pub now_first : (c : List Slot) (fs : List Frame) (ss : Symbols) (now : Now) (ts : List Placed) → NowStands c fs ss ts now → OpensItem ts
 now_first c fs ss nows.Ready ts d = ready_first c fs ss ts d
 now_first c fs ss (nows.Pending h end) ts d = subst OpensItem (sym d.whole)
@@ -161,6 +164,7 @@ abbrev lexeme_of : Lexeme → Result (Option Lexeme) Reason → Lexeme
 lexeme_of d (Ok (Some x)) = x
 lexeme_of d _ = d
 
+-- a run over octets in a long string goes on with it, ends the segment or is refused
 pub long_run : (p : Place) (os : List ℕ) (s : Known) → is_long_text s.mode ≡ true → LongOn (run p os s)
 long_run p [] s h = h
 long_run p (o ∷ os) s h = go (feed p s o) (long_feed p s o h) (λ t i. long_run p os t i)

@@ -92,6 +92,7 @@ module _ (g : Catalog) (l : Limits) where
   released_freed spot [] (s ∷ ss) h = paid_freed spot [] (s ∷ ss) (held_payload h)
   released_freed spot (f ∷ fs) ss h = paid_freed spot (f ∷ fs) ss (held_payload h)
 
+  -- what waits is settled to where no item is open, or to the same item in a container
   pub waiting_freed : (start : ℕ) (c : List Slot) (fs : List Frame) (ss : Symbols) (now : Now) → IsWaiting g l now
       → Leading g l (Freed start) (settle g l (at start c fs ss now))
   waiting_freed start c fs ss (nows.Pending h end) w = released_freed (spot_at end start c) fs ss h
@@ -126,6 +127,7 @@ module _ (g : Catalog) (l : Limits) where
   open_from n start c fs ss now k (ok, inl f) = absurd (k (fresh_parts start c fs ss now f).2)
   open_from n start c fs ss now k (ok, inr h) = h
 
+  -- settling what waits leads to no item that begins earlier
   pub settle_from : (n start : ℕ) (c : List Slot) (fs : List Frame) (ss : Symbols) (now : Now) → From n (at start c fs ss now)
       → Leading g l (From n) (settle g l (at start c fs ss now))
   settle_from n start c fs ss (nows.Pending h end) q = freed_from n start (open_from n start c fs ss (nows.Pending h end) (λ e. cc) q)
@@ -216,6 +218,7 @@ module _ (g : Catalog) (l : Limits) where
       placed_from n (same_place t.place (place r)) (on_judged g l r t (said t.lexeme.kind t.lexeme.octets) (λ k. reads g l k ts))
       (judged_from n r t (said t.lexeme.kind t.lexeme.octets) (λ k. reads g l k ts) h.0 q (λ m i. reads_from n ts m h.1 i))
 
+  -- tokens that begin no earlier lead to no item that begins earlier
   pub walked_from : (n : ℕ) (ts : List Placed) (r m : Reading) (vs : List Value) → AllFrom n ts → From n r → reads g l r ts ≡ walked vs m → From n m
   walked_from n ts r m vs h q e = subst (WalkFrom n) e (reads_from n ts r h q)
 
@@ -227,6 +230,7 @@ module _ (g : Catalog) (l : Limits) where
   Waits s (nows.Long w end) = (is_idle s.mode || is_quoting s.mode) ≡ true
   Waits s _ = Unit {0}
 
+  -- where no token has begun, anything may wait
   pub idle_waits : (s : Known) (now : Now) → is_idle s.mode ≡ true → Waits s now
   idle_waits s (nows.Pending h end) i = i
   idle_waits s (nows.Long w end) i = ap (λ b. b || is_quoting s.mode) i
@@ -236,6 +240,7 @@ module _ (g : Catalog) (l : Limits) where
   idle_waits s (nows.LongName w) i = tt
   idle_waits s (nows.Keyed k) i = tt
 
+  -- where nothing waits, any token may have begun
   pub free_waits : (s : Known) (now : Now) → IsFree now → Waits s now
   free_waits s (nows.Pending h end) i = absurd i
   free_waits s (nows.Long w end) i = absurd i
@@ -254,6 +259,7 @@ module _ (g : Catalog) (l : Limits) where
   next_waits top (nows.LongName w) s e = tt
   next_waits top (nows.Keyed k) s e = tt
 
+  -- behind what was settled nothing waits
   pub settle_free : (start : ℕ) (c : List Slot) (fs : List Frame) (ss : Symbols) (now : Now)
       → Leading g l (λ n. IsFree n.now) (settle g l (at start c fs ss now))
   settle_free start c fs ss now = go now refl
@@ -359,6 +365,7 @@ module _ (g : Catalog) (l : Limits) where
   EndsWaiting (Ok n) = Waits n.scan n.reading.now
   EndsWaiting (Err e) = Unit {0}
 
+  -- while something waits, behind a run too, no token has begun but what may be a segment
   pub run_waits : (os u : List ℕ) (vs : List Value) (to : ℕ) (m : State) → Stood g l u vs m → Waits m.scan m.reading.now → EndsWaiting (run g l to m os).now
   run_waits [] u vs to m b h = h
   run_waits (o ∷ os) u vs to m b h = step (λ xs n c i. run_waits os (u ++ o ∷ []) xs (to + 1) n c i) (eats g l m o) (eats_after g l u vs m o b)

@@ -30,6 +30,7 @@ pub begins_lexed : (ts : List Placed) (colon : Bool) (before : ℕ) (octets : Li
 begins_lexed [] colon before octets after end rest h = tt
 begins_lexed (t ∷ ts) colon before octets after end rest (q, b, h) = (q, b, begins_lexed ts (colon_behind t) t.lexeme.end q after end rest h)
 
+-- a token has an octet
 pub some_token : (p : Place) (colon : Bool) (w r : List ℕ) (k : TokenKind) (kept : List ℕ) → IsLexeme p colon w r k kept → 0 < length w
 some_token p colon [] r k kept h = absurd (some_octet p colon r k kept h)
 some_token p colon (o ∷ os) r k kept h = omega arith
@@ -63,13 +64,16 @@ module _ (g : Catalog) (l : Limits) where
     whole_going s w = let r = pieces_read g l w.tokens s w.context w.pieces in
         record { vs = r.given; later = r.later; n = r.now; c = w.context; read = r.read; ends = r.settles; whole = r.all }
 
+    -- the scanner finds the tokens of whole pieces in their octets
     pub whole_found : (s : List Value) (w : Whole g l front following s) → Found' (λ s octets. Unit {0}) initial (front ++ following) w.tokens
     whole_found s w = begins_completes w.tokens false 0 (front ++ following) [] (front ++ following) initial
         (begins_lexed w.tokens false 0 (front ++ following) w.colon w.end (w.blank ++ following) w.lexed) refl (λ p. refl)
 
+    -- in whole pieces no operator stands outside an s-expression
     pub whole_operators : (s : List Value) (w : Whole g l front following s) → Operators w.tokens
     whole_operators s w = lexes_operators (λ c b o. (c ≡ w.colon) × (b ≡ w.end) × (o ≡ w.blank ++ following)) w.tokens false 0 (front ++ following) w.lexed
 
+    -- whole pieces end where the blank behind their tokens does
     pub whole_ends : (s : List Value) (w : Whole g l front following s) → w.end + length w.blank ≡ length front
     whole_ends s w =
         let x = lexed_front w.tokens false 0 (front ++ following) w.colon w.end (w.blank ++ following) w.lexed in

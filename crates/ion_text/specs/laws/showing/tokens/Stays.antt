@@ -308,6 +308,7 @@ module _ (g : Catalog) (l : Limits) where
     waited = λ w e. absurd w;
   }
 
+  -- where a value may come, the tokens before its annotations lead the reader to its containers
   pub ready_outer : (c : List Slot) (fs : List Frame) (ss : Symbols) (ts : List Placed) → Deep l.depth fs → (d : ReadyFor c fs ss ts) → Outer c fs d.front
   ready_outer c fs ss ts deep d = outer c fs d.front d.receives (opened_read c fs d.front true deep d.outer)
 
@@ -404,6 +405,7 @@ module _ (g : Catalog) (l : Limits) where
   -- in a struct, a name behind what has come
   module _ (c : List Slot) (ss : Symbols) (ms : List Field) (fs : List Frame) (before : List Placed) (deep : Deep l.depth (frames.Fields ss ms ∷ fs))
       (o : Opened c (frames.Fields ss ms ∷ fs) before true) (notes : Symbols) where
+    -- a name behind what has come of a struct is read from where a name may come
     pub name_there : (name : List Placed) → Begins g l places.Name name → reads g l (fresh c) (before ++ name)
         ≡ reads g l (at (starts g l 0 [] before) c (frames.Fields ss ms ∷ fs) [] nows.Name) name
     name_there name b = item_behind g l c places.Name (fresh c) (at (starts g l 0 [] before) c (frames.Fields ss ms ∷ fs) [] nows.Name) before name refl refl

@@ -53,6 +53,7 @@ module _ (g : Catalog) (l : Limits) where
   turn_walks (refuses x) ts vs n e = absurd cc
   turn_walks (late x r) ts vs n e = absurd cc
 
+  -- the first of tokens that are read without a refusal stands where the reader looks, and says something
   pub walking_said : (r : Reading) (t : Placed) (ts : List Placed) → Walking r (t ∷ ts) → (t.place ≡ place r) × (c : Content)
       × (said t.lexeme.kind t.lexeme.octets ≡ Ok c)
   walking_said r t ts d = go (same_place t.place (place r)) refl (said t.lexeme.kind t.lexeme.octets) refl d.read
@@ -160,6 +161,7 @@ module _ (g : Catalog) (l : Limits) where
           subst (λ z. OneIsFront (t ∷ ts) (z ∷ us)) same (token_met t ts us
           (rest us (subst (λ (z : Known). Found' R z (drop (z.used - s.used) octets) us) j f) ops) r b d (subst (λ z. Going g l r (z ∷ us) b) (sym same) e))
 
+    -- of tokens read without a refusal and a document's in the same octets, one list is the other's front
     pub meet : (s : Known) (octets : List ℕ) (ts : List Placed) → Found' R s octets ts → (ws : List Placed) → Found' R s octets ws → Operators ws
         → Meeting ts ws
     unfolding lexeme_in state_in token_in
