@@ -1,5 +1,5 @@
 -- What the visitor finds in the other octets is the value.
-use Rattle.std.proofs.Common.{◌≡◌, ℕ, suc, Bool, get_or, ◌+◌, ◌-◌, ◌<◌, ◌≤◌, List, [], ◌∷◌, ◌++◌, length, take, drop, Option, Ok, ap, sym, subst, ◌∙◌, arith}
+use Rattle.std.proofs.Common.{◌≡◌, ℕ, suc, Bool, get_or, ◌+◌, ◌-◌, ◌<◌, ◌≤◌, List, [], ◌∷◌, ◌++◌, length, take, drop, Option, Ok, ap, sym, subst, ◌∙◌, arith, Some, IfSome}
 use Rattle.std.proofs.lemmas.Grind.{common_steps}
 use Rattle.std.proofs.Math.Seq.{take-add}
 use Rattle.std.proofs.lemmas.List.{drop_more}
@@ -230,3 +230,7 @@ front_found c w v a b n context octets front visited e =
     let most = f.here.within in
     let place : between w a.at b.at ≡ take n w = ap (λ i. between w i b.at) front ∙ ap (λ k. take k w) (let e : b.at - 0 ≡ n = omega (arith, e) in e) in
     (omega (arith, e, most), subst (λ x. Binary c x v) place f.is)
+
+-- what is so of whatever is there is so of what is there
+pub of_some : {X : Type 0} (P : X → Type 0) (r : Option X) (x : X) → r ≡ Some x → IfSome r P → P x
+of_some P r x e h = subst (λ o. IfSome o P) e h

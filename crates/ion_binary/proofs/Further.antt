@@ -141,3 +141,11 @@ both_passed old new other later piece beside (Some n) gives used other_used sett
   passed old new piece n.0 gives.0 gives.1 used setting,
   passed other later beside n.1 gives.0 gives.2 other_used other_setting,
 )
+
+-- a reader took up a value, of which this is so
+pub one_passed : (old new : BinaryReader) (piece : List ℕ) (P : Value → Type 0) (r : Option ℕ) →
+    IfSome r (λ n. (v : Value) × P v × Advances old.used (run_of old) piece (Ok (record { used = n; value = Some v })) (machine_of new)) →
+    IfSome r (λ n. new.used ≡ old.used + n) → IfSome r (λ n. old.failed ≡ None) → SameSetting old new →
+    IfSome r (λ n. (v : Value) × P v × Passed old new piece n v × (old.failed ≡ None))
+one_passed old new piece P None gives used fine setting = tt
+one_passed old new piece P (Some n) gives used fine setting = (gives.0, gives.1, passed old new piece n gives.0 gives.2 used setting, fine)

@@ -22,3 +22,4 @@ pub mod Compared
 pub mod KnownNames
 pub mod Alikes
 pub mod Calls
+mod Told

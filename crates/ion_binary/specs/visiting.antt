@@ -3,3 +3,4 @@ pub mod Brackets
 pub mod Measuring
 pub mod Comparing
 pub mod Transcribing
+pub mod Telling

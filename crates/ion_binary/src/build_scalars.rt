@@ -82,7 +82,7 @@ pub(crate) fn magnitude_of(body: &[u8]) -> Option<u128>
 }
 
 /// The int of a sign and a magnitude.
-fn whole_of(negative: bool, magnitude: u128) -> Option<Whole>
+pub(crate) fn whole_of(negative: bool, magnitude: u128) -> Option<Whole>
     requires { magnitude < 2 ^ 127 }
     ensures { IfSome result (λ whole. whole
         ≡ (if negative then neg_ℤ (pos magnitude) else pos magnitude)) }

@@ -11,6 +11,7 @@ mod measure;
 mod reader;
 mod scalar;
 mod state;
+mod telling;
 mod transcription;
 mod visitor;
 mod walk;

@@ -45,7 +45,7 @@ impl<I: Items, E: Encoder> Carrier<I, E> for Building {
     }
 }
 
-/// From binary to binary and from text to text, octets are written as they are read.
+/// From binary to binary octets are written as they are read, and else values part by part.
 pub(crate) struct Transcribing;
 
 impl<S: BuildHasher + Drop> Carrier<DocReader<'_>, BinaryWriter<S>> for Transcribing {

@@ -151,8 +151,7 @@ impl<'a> DocReader<'a> {
         }
     }
 
-    /// The same to text, as `TextReader::carry` does. `None`, with all as it was, also where the
-    /// document isn't text.
+    /// The same to text, as `TextWriter::put_visited` does.
     pub(crate) fn carry_text<W: Outlet>(
         &mut self,
         piece: &[u8],
@@ -167,8 +166,12 @@ impl<'a> DocReader<'a> {
             (self.new ≡ self.old) × (writer.new ≡ writer.old) × (out.new ≡ out.old) }
     {
         match &mut self.format {
+            Format::Binary(reader) => {
+                let (used, written) = writer.put_visited(out, reader, piece)?;
+                Some(Carried { used, written })
+            }
             Format::Text(reader) => {
-                let (used, written) = reader.carry(piece, writer, out)?;
+                let (used, written) = writer.put_visited(out, reader, piece)?;
                 Some(Carried { used, written })
             }
             _ => None,

@@ -3,7 +3,6 @@ use Rattle.std.proofs.Common.{◌≡◌, ℕ, min, ◌+◌, ◌-◌, ◌*◌, �
 use Rattle.std.specs.Prelude.{IsNone, IfSome}
 use Rattle.std.specs.Option.{is_some}
 use Rattle.ion_model.specs.declared.value.Value.{Value}
-use Rattle.ion_model.specs.Kept.{IsKept}
 use Rattle.ion_atoms.specs.declared.refusal.Refusal.{Refusal}
 use Rattle.ion_symtab.specs.declared.limits.Limits.{Limits}
 use Rattle.ion_symtab.specs.declared.catalog.Catalog.{Catalog}
@@ -120,13 +119,6 @@ module _ (old new : TextReader) (piece : List ℕ) (none : failed old ≡ None) 
         stands = step_stands old new piece (Ok (record { used = used; value = Some v }))
             (subst (λ o. IfSome o (λ octet. (rest : List ℕ) × (piece ≡ octet ∷ rest))) (sym nothing.0) tt) does counts now steady same;
       }
-
-  -- and a value that is kept
-  pub one_takes_up : {A : Type 0} (P : Value → A → Type 0) (r : Option (ℕ × A)) → IfSome r (λ n. (v : Value) × IsKept v × Moves n.0 v × P v n.1)
-      → IfSome r (λ n. octets_used new ≡ octets_used old + n.0)
-      → IfSome r (λ n. (old.awaited ≡ None) × (new.awaited ≡ None)) → IfSome r (λ n. (v : Value) × IsKept v × TakesUp old new piece n.0 v × P v n.1)
-  one_takes_up P None does counts nothing = tt
-  one_takes_up P (Some n) does counts nothing = (does.0, does.1, takes_up n.0 does.0 does.2 counts nothing, does.3)
 
   -- and a value that was gone over
   pub visited_up : (P : Value → Type 0) (r : Option ℕ) → IfSome r (λ n. (v : Value) × P v × Moves n v) → IfSome r (λ n. octets_used new ≡ octets_used old + n)

@@ -221,16 +221,15 @@ mutual
       } in
       record { kept = fields_last ms s v c.kept x.0 f.kept; wrote = each_more field_text ms (field_of s v) a m b c.wrote all }
 
--- what was gone over was written
-pub transcribed : (level : ℕ) (octets before : List ℕ) (x y : Tally) (a b : Transcription) (r : Option ℕ) → a.before ≡ None → a.out.items ≡ before
-    → IfSome r (λ n. VisitedTop transcribing level octets n x y a b)
-    → IfSome r (λ n. (top : WalkedTop level octets n x y) × IsKept top.value × (b.out.items ≡ before ++ value_text top.value))
-transcribed level octets before x y a b None e o t = t
-transcribed level octets before x y a b (Some n) e o t =
-    let v = t.walked.value in
-    let f = value_written v a b t.visited in
+-- what was gone over was written, and whatever is so of it is kept
+pub transcribed : (P Q R : ℕ → Value → Type 0) (before : List ℕ) (a b : Transcription) (r : Option ℕ) → a.before ≡ None → a.out.items ≡ before
+    → IfSome r (λ n. (v : Value) × P n v × Q n v × R n v × Visited transcribing v a b)
+    → IfSome r (λ n. (v : Value) × P n v × IsKept v × (b.out.items ≡ before ++ value_text v))
+transcribed P Q R before a b None e o t = t
+transcribed P Q R before a b (Some n) e o t =
+    let f = value_written t.0 a b t.4 in
     let begun : front a ≡ before = ap (λ k. a.out.items ++ option_to_list k) e ∙ (append-nil a.out.items ∙ o) in
-    (t.walked, f.kept, f.wrote.octets ∙ ap (λ w. w ++ value_text v) begun)
+    (t.0, t.1, f.kept, f.wrote.octets ∙ ap (λ w. w ++ value_text t.0) begun)
 
 -- a symbol whose text is known
 pub symbol_known : (w : List ℕ) → symbol_text (Some w) ≡ known_text w

@@ -2,21 +2,16 @@
 use Rattle.std.proofs.Common.{◌≡◌, ℕ, List, Option, None, Some, Result, Ok, Err, OnOk, OnErr, IfErr, subst, sym, Bool, true}
 use Rattle.ion_model.specs.declared.value.Value.{Value}
 use Rattle.ion_symtab.specs.declared.fault.Fault.{Fault}
-use Rattle.ion_symtab.specs.declared.fault.Fault.TheVariants.{Write}
 use Rattle.ion_symtab.specs.declared.outlet.Outlet.{Ghosts as Outlet}
 use Rattle.ion_symtab.specs.Took.{Took, TookFront}
 use Rattle.ion_text.specs.Carrying.{WritesValue}
 use Rattle.ion_text.specs.Output.{adds}
 use Rattle.ion_text.specs.Writing.{IsWritingFault}
 
--- the only fault of a write is that the device failed
-write_fault : (failed : Bool) (fault : Fault) → (fault ≡ Write) × (failed ≡ true) → IsWritingFault failed fault
-write_fault failed fault h = rw h.0 h.1
-
 -- where a device took a value's line, or a front of it at a fault, the value was written so
 pub wrote_value : {W : Type 0} (O : Outlet W) (old new : Option Fault) (before now : W) (v : Value) (w : List ℕ) → old ≡ None → w ≡ adds v
     → (r answer : Result (Unit {0}) Fault) → answer ≡ r → OnOk r (Took O.took O.written before now w)
-    → OnErr r (TookFront O.took O.written before now w) → IfErr r (λ fault. (fault ≡ Write) × (O.has_failed now ≡ true)) → OnOk answer (new ≡ None)
+    → OnErr r (TookFront O.took O.written before now w) → IfErr r (IsWritingFault (O.has_failed now)) → OnOk answer (new ≡ None)
     → IfErr answer (λ fault. new ≡ Some fault)
     → WritesValue O old new before now v answer
 wrote_value O old new before now v w fine is (Ok x) (Ok y) same ok front cause kept failed =
@@ -29,7 +24,7 @@ wrote_value O old new before now v w fine is (Err x) (Err y) same ok front cause
       goes_on = tt;
       front = subst (λ w. TookFront O.took O.written before now w) is front;
       cause =
-          subst (λ f. IsWritingFault (O.has_failed now) f) (sym one) (write_fault (O.has_failed now) x cause);
+          subst (λ f. IsWritingFault (O.has_failed now) f) (sym one) cause;
       failed = failed;
     }
 wrote_value O old new before now v w fine is (Ok x) (Err y) same ok front cause kept failed = absurd cc

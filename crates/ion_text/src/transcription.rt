@@ -1,23 +1,20 @@
 //! Values whose octets lie whole in memory, and that are written as text again, in the writer's
 //! spelling. They are judged as they are gone over, and not built.
-ghost use Rattle.std.specs.Prelude.{◌≡◌, ◌+◌, ◌≤◌, ◌<◌, ◌^◌, ◌++◌, true, None, length, OnOk, IfSome, IsOkUnless, option_to_list};
+ghost use Rattle.std.specs.Prelude.{◌≡◌, ◌+◌, ◌<◌, ◌^◌, ◌++◌, true, None, length, OnOk, IfSome, IsNone, IsOkUnless, option_to_list};
 ghost use Rattle.std.specs.Str.{IsUtf8};
 ghost use Rattle.ion_model.specs.Kept.{IsKept, KeptPayload};
 ghost use Rattle.ion_model.specs.declared.value.Payload.TheViews.{out-Payload};
 ghost use Rattle.ion_symtab.specs.declared.fault.Fault.TheVariants as faults;
 ghost use Rattle.ion_text.specs.Output.{known_text, value_text, layer_text};
 ghost use Rattle.ion_visiting.specs.Parts.{payload_of};
-ghost use Rattle.ion_text.specs.machine.Walked.{WalkedTop};
+ghost use Rattle.ion_model.specs.declared.value.Value.{Value};
 ghost use Rattle.ion_text.specs.visiting.Transcribing.{Adds, open_octet, bracket_close, octet_between};
 
 use crate::escape::{OF_STRING, put_quoted};
-use crate::reader::top_values::walk_top;
-use crate::reader::walks::Tally;
 use crate::scalar::{put_blob, put_clob, put_known, put_null, put_numeral, put_truth};
 use ion_scalar::Number;
 use ion_symtab::Fault;
-use ion_tokens::TokenReader;
-use ion_visiting::{Bracket, Part, TextVisitor, number_kept, part_kept};
+use ion_visiting::{Bracket, Part, TextVisitor, Visitable, number_kept, part_kept};
 use std::alloc::Global;
 use std::mem;
 
@@ -146,26 +143,25 @@ impl TextVisitor for Transcription {
     }
 }
 
-/// Appends the value of the item of the top level at the front of octets, of at most so many
-/// levels: how many octets the item has. `None` where it isn't whole or isn't gone over, and where
-/// memory runs out; then some octets may stand there.
-pub(crate) fn transcribe(
+/// Appends the text of the value at the front of a piece of what can be gone over: how many octets
+/// were taken up. `None`, with nothing taken up, where no value is gone over there, and where memory
+/// runs out; then some octets may stand there.
+pub(crate) fn transcribe_visited<V: Visitable>(
     alloc: Global,
-    tokens: &mut TokenReader,
-    octets: &[u8],
-    level: u32,
-    tally: &mut Tally,
+    items: &mut V,
+    piece: &[u8],
     out: &mut Vec<u8>,
 ) -> Option<usize>
-    requires low { tally.old.level ≤ level }
-    requires room { tally.old.rest.used + length octets.now < 2 ^ 63 }
-    ensures { IfSome result (λ count. (top : WalkedTop level octets.now count tally.old tally.new)
-        × IsKept top.value × (out.new.items ≡ out.old.items ++ value_text top.value)) }
+    requires room { V.taken items.old + length piece.now < 2 ^ 63 }
+    ensures value { IfSome result (λ used. (v : Value)
+        × V.took_up items.old items.new piece.now used v
+        × IsKept v × (out.new.items ≡ out.old.items ++ value_text v)) }
+    ensures stays { IsNone result → items.new ≡ items.old }
 {
-    let mut transcription = Transcription::new(alloc, mem::replace(out, Vec::new(alloc)));
-    let count = walk_top(tokens, octets, level, tally, &mut transcription);
-    *out = transcription.out;
-    count
+    let transcription = Transcription::new(alloc, mem::replace(out, Vec::new(alloc)));
+    let (used, written) = items.visit(piece, u32::MAX, transcription);
+    *out = written.out;
+    used
 }
 
 /// What opens a list, an s-expression or a struct.

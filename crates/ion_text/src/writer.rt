@@ -1,5 +1,5 @@
 //! The writer of text documents.
-ghost use Rattle.std.specs.Prelude.{◌≡◌, ◌+◌, ◌≤◌, ◌<◌, ◌^◌, ◌++◌, Some, None, Err, true, false, [], length, OnOk, OnErr, IfErr, IfOk, IfSome, IsNone, IsOkUnless};
+ghost use Rattle.std.specs.Prelude.{◌≡◌, ◌+◌, ◌<◌, ◌^◌, ◌++◌, Some, None, Err, true, false, [], codes, length, OnOk, OnErr, IfErr, IfOk, IfSome, IsNone};
 ghost use Rattle.ion_model.specs.Kept.{IsKept};
 ghost use Rattle.ion_symtab.specs.declared.fault.Fault.{Fault as AnyFault};
 ghost use Rattle.ion_symtab.specs.declared.fault.Fault.TheVariants as faults;
@@ -7,15 +7,13 @@ ghost use Rattle.ion_symtab.specs.Took.{Took, TookFront};
 ghost use Rattle.ion_text.specs.Output.{adds};
 ghost use Rattle.ion_text.specs.Writing.{IsWritingFault};
 ghost use Rattle.ion_text.specs.Carrying.{WritesValue};
-ghost use Rattle.ion_text.specs.machine.Walked.{WalkedTop};
+ghost use Rattle.ion_model.specs.declared.value.Value.{Value as AnyValue};
 
-use crate::reader::walks::Tally;
 use crate::spelling::put_value;
-use crate::transcription::transcribe;
+use crate::transcription::transcribe_visited;
 use ion_model::Value;
 use ion_symtab::{Fault, Outlet, flushed, write_whole};
-use ion_tokens::TokenReader;
-use ion_visiting::is_tried;
+use ion_visiting::{Visitable, is_tried};
 use std::alloc::Global;
 use std::fmt::{self, Debug, Formatter};
 use std::marker::Model;
@@ -27,8 +25,6 @@ pub struct TextWriter {
     alloc: Global,
     /// The line that was written last; the next one takes its memory.
     line: Vec<u8>,
-    /// Reads tokens of values that are carried.
-    tokens: TokenReader,
     /// How many values in a row weren't carried.
     misses: u32,
     /// The fault that each call answers from now on.
@@ -58,7 +54,6 @@ impl TextWriter {
         TextWriter {
             alloc,
             line: Vec::new(alloc),
-            tokens: TokenReader::new(alloc),
             misses: 0,
             failed: None,
         }
@@ -88,40 +83,34 @@ impl TextWriter {
         self.note_fault(answer)
     }
 
-    /// Writes the value of the item of the top level at the front of octets, of at most so many
-    /// levels, without building it: how many octets the item has, and the answer of `put`.
+    /// Takes up the value at the front of a piece of what can be gone over, and writes it as `put`
+    /// does, but without building it: how many octets were taken up, and the answer of `put`.
     ///
-    /// `None`, with nothing written, where the item isn't whole or isn't gone over, where memory
-    /// runs out, and where the writer has answered a fault. Where that was so of several in a row,
-    /// few are tried.
-    pub(crate) fn put_octets<W: Outlet>(
+    /// `None`, with nothing taken up and nothing written, where no value is gone over there, where
+    /// memory runs out before one is, and where the writer has answered a fault. Where that was so
+    /// of several in a row, few are tried.
+    pub fn put_visited<V: Visitable, W: Outlet>(
         &mut self,
         out: &mut W,
-        octets: &[u8],
-        level: u32,
-        tally: &mut Tally,
+        items: &mut V,
+        piece: &[u8],
     ) -> Option<(usize, Result<(), Fault>)>
-        requires low { tally.old.level ≤ level }
-        requires room { tally.old.rest.used + length octets.now < 2 ^ 63 }
-        ensures writes { IfSome result (λ put.
-            (top : WalkedTop level octets.now put.0 tally.old tally.new)
-            × IsKept top.value
-            × WritesValue W.Outlet self.old self.new out.old out.new top.value put.1) }
-        ensures stays { IsNone result → (self.new ≡ self.old) × (out.new ≡ out.old) }
+        requires room { V.taken items.old + length piece.now < 2 ^ 63 }
+        ensures writes { IfSome result (λ put. (v : AnyValue) × IsKept v
+            × V.took_up items.old items.new piece.now put.0 v
+            × WritesValue W.Outlet self.old self.new out.old out.new v put.1) }
+        ensures stays { IsNone result →
+            (items.new ≡ items.old) × (self.new ≡ self.old) × (out.new ≡ out.old) }
     {
-        if self.failed.is_some() {
-            return None;
-        }
         self.misses = self.misses.wrapping_add(1);
-        if !is_tried(self.misses) {
+        if self.failed.is_some() || !is_tried(self.misses) {
             return None;
         }
-        let (tokens, line) = (&mut self.tokens, &mut self.line);
-        line.clear();
-        let count = carry_line(self.alloc, tokens, octets, level, tally, line)?;
+        self.line.clear();
+        let used = transcribe_visited(self.alloc, items, piece, &mut self.line)?;
         self.misses = 0;
-        let answer = write_whole(out, &self.line);
-        Some((count, self.note_fault(answer)))
+        let answer = write_line(out, &mut self.line);
+        Some((used, self.note_fault(answer)))
     }
 
     /// Ends the document behind the last line, and makes the device pass on all that it took.
@@ -164,36 +153,20 @@ impl TextWriter {
         ensures cause { IfErr result (IsWritingFault (W.has_failed out.new)) }
     {
         self.line.clear();
-        put_line(self.alloc, value, &mut self.line)?;
-        write_whole(out, &self.line)
+        put_value(self.alloc, value, &mut self.line)?;
+        write_line(out, &mut self.line)
     }
 }
 
-fn put_line(alloc: Global, value: &Value, line: &mut Vec<u8>) -> Result<(), Fault>
-    ensures ok { OnOk result (line.new.items ≡ line.old.items ++ adds value.now) }
-    ensures kept { OnOk result (IsKept value.now) }
-    ensures memory { IsOkUnless result faults.Memory }
+// Ends the line, and writes it in one write where the device takes all octets at once.
+fn write_line<W: Outlet>(out: &mut W, line: &mut Vec<u8>) -> Result<(), Fault>
+    ensures ok { OnOk result (Took W.took W.written out.old out.new
+        (line.old.items ++ codes "\n")) }
+    ensures front { OnErr result (TookFront W.took W.written out.old out.new
+        (line.old.items ++ codes "\n")) }
+    ensures memory { IfErr result (λ fault. fault ≡ faults.Memory → out.new ≡ out.old) }
+    ensures cause { IfErr result (IsWritingFault (W.has_failed out.new)) }
 {
-    put_value(alloc, value, line)?;
     line.push(b'\n')?;
-    Ok(())
-}
-
-// Appends the line of the item's value at the front of octets: how many octets the item has.
-fn carry_line(
-    alloc: Global,
-    tokens: &mut TokenReader,
-    octets: &[u8],
-    level: u32,
-    tally: &mut Tally,
-    line: &mut Vec<u8>,
-) -> Option<usize>
-    requires low { tally.old.level ≤ level }
-    requires room { tally.old.rest.used + length octets.now < 2 ^ 63 }
-    ensures { IfSome result (λ count. (top : WalkedTop level octets.now count tally.old tally.new)
-        × IsKept top.value × (line.new.items ≡ line.old.items ++ adds top.value)) }
-{
-    let count = transcribe(alloc, tokens, octets, level, tally, line)?;
-    line.push(b'\n').ok()?;
-    Some(count)
+    write_whole(out, line)
 }

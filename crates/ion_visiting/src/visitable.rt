@@ -17,18 +17,18 @@ pub trait Visitable {
     ghost took_up: { Self → Self → List ℕ → ℕ → Value → Type 0 };
 
     /// Takes up the value at the front of a piece, of at most so many levels, and tells its parts to
-    /// a visitor: how many octets were taken up.
+    /// a visitor: how many octets were taken up, and the visitor back.
     ///
     /// `None`, with nothing taken up, where the value isn't whole in the piece or has more levels,
     /// where the reader doesn't go over values of its form or has refused, and where the visitor
     /// can't go on; its state means nothing then.
-    fn visit<T: TextVisitor>(&mut self, piece: &[u8], level: u32, visitor: &mut T) -> Option<usize>
+    fn visit<T: TextVisitor>(&mut self, piece: &[u8], level: u32, visitor: T) -> (Option<usize>, T)
         requires room { taken self.old + length piece.now < 2 ^ 63 }
-        ensures value { IfSome result (λ used. (v : Value)
+        ensures value { IfSome result.0 (λ used. (v : Value)
             × took_up self.old self.new piece.now used v
             × (depth v ≤ level) × (is_table v ≡ false)
-            × Visited T.visits v visitor.old visitor.new) }
-        ensures stays { IsNone result → self.new ≡ self.old };
+            × Visited T.visits v visitor result.1) }
+        ensures stays { IsNone result.0 → self.new ≡ self.old };
 }
 
 /// Whether a value is gone over that would be the last of so many in a row that couldn't be: what

@@ -32,7 +32,7 @@ pub struct Carried {
 
 impl BinaryReader<'_> {
     /// Whether a value of the top level may begin with the next octet and wasn't tried whole yet.
-    fn may_walk(&self) -> bool
+    pub(super) fn may_walk(&self) -> bool
         ensures { result ≡ true → (self.now.phase ≡ phases.Ready) × (open_frames self.now ≡ []) }
     {
         self.is_ready() && self.frames.is_empty() && self.used >= self.walked
@@ -165,9 +165,12 @@ impl<'a> BinaryReader<'a> {
         if !self.admits(self.used + piece.len() as u64) {
             return None;
         }
-        let mut comparison = Comparison::new(&self.context, piece);
-        let other_used = other.visit(beside, self.limits.depth, &mut comparison)?;
-        let count = comparison.count();
+        let comparison = Comparison::new(&self.context, piece);
+        let (found, compared) = other.visit(beside, self.limits.depth, comparison);
+        let Some(other_used) = found else {
+            return None;
+        };
+        let count = compared.count();
         let used = self.used + count as u64;
         self.used = used;
         self.start = used;

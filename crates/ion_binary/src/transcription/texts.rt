@@ -157,13 +157,13 @@ pub(crate) fn transcribe_visited<S: BuildHasher + Drop, V: Visitable>(
     ensures stays { IsNone result → items.new ≡ items.old }
 {
     let alloc = *out.allocator();
-    let mut transcription = Transcription {
+    let transcription = Transcription {
         names,
         crossings: mem::replace(places, Crossings::new(alloc)),
         out: mem::replace(out, Vec::new(alloc)),
     };
-    let used = items.visit(piece, u32::MAX, &mut transcription);
-    *places = transcription.crossings;
-    *out = transcription.out;
+    let (used, written) = items.visit(piece, u32::MAX, transcription);
+    *places = written.crossings;
+    *out = written.out;
     used
 }

@@ -2,12 +2,9 @@
 ghost use Rattle.std.specs.Prelude.{◌≡◌, ◌+◌, ◌<◌, ◌^◌, [], length, take, min, IfSome, IsNone, None, Ok, Some};
 ghost use Rattle.std.specs.Option.{is_some};
 ghost use Rattle.ion_model.specs.declared.value.Value.{Value};
-ghost use Rattle.ion_model.specs.Kept.{IsKept};
 ghost use Rattle.ion_model.specs.Outlines.{outline_of};
-ghost use Rattle.ion_symtab.specs.TookUp.{TookUp};
 ghost use Rattle.ion_tokens.specs.declared.token_reader.TokenReader.{TokenReader};
 ghost use Rattle.ion_tokens.specs.machine.Views.{scanned};
-ghost use Rattle.ion_text.specs.Carrying.{WritesValue};
 ghost use Rattle.ion_text.specs.machine.Progress.{Advances, SameSettings, StaysSteady};
 ghost use Rattle.ion_text.specs.machine.Views.{state_of, with_beside, IsFine};
 ghost use Rattle.ion_text.specs.machine.Walked.{IsFresh};
@@ -18,9 +15,7 @@ use super::top_values::walk_top;
 use super::walks::Tally;
 use crate::state::Now;
 use crate::visitor::Unheeding;
-use crate::writer::TextWriter;
 use ion_model::Outline;
-use ion_symtab::{Fault, Items, Outlet};
 use ion_tokens::{Rest, blanks};
 
 // Octets up to so many.
@@ -89,65 +84,5 @@ impl TextReader<'_> {
         self.scanner.move_to(tally.rest);
         self.start = 0;
         Some((before + count, tally.outline(depth)))
-    }
-
-    /// The same, where a writer puts the value: how many octets the blank and the item have, and
-    /// the answer of the writer.
-    fn walk_into<W: Outlet>(
-        &mut self,
-        piece: &[u8],
-        writer: &mut TextWriter,
-        out: &mut W,
-    ) -> Option<(usize, Result<(), Fault>)>
-        requires room { (scanned self.old.scanner).used + length piece.now < 2 ^ 63 }
-        ensures gives { IfSome result (λ carried. (v : Value) × IsKept v
-            × Advances self.old.catalog.now self.old.limits (is_some self.old.awaited)
-            (scanned self.old.scanner).used (state_of self.old) piece.now
-            (Ok (record { used = carried.0; value = Some v })) self.new.awaited (state_of self.new)
-            × WritesValue W.Outlet writer.old writer.new out.old out.new v carried.1) }
-        ensures used { IfSome result (λ carried.
-            (scanned self.new.scanner).used ≡ (scanned self.old.scanner).used + carried.0) }
-        ensures awaits { IfSome result (λ _. (self.old.awaited ≡ None)
-            × (self.new.awaited ≡ None)) }
-        ensures stays { IsNone result →
-            (self.new ≡ self.old) × (writer.new ≡ writer.old) × (out.new ≡ out.old) }
-        ensures fine { IsFine self.old → IsFine self.new }
-        ensures steady { StaysSteady self.old self.new }
-        ensures setting { SameSettings self.old self.new }
-    {
-        let (before, item, begun) = self.item_ahead(piece)?;
-        let mut tally = begun;
-        let (count, written) = writer.put_octets(out, item, self.limits.depth, &mut tally)?;
-        self.scanner.move_to(tally.rest);
-        self.start = 0;
-        Some((before + count, written))
-    }
-}
-
-impl<'a> TextReader<'a> {
-    /// Takes up a blank and the item behind it at the front of a piece, and writes its value by a
-    /// writer, without building it: how many octets they have, and the answer of `TextWriter::put`.
-    ///
-    /// `None`, with nothing taken up and nothing written, where an item is open, or the value isn't
-    /// whole, ends before the octet behind it, may be a local symbol table, may not stand here or
-    /// is in any way unusual, and where the reader or the writer has failed or memory runs out.
-    /// Where that was so of several in a row, few are tried.
-    pub fn carry<W: Outlet>(
-        &mut self,
-        piece: &[u8],
-        writer: &mut TextWriter,
-        out: &mut W,
-    ) -> Option<(usize, Result<(), Fault>)>
-        requires room { ⟦<TextReader<'a> as Items>⟧.taken self.old + length piece.now < 2 ^ 63 }
-        ensures carries { IfSome result (λ carried. (v : Value) × IsKept v
-            × TookUp ⟦<TextReader<'a> as Items>⟧ self.old self.new piece.now carried.0 v
-            × WritesValue W.Outlet writer.old writer.new out.old out.new v carried.1) }
-        ensures stays { IsNone result →
-            (self.new ≡ self.old) × (writer.new ≡ writer.old) × (out.new ≡ out.old) }
-    {
-        if self.failure().is_some() {
-            return None;
-        }
-        self.walk_into(piece, writer, out)
     }
 }

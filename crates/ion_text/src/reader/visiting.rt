@@ -65,11 +65,13 @@ impl<'a> Visitable for TextReader<'a> {
         &mut self,
         piece: &[u8],
         level: u32,
-        visitor: &mut T,
-    ) -> Option<usize> {
+        visitor: T,
+    ) -> (Option<usize>, T) {
+        let mut led = visitor;
         if self.failure().is_some() {
-            return None;
+            return (None, led);
         }
-        self.walk_by(piece, level, visitor)
+        let used = self.walk_by(piece, level, &mut led);
+        (used, led)
     }
 }

@@ -3,7 +3,7 @@ use Rattle.ion_binary.specs.declared.form.Form.TheVariants as forms
 use Rattle.ion_binary.specs.laws.reading.Complete.{binary_some}
 use Rattle.ion_binary.specs.machine.EachOctet.{unfit}
 use Rattle.ion_binary.specs.machine.Views.{spot_of, open_frames, SameSetting}
-use Rattle.ion_binary.proofs.Compared.{front_found}
+use Rattle.ion_binary.proofs.Compared.{front_found, of_some}
 use Rattle.ion_binary.proofs.Further.{step_stands}
 use Rattle.ion_binary.proofs.Walks.{fits_earlier, walk_gives}
 use Rattle.ion_binary.proofs.reader.BinaryReader.pass_beside.Goals as goal
@@ -11,8 +11,8 @@ use Rattle.ion_binary.proofs.reader.BinaryReader.pass_beside.Goals as goal
 pub overflow_add-used : goal.overflow_add-used
 overflow_add-used g c =
     let start = c.new-comparison.ensures in
-    let found = c.in_ok-other_used.ensures.value in
-    let front = front_found c.args.self.now.context c.args.piece.now found.0 c.new-comparison.result c.visit.new.visitor c.count-count.result start.context
+    let found = of_some _ c.visit-found.result.0 c.in-Some.other_used c.in-Some.is c.visit-found.ensures.value in
+    let front = front_found c.args.self.now.context c.args.piece.now found.0 c.new-comparison.result c.visit-found.result.1 c.count-count.result start.context
     start.octets start.front found.4 c.count-count.ensures in
     let within = front.0 in
     omega (arith, within, c.requires.room)
@@ -23,9 +23,9 @@ returns-clause-alike g c =
     let w = c.args.piece.now in
     let n = c.count-count.result in
     let start = c.new-comparison.ensures in
-    let found = c.in_ok-other_used.ensures.value in
+    let found = of_some _ c.visit-found.result.0 c.in-Some.other_used c.in-Some.is c.visit-found.ensures.value in
     let v = found.0 in
-    let front = front_found r.context w v c.new-comparison.result c.visit.new.visitor n start.context start.octets start.front found.4 c.count-count.ensures in
+    let front = front_found r.context w v c.new-comparison.result c.visit-found.result.1 n start.context start.octets start.front found.4 c.count-count.ensures in
     let within = front.0 in
     let ready = c.may_walk.ensures c.if-not-may_walk.false in
     let some : 0 < n = omega (arith, binary_some r.context (take n w) v front.1, length-take {A = ℕ}) in

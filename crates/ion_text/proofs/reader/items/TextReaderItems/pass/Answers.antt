@@ -1,4 +1,4 @@
-use Rattle.std.proofs.Common.{rules, ◌≡◌, ◌+◌, ◌++◌, length, take, Ok, Err, Some, ap, sym, subst}
+use Rattle.std.proofs.Common.{rules, arith, ◌≡◌, ◌+◌, ◌++◌, length, take, Ok, Err, Some, refl, ap, sym, subst}
 use Rattle.std.specs.Prelude.{IsNone}
 use Rattle.ion_symtab.specs.Trace.{Answers, given_at}
 use Rattle.ion_symtab.specs.declared.items.Passed.{Passed}
@@ -14,8 +14,17 @@ use Rattle.ion_text.proofs.reader.items.TextReaderItems.pass.Goals as goal
 pub returns-in-Some-walk-clause-leaves : goal.returns-in-Some-walk-clause-leaves
 returns-in-Some-walk-clause-leaves c =
     let found = c.in-Some-walk.ensures.gives in
-    let progress = step_progress c.args.self.now c.walk.new.self c.args.piece.now (Ok (record { used = c.in-Some-walk.used; value = Some found.0 })) found.2 in
-    search rules
+    let less = step_progress c.args.self.now c.walk.new.self c.args.piece.now (Ok (record { used = c.in-Some-walk.used; value = Some found.0 })) found.2 refl in
+    record {
+      used = found.2.0;
+      uses_all = λ none. absurd cc;
+      counts = c.in-Some-walk.ensures.used;
+      progress = λ some. less;
+      few_pending = omega (arith, less);
+      onward = search rules;
+      not_failed = search rules;
+      awaited = search rules;
+    }
 
 pub returns-in-Some-walk-clause-stands : goal.returns-in-Some-walk-clause-stands
 returns-in-Some-walk-clause-stands c = λ u s h.
