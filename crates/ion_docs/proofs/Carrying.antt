@@ -1,5 +1,5 @@
 -- Values that go from a reader to an encoder without being built.
-use Rattle.std.proofs.Common.{◌≡◌, ◌∙◌, ℕ, List, [], ◌∷◌, ◌++◌, length, arith, refl, Option, Some, None, IfSome, Result, Ok, Err, OnErr, IfErr, ap, subst}
+use Rattle.std.proofs.Common.{◌≡◌, ◌∙◌, ℕ, List, [], ◌∷◌, ◌++◌, length, Option, Some, None, IfSome, Result, Ok, Err, OnErr, IfErr, ap, subst}
 use Rattle.ion_model.specs.declared.value.Value.{Value}
 use Rattle.ion_model.specs.Kept.{AreKept}
 use Rattle.ion_symtab.specs.declared.catalog.Catalog.{Catalog}

@@ -167,7 +167,7 @@ some_used b [] used value begins all progress = absurd begins
 some_used b (first ∷ rest) used None begins all progress = let e = all refl in omega (arith, e)
 some_used b (first ∷ rest) used (Some v) begins all progress = let e = progress refl in omega (arith, e)
 
-module _ {X : Type 0} {taken pending : X → ℕ} {awaits : X → Option ℕ} {failed : X → Option Refusal} where
+module _ (X : Type 0) (taken pending : X → ℕ) (awaits : X → Option ℕ) (failed : X → Option Refusal) where
   -- the first step over a piece that isn't empty uses an octet
   pub first_used : (b : Bool) (old new : X) (piece : List ℕ) (result : Result Step Refusal) → pending old ≡ 0 → Begins b piece →
       IfOk result (λ step. StepsOver taken pending awaits failed old new piece step.used step.value) → IfOk result (λ step. 0 < step.used)

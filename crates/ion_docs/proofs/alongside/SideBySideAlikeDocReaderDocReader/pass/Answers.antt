@@ -136,8 +136,8 @@ returns-in-Binary-Text-clause-alike c =
       },
     )) c.pass_beside.ensures.alike
 
-pub returns-in-Text-Binary-in-Some-clause-alike : goal.returns-in-Text-Binary-in-Some-clause-alike
-returns-in-Text-Binary-in-Some-clause-alike c =
+pub returns-in-Some-clause-alike : goal.returns-in-Some-clause-alike
+returns-in-Some-clause-alike c =
     let d = c.args.left.now in
     let e = c.args.right.now in
     let old = c.in-Text-Binary.reader in

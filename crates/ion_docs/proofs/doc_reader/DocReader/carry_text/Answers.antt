@@ -33,13 +33,13 @@ returns-in_ok-used-in-Text-clause-carries g c =
       found.3,
     )
 
-pub returns-in_ok-used-clause-carries : goal.returns-in_ok-used-clause-carries
-returns-in_ok-used-clause-carries g c =
+pub returns-in_ok-used-in-Binary-clause-carries : goal.returns-in_ok-used-in-Binary-clause-carries
+returns-in_ok-used-in-Binary-clause-carries g c =
     let d = c.args.self.now in
     let old = c.in-Binary.reader in
     let taken : taken_of d.format ≡ old.used = ap taken_of c.in-Binary.is in
-    let used = c.in_ok-used.used in
-    let found = c.in_ok-used.ensures.writes in
+    let used = c.in_ok-used-in-Binary.used in
+    let found = c.in_ok-used-in-Binary.ensures.writes in
     let up = found.2 in (
       found.0,
       found.1,
