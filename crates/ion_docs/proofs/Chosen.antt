@@ -6,6 +6,7 @@ use Rattle.ion_symtab.specs.Trace.{Trace, Answers, Finishes, given_at}
 use Rattle.ion_symtab.specs.Steps.{StepsOver}
 use Rattle.ion_symtab.specs.declared.items.Step.{Step}
 use Rattle.ion_symtab.specs.declared.items.Passed.{Passed}
+use Rattle.ion_symtab.specs.declared.items.Items.{Ghosts as Items}
 use Rattle.ion_model.specs.Outlines.{outline_of}
 use Rattle.ion_symtab.specs.declared.catalog.Catalog.{Catalog}
 use Rattle.ion_symtab.specs.declared.limits.Limits.{Limits}
@@ -167,10 +168,10 @@ some_used b [] used value begins all progress = absurd begins
 some_used b (first ∷ rest) used None begins all progress = let e = all refl in omega (arith, e)
 some_used b (first ∷ rest) used (Some v) begins all progress = let e = progress refl in omega (arith, e)
 
-module _ (X : Type 0) (taken pending : X → ℕ) (awaits : X → Option ℕ) (failed : X → Option Refusal) where
+module _ {X : Type 0} (I : Items X) where
   -- the first step over a piece that isn't empty uses an octet
-  pub first_used : (b : Bool) (old new : X) (piece : List ℕ) (result : Result Step Refusal) → pending old ≡ 0 → Begins b piece →
-      IfOk result (λ step. StepsOver taken pending awaits failed old new piece step.used step.value) → IfOk result (λ step. 0 < step.used)
+  pub first_used : (b : Bool) (old new : X) (piece : List ℕ) (result : Result Step Refusal) → I.pending old ≡ 0 → Begins b piece →
+      IfOk result (λ step. StepsOver I.taken I.pending I.awaits I.failed old new piece step.used step.value) → IfOk result (λ step. 0 < step.used)
   first_used b old new piece (Ok step) none begins leaves =
       some_used b piece step.used step.value begins leaves.uses_all (λ some. let h = leaves.progress some in omega (arith, h, none))
   first_used b old new piece (Err refusal) none begins leaves = tt

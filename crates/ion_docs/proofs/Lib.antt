@@ -7,3 +7,4 @@ pub mod Carrying
 pub mod Headline
 pub mod Told
 pub mod Converses
+pub mod TakenUp

@@ -1,7 +1,6 @@
-use Rattle.std.proofs.Common.{◌∙◌, true, false, None}
-use Rattle.ion_binary.specs.declared.reader.BinaryReader.{BinaryReader}
-use Rattle.ion_text.specs.declared.reader.TextReader.{TextReader}
-use Rattle.ion_text.specs.machine.Progress.{octets_used, pending, failed}
+use Rattle.std.proofs.Common.{◌∙◌, true, false}
+use Rattle.ion_binary.specs.contracts.reader.items.BinaryReaderItems.TheImpl.{ghosts as binary_reader}
+use Rattle.ion_text.specs.contracts.reader.items.TextReaderItems.TheImpl.{ghosts as text_reader}
 use Rattle.ion_binary.specs.machine.Views as binary
 use Rattle.ion_text.specs.machine.Progress as text
 use Rattle.ion_docs.specs.declared.doc_reader.Format.TheVariants.{Binary, Text}
@@ -16,7 +15,7 @@ returns-in-Ok-clause-stands c =
     first_kept c.args.self.now c.go_on.new.self (Binary new) c.args.piece.now result c.go_on.ensures
     (first_stands c.args.self.now true (binary.Stands c.in-Ok.reader) c.args.piece.now result c.requires.unbegun begins c.in-Ok.ensures.is_new.stands
     new.limits new.catalog.now (binary.Stands new)
-    (first_used BinaryReader (λ r. r.used) (λ r. 0) (λ r. None) (λ r. r.failed) true c.in-Ok.reader new c.args.piece.now result c.in-Ok.ensures.is_new.pending begins c.step-result.ensures.leaves)
+    (first_used binary_reader true c.in-Ok.reader new c.args.piece.now result c.in-Ok.ensures.is_new.pending begins c.step-result.ensures.leaves)
     c.step-result.ensures.stands (c.step-result.ensures.setting.1 ∙ c.in-Ok.ensures.is_new.limits)
     (c.step-result.ensures.setting.0 ∙ c.in-Ok.ensures.is_new.catalog))
 
@@ -36,7 +35,7 @@ returns-in-Ok-new-clause-stands c =
     first_kept c.args.self.now c.go_on-in-Ok-new.new.self (Text new) c.args.piece.now result c.go_on-in-Ok-new.ensures
     (first_stands c.args.self.now false (text.Stands old) c.args.piece.now result c.requires.unbegun begins c.in-Ok-new.ensures.is_new.stands
     new.limits new.catalog.now (text.Stands new)
-    (first_used TextReader octets_used pending (λ r. r.awaited) failed false old new c.args.piece.now result c.in-Ok-new.ensures.is_new.pending begins c.step-result-in-Ok-new.ensures.leaves)
+    (first_used text_reader false old new c.args.piece.now result c.in-Ok-new.ensures.is_new.pending begins c.step-result-in-Ok-new.ensures.leaves)
     c.step-result-in-Ok-new.ensures.stands (c.step-result-in-Ok-new.ensures.setting.1 ∙ c.in-Ok-new.ensures.is_new.limits)
     (c.step-result-in-Ok-new.ensures.setting.0 ∙ c.in-Ok-new.ensures.is_new.catalog))
 
