@@ -1,8 +1,11 @@
 //! Amazon Ion 1.0 under one name: `use ion::{..}` gives values, documents read whole or one value
-//! after the other, what they are converted to, where two of them part, and lines and columns. Each
-//! name stands in one of the crates below, which `docs/API.md` shows.
+//! after the other, what they are converted to, where two of them part, and lines and columns. All
+//! but `values` stands in one of the crates below, which `docs/API.md` shows.
 #![tactic(auto)]
 
+mod documents;
+
+pub use documents::values;
 pub use ion_binary::BinaryWriter;
 pub use ion_docs::{
     DocReader, PathText, Side, Target, Verdict, check, compare, convert, convert_with_hasher,
@@ -17,4 +20,4 @@ pub use ion_symtab::{
     Catalog, Failed, Fault, FromRead, Inlet, Limits, Outlet, SharedTable, ToWrite,
 };
 pub use ion_text::{SymbolText, TextWriter, spelling_of, symbol_text, text_of};
-pub use ion_values::{Each, Stop, Values, values};
+pub use ion_values::{Each, Stop, Values};

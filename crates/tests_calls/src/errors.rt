@@ -1,11 +1,11 @@
 //! Errors of the calls, handed on by `?` to `anyhow`: its message is theirs.
 use crate::answers::same;
 use anyhow::Result;
+use ion::values;
 use ion_devices::FrailReader;
 use ion_docs::check;
 use ion_model::{Reason, Value};
 use ion_symtab::{Catalog, FromRead, Inlet, Limits};
-use ion_values::values;
 use ion_words::parse;
 use std::alloc::Global;
 use std::io::ErrorKind;
