@@ -92,8 +92,8 @@ fn symbol_note(octets: &[u8]) -> Option<(FoundToken, &str)>
     }
 }
 
-/// The annotation there.
-pub(super) fn note_at(octets: &[u8]) -> Option<Note<'_>>
+// The annotation there.
+fn note_at(octets: &[u8]) -> Option<Note<'_>>
     ensures { IfSome result (λ note. NoteThere octets.now note) }
 {
     let (token, text) = symbol_note(octets)?;

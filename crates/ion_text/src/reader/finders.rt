@@ -1,6 +1,6 @@
 //! Tokens at the front of octets that are a value or a field's name, with what they say. Of a token
 //! that isn't whole, isn't plain or may be a symbol's id nothing is found.
-ghost use Rattle.std.specs.Prelude.{◌≡◌, false, IfSome, Ok, Some};
+ghost use Rattle.std.specs.Prelude.{◌≡◌, false, true, IfSome, Ok, Some};
 ghost use Rattle.ion_tokens.specs.Bodies.{content};
 ghost use Rattle.ion_tokens.specs.Places.{is_name};
 ghost use Rattle.ion_tokens.specs.declared.mode.Place.{Place};
@@ -53,7 +53,8 @@ fn word_part(word: &str) -> Option<(Kind, Part<'_>)>
 
 // The word at the front of octets, as a value.
 fn word_at(octets: &[u8]) -> Option<(Scalar, Part<'_>)>
-    ensures { IfSome result (λ found. (here : Place) (rest : Rest) →
+    ensures waits { IfSome result (λ found. found.0.waits ≡ true) }
+    ensures found { IfSome result (λ found. (here : Place) (rest : Rest) →
         FoundPart here rest octets.now found.0 (payload_of found.1)) }
 {
     let count = word(octets)?;
@@ -76,7 +77,8 @@ fn word_at(octets: &[u8]) -> Option<(Scalar, Part<'_>)>
 
 // The quoted symbol there.
 fn quoted_at(octets: &[u8]) -> Option<(Scalar, Part<'_>)>
-    ensures { IfSome result (λ found. (here : Place) (rest : Rest) →
+    ensures waits { IfSome result (λ found. found.0.waits ≡ true) }
+    ensures found { IfSome result (λ found. (here : Place) (rest : Rest) →
         FoundPart here rest octets.now found.0 (payload_of found.1)) }
 {
     let count = quoted_symbol(octets)?;
@@ -176,6 +178,18 @@ pub(super) fn rare_part<'b>(body: &'b Body<'_>) -> Option<(Kind, bool, Part<'b>)
     }
 }
 
+/// The word or the quoted symbol there, as a value.
+pub(super) fn symbol_at(octets: &[u8]) -> Option<(Scalar, Part<'_>)>
+    ensures found { IfSome result (λ found. (here : Place) (rest : Rest) →
+        FoundPart here rest octets.now found.0 (payload_of found.1)) }
+    ensures waits { IfSome result (λ found. found.0.waits ≡ true) }
+{
+    match octets.first() {
+        Some(b'\'') => quoted_at(octets),
+        _ => word_at(octets),
+    }
+}
+
 /// The plain token there that is a value but no number.
 pub(super) fn plain_at(octets: &[u8]) -> Option<(Scalar, Part<'_>)>
     ensures { IfSome result (λ found. (here : Place) (rest : Rest) →
@@ -183,8 +197,7 @@ pub(super) fn plain_at(octets: &[u8]) -> Option<(Scalar, Part<'_>)>
 {
     match octets.first() {
         Some(b'"') => string_at(octets),
-        Some(b'\'') => quoted_at(octets),
-        _ => word_at(octets),
+        _ => symbol_at(octets),
     }
 }
 

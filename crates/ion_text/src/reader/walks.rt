@@ -1,6 +1,6 @@
 //! Values that lie whole in a piece: they are judged and not built, and a visitor takes them. What
 //! is cut, refused or unusual isn't told here: the reader takes it up token by token.
-ghost use Rattle.std.specs.Prelude.{◌≡◌, ◌+◌, ◌-◌, ◌≤◌, ◌<◌, ◌^◌, min, true, false, length, get_or, IfSome, Some};
+ghost use Rattle.std.specs.Prelude.{◌≡◌, ◌+◌, ◌-◌, ◌≤◌, ◌<◌, ◌^◌, min, true, false, length, get_or, drop, IfSome, Some};
 ghost use Rattle.ion_atoms.specs.declared.kind.Kind.TheVariants as kinds;
 ghost use Rattle.ion_tokens.specs.Places.{is_name};
 ghost use Rattle.ion_tokens.specs.declared.mode.Place.{Place};
@@ -9,17 +9,18 @@ ghost use Rattle.ion_tokens.specs.declared.mode.Mark.TheVariants as marks;
 ghost use Rattle.ion_tokens.specs.declared.mode.Place.TheVariants as places;
 ghost use Rattle.ion_tokens.specs.declared.mode.TokenKind.TheVariants as tokens;
 ghost use Rattle.ion_tokens.specs.machine.Rests.{past_blank, past_token, IsPassed};
-ghost use Rattle.ion_text.specs.machine.FrontTokens.{BeginsName};
+ghost use Rattle.ion_text.specs.machine.FrontTokens.{ends_symbol, BeginsName};
 ghost use Rattle.ion_text.specs.machine.Nested.{OpensAt};
 ghost use Rattle.ion_text.specs.machine.Walked.{kind_in, behind_key};
 ghost use Rattle.ion_visiting.specs.declared.bracket.Bracket.TheVariants as brackets;
 ghost use Rattle.ion_visiting.specs.Parts.{payload_of};
 ghost use Rattle.ion_text.specs.visiting.Walks.{FoundPart, FoundNumber, VisitedValue, VisitedItem, VisitedContainer, VisitedInside, VisitedName};
 
-use super::annotations::{note_at, walk_notes};
+use super::annotations::walk_notes;
 use super::escaped_tokens::may_be_rare;
 use super::finders::{
-    Scalar, begins_number, number_at, number_kind, plain_at, rare_part, text_name, word_name,
+    Scalar, begins_number, number_at, number_kind, plain_at, rare_part, symbol_at, text_name,
+    word_name,
 };
 use super::nested_containers::{bracket_at, close_mark, open_mark};
 use super::symbols::{behind_name, behind_symbol};
@@ -203,6 +204,34 @@ fn walk_rare<T: TextVisitor>(
     walk_part(here, octets, scalar, &said, level, tally, visitor)
 }
 
+// Goes over this symbol, and over a blank of so many octets behind it, which no `::` follows.
+#[inline(always)]
+fn walk_symbol<T: TextVisitor>(
+    here: Place,
+    octets: &[u8],
+    scalar: Scalar,
+    said: &Part<'_>,
+    between: usize,
+    level: u32,
+    tally: &mut Tally,
+    visitor: &mut T,
+) -> Option<usize>
+    requires found { FoundPart here tally.old.rest octets.now scalar (payload_of said.now) }
+    requires waits { scalar.waits ≡ true }
+    requires passed { IsPassed (drop scalar.token.count octets.now) between }
+    requires within { scalar.token.count + between < length octets.now }
+    requires ends { ends_symbol (get_or octets.now (scalar.token.count + between) 0) ≡ true }
+    requires low { tally.old.level ≤ level }
+    requires room { tally.old.rest.used + length octets.now < 2 ^ 63 }
+    ensures { IfSome result (λ count. VisitedValue T.visits here level octets.now count
+        tally.old tally.new visitor.old visitor.new) }
+{
+    if !visitor.part(said) {
+        return None;
+    }
+    Some(tally.pass_scalar(here, scalar, between))
+}
+
 // Goes over this token, which is a value, and over the blank behind it that shows that it is no
 // annotation.
 #[inline(always)]
@@ -221,12 +250,12 @@ fn walk_part<T: TextVisitor>(
     ensures { IfSome result (λ count. VisitedValue T.visits here level octets.now count
         tally.old tally.new visitor.old visitor.new) }
 {
-    if !visitor.part(said) {
-        return None;
-    }
     if scalar.waits {
         let between = behind_symbol(octets, scalar.token.count)?;
-        return Some(tally.pass_scalar(here, scalar, between));
+        return walk_symbol(here, octets, scalar, said, between, level, tally, visitor);
+    }
+    if !visitor.part(said) {
+        return None;
     }
     Some(tally.pass_scalar(here, scalar, 0))
 }
@@ -480,10 +509,18 @@ fn walk_item<T: TextVisitor>(
     ensures { IfSome result (λ count. VisitedItem T.visits here level octets.now count
         tally.old tally.new visitor.old visitor.new) }
 {
-    if begins_symbol(octets) && note_at(octets).is_some() {
-        return walk_annotated_value(beside, here, octets, level, tally, visitor);
+    if !begins_symbol(octets) {
+        return walk_value(beside, here, octets, level, tally, visitor);
     }
-    walk_value(beside, here, octets, level, tally, visitor)
+    let Some((scalar, said)) = symbol_at(octets) else {
+        return walk_rare(beside, here, octets, level, tally, visitor);
+    };
+    match behind_symbol(octets, scalar.token.count) {
+        None => walk_annotated_value(beside, here, octets, level, tally, visitor),
+        Some(between) => {
+            walk_symbol(here, octets, scalar, &said, between, level, tally, visitor)
+        }
+    }
 }
 
 /// Goes over the list, the s-expression or the struct there, with its close.

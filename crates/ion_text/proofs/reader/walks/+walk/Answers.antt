@@ -26,8 +26,8 @@ walk_annotated_value-returns g t c =
     (omega (arith, c.if-notes-eq0.false)) c.in_ok-mark.ensures c.in_ok-notes.ensures (c.end_annotations.ensures c.if-not-end_annotations.false)
     c.in_ok-count.ensures (c.close_wrapper.ensures c.if-not-close_wrapper.false)
 
-pub walk_item-returns : goal.walk_item-returns
-walk_item-returns g t c =
+pub walk_item-returns-then-not-begins_symbol : goal.walk_item-returns-then-not-begins_symbol
+walk_item-returns-then-not-begins_symbol g t c =
     item_bare_visited g.T.TextVisitor.visits c.args.here c.args.level c.args.octets.now c.args.tally.now c.walk_value.new.tally _ _ c.walk_value.result
     c.walk_value.ensures
 

@@ -2,25 +2,9 @@ use Rattle.std.proofs.Common.{◌≡◌, ◌+◌, ◌≤◌, length, refl, subst
 use Rattle.ion_tokens.specs.machine.Rests.{past_token}
 use Rattle.ion_text.specs.machine.Walked.{LeadsBehind}
 use Rattle.ion_visiting.specs.Parts.{payload_of}
-use Rattle.ion_text.proofs.Walking.{found_within, scalar_leads, symbol_leads, walked_scalar}
+use Rattle.ion_text.proofs.Walking.{found_within, scalar_leads, walked_scalar}
 use Rattle.ion_text.proofs.Visited.{scalar_visited}
 use Rattle.ion_text.proofs.reader.walks.walk_part.Goals as goal
-
-pub returns-then-scalar : goal.returns-then-scalar
-returns-then-scalar g c =
-    let octets = c.args.octets.now in
-    let s = c.args.scalar in
-    let m = c.in_ok-between.between in
-    let rest = c.args.tally.now.rest in
-    let found = c.requires.found.token in
-    let behind = c.in_ok-between.ensures in
-    let inside = behind.within in
-    let within : s.token.count + m ≤ length octets = omega arith in
-    scalar_visited g.T.TextVisitor.visits c.args.here rest octets s (payload_of c.args.said.now) c.requires.found c.args.level (s.token.count + m)
-    c.pass_scalar.result c.args.tally.now c.pass_scalar.new.self _ _ c.pass_scalar.ensures.total
-    (walked_scalar c.args.here c.args.level rest octets s found c.args.tally.now c.pass_scalar.new.self m c.requires.low refl within
-    (symbol_leads c.args.here c.args.level rest octets s found m c.if-scalar.true inside behind.passed behind.ends) c.pass_scalar.ensures.noted)
-    (c.part.ensures c.if-not-part.false)
 
 pub returns : goal.returns
 returns g c =
@@ -32,7 +16,7 @@ returns g c =
     let within : s.token.count + 0 ≤ length octets = omega arith in
     let none : s.token.count ≡ s.token.count + 0 = omega arith in
     scalar_visited g.T.TextVisitor.visits c.args.here rest octets s (payload_of c.args.said.now) c.requires.found c.args.level (s.token.count + 0)
-    c.pass_scalar-2.result c.args.tally.now c.pass_scalar-2.new.self _ _ c.pass_scalar-2.ensures.total
-    (walked_scalar c.args.here c.args.level rest octets s found c.args.tally.now c.pass_scalar-2.new.self 0 c.requires.low refl within
+    c.pass_scalar.result c.args.tally.now c.pass_scalar.new.self _ _ c.pass_scalar.ensures.total
+    (walked_scalar c.args.here c.args.level rest octets s found c.args.tally.now c.pass_scalar.new.self 0 c.requires.low refl within
     (subst (λ k. LeadsBehind c.args.here c.args.level rest octets k (past_token c.args.here rest s.token.kind s.token.count) found.payload) none
-    (scalar_leads c.args.here c.args.level rest octets s found c.if-scalar.false)) c.pass_scalar-2.ensures.noted) (c.part.ensures c.if-not-part.false)
+    (scalar_leads c.args.here c.args.level rest octets s found c.if-scalar.false)) c.pass_scalar.ensures.noted) (c.part.ensures c.if-not-part.false)
