@@ -18,7 +18,7 @@ use Rattle.ion_text.specs.machine.Pieces.{led}
 use Rattle.ion_text.specs.laws.reading.complete.Fuel.{NotLeaves, eats_stays}
 use Rattle.ion_text.specs.machine.Views.{state_of, reading_of, Told, DidTake, SameReader}
 use Rattle.ion_text.specs.machine.Progress.{Took, GaveLast}
-use Rattle.ion_text.specs.machine.AtOnce.{Passes, IsStill, IsResting, Inside, Strides}
+use Rattle.ion_text.specs.machine.AtOnce.{Passes, IsStill, IsResting, Inside, Strides, StridesBy}
 use Rattle.ion_text.proofs.Passing.{passes_on, passes_none, next_octet}
 
 -- where nothing waits, settling changes nothing
@@ -50,6 +50,10 @@ strides_none r octets h = record {
 
 same_on : (a b c : TextReader) → SameReader a b → SameReader b c → SameReader a c
 same_on a b c h k = record { catalog = k.catalog ∙ h.catalog; limits = k.limits ∙ h.limits; awaited = k.awaited ∙ h.awaited; failed = k.failed ∙ h.failed }
+
+-- octets that were taken up are an answer
+pub strode : (old new : TextReader) (octets : List ℕ) (count : ℕ) → Strides old new octets count → StridesBy old new octets (Ok count)
+strode old new octets count s = record { strides = s; memory = tt; same = s.same }
 
 -- octets taken up at once and those taken up behind them are taken up together
 pub strides_on : (a b c : TextReader) (octets rest : List ℕ) (i j : ℕ) → rest ≡ drop i octets → Strides a b octets i → Strides b c rest j

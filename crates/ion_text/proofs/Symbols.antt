@@ -40,11 +40,12 @@ use Rattle.ion_text.specs.declared.state.Frame.{Frame}
 use Rattle.ion_text.specs.declared.state.Frame.TheVariants as frames
 use Rattle.ion_text.specs.declared.state.Held.{Held}
 use Rattle.ion_text.specs.declared.state.Held.TheVariants as helds
+use Rattle.ion_text.specs.declared.state.Now.{Now}
 use Rattle.ion_text.specs.declared.state.Now.TheVariants as nows
 use Rattle.ion_text.specs.declared.reader.TextReader.{TextReader}
-use Rattle.ion_text.specs.machine.FrontTokens.{ends_symbol, held_of, value_of, Pays, Names, BeginsSymbol, BeginsValue, BeginsName}
+use Rattle.ion_text.specs.machine.FrontTokens.{ends_symbol, held_of, value_of, Pays, Names, BeginsValue, BeginsName}
 use Rattle.ion_text.specs.machine.EachToken.{Setting, Spot, under, spot_in, token_at, Reading, Symbols, goes, late, at, place, place_in, settle, turn, turn_now, on_ready, on_name, ended, paid, held_word, held_payload, held_symbol, noted, keyed, named}
-use Rattle.ion_text.specs.machine.AtOnce.{Passes, IsStill, Inside, Strides}
+use Rattle.ion_text.specs.machine.AtOnce.{Passes, IsStill, Inside, Strides, TokenAhead}
 use Rattle.ion_text.specs.machine.Run.{is_top, with_scan, token_of}
 use Rattle.ion_text.specs.machine.Pieces.{Quiet}
 use Rattle.ion_text.specs.machine.Views.{setting_of, spot_of, reading_of, open_frames, with_beside, IsCalm, SameSetting}
@@ -82,7 +83,7 @@ waits_so setting spot fs ss c h e = go c e
     go (Blob w) e = absurd cc
     go (Mark' m) e = absurd cc
 
-ends_so : (setting : Setting) (spot : Spot) (fs : List Frame) (ss : Symbols) (c : Content) (v : Payload) → value_of c ≡ Some v → on_ready setting spot fs ss c
+pub ends_so : (setting : Setting) (spot : Spot) (fs : List Frame) (ss : Symbols) (c : Content) (v : Payload) → value_of c ≡ Some v → on_ready setting spot fs ss c
     ≡ ended setting spot fs (annotated ss v)
 ends_so setting spot fs ss c v e = go c e
   where
@@ -495,13 +496,13 @@ module _ (p : Place) (r : Rest) (octets : List ℕ) (n : ℕ) where
 
   -- a word found there is the value that is held of it, unless `::` follows
   pub word_symbol : (payload : Payload) → IsFound p r octets kinds.Word (take n octets) n true → IsUtf8 (take n octets) → get_or octets 0 0 ≢ 36
-      → held_payload (held_word (take n octets)) ≡ Ok payload → BeginsSymbol p r octets found_word payload
+      → held_payload (held_word (take n octets)) ≡ Ok payload → BeginsValue true p r octets found_word payload
   word_symbol payload found text first pays = record {
     kept = take n octets;
     content = Word (take n octets);
     found = found;
     says = word_said found text first;
-    pays = pays;
+    is = pays;
   }
 
   -- a word found there that is no keyword is the name of a field
@@ -517,13 +518,13 @@ module _ (p : Place) (r : Rest) (octets : List ℕ) (n : ℕ) where
 
   module _ (w : List ℕ) (s : Option (List ℕ)) (text : IsUtf8 w) (is : s ≡ Some w) where
     -- a quoted symbol found there is the symbol of its text, unless `::` follows
-    pub quoted_symbol : IsFound p r octets kinds.QuotedSymbol w n false → BeginsSymbol p r octets found_quoted (payloads.Symbol s)
+    pub quoted_symbol : IsFound p r octets kinds.QuotedSymbol w n false → BeginsValue true p r octets found_quoted (payloads.Symbol s)
     quoted_symbol found = record {
       kept = w;
       content = Quoted w;
       found = found;
       says = quoted_says w text;
-      pays = ap (λ x. Ok (payloads.Symbol x)) (sym is);
+      is = ap (λ x. Ok (payloads.Symbol x)) (sym is);
     }
 
     -- a quoted symbol found there is the name of a field
@@ -569,11 +570,11 @@ module _ (old new : TextReader) (moved : Scanner) (rest behind : Rest) (octets :
 
   -- in an open container a symbol that no `::` follows is taken up at once with the blank behind it
   pub symbol_strides : (m : ℕ) (payload : Payload) → n + m < length octets → behind ≡ past_blank (past_token (place (reading_of old)) rest token.kind n) m
-      → old.stage ≡ nows.Ready → BeginsSymbol (place (reading_of old)) rest octets token payload → IsPassed (drop n octets) m
+      → old.stage ≡ nows.Ready → BeginsValue true (place (reading_of old)) rest octets token payload → IsPassed (drop n octets) m
       → ends_symbol (get_or octets (n + m) 0) ≡ true → ended (setting_of old) (spot_of old (rest.used + n)) (open_frames old) (annotated old.notes payload)
       ≡ goes (reading_of new) → Strides old new octets (n + m)
   symbol_strides m payload within there now b passed ends does =
-      let pays = held_in (held_of b.content) payload b.pays in
+      let pays = held_in (held_of b.content) payload b.is in
       moved_strides old new moved rest behind octets inside rests move setting (n + m) within
       (ap (λ (k : Rest). k.used) there ∙ (blank_used (past_token (place (reading_of old)) rest token.kind n) m ∙ total rest.used n m))
       (ended_stays (setting_of old) (spot_of old (rest.used + n)) (reading_of new) (open_frames old) (annotated old.notes payload) inside.inner does)
@@ -585,11 +586,11 @@ module _ (old new : TextReader) (moved : Scanner) (rest behind : Rest) (octets :
   -- in an open container an annotation is taken up at once with its `::`
   pub note_strides : (m : ℕ) (s : Option (List ℕ)) → n + m + 2 < length octets
       → behind ≡ past_token (place (reading_of old)) (past_blank (past_token (place (reading_of old)) rest token.kind n) m) (kinds.Mark marks.Colons) 2
-      → old.stage ≡ nows.Ready → BeginsSymbol (place (reading_of old)) rest octets token (payloads.Symbol s)
+      → old.stage ≡ nows.Ready → BeginsValue true (place (reading_of old)) rest octets token (payloads.Symbol s)
       → IsPassed (drop n octets) m → get_or octets (n + m) 0 ≡ 58 → get_or octets (n + m + 1) 0 ≡ 58
       → reading_of new ≡ at old.start old.context (open_frames old) (old.notes ++ s ∷ []) nows.Ready → Strides old new octets (n + m + 2)
   note_strides m s within there now b passed one two is =
-      let pays = held_in (held_of b.content) (payloads.Symbol s) b.pays in
+      let pays = held_in (held_of b.content) (payloads.Symbol s) b.is in
       moved_strides old new moved rest behind octets inside rests move setting (n + m + 2) within
       (ap (λ (k : Rest). k.used) there ∙ (ap (λ k. k + 2) (blank_used (past_token (place (reading_of old)) rest token.kind n) m) ∙ more rest.used n m))
       (subst (StaysIn old.start) (sym is) (inside.inner, refl, tt))
@@ -624,13 +625,18 @@ module _ (old new : TextReader) (moved : Scanner) (rest behind : Rest) (octets :
 
   -- in an open container a token that is a value at once is taken up
   pub whole_strides : (payload : Payload) → n < length octets → behind ≡ past_token (place (reading_of old)) rest token.kind n → old.stage ≡ nows.Ready
-      → BeginsValue (place (reading_of old)) rest octets token payload
+      → BeginsValue false (place (reading_of old)) rest octets token payload
       → ended (setting_of old) (spot_of old (rest.used + n)) (open_frames old) (annotated old.notes payload) ≡ goes (reading_of new) → Strides old new octets n
   whole_strides payload within there now b does =
       value_strides old new moved rest behind octets token.kind b.kept n token.left b.content (annotated old.notes payload) inside rests move setting within
       there now b.found b.says
-      (ends_so (setting_of old) (spot_of old (rest.used + n)) (open_frames old) old.notes b.content payload b.is) does
+      (b.is (setting_of old) (spot_of old (rest.used + n)) (open_frames old) old.notes) does
 
 -- what is so of a reader in an open container doesn't mind the reader of tokens beside the scanner
-pub inside_beside : (r : TextReader) (b : TokenReader) (octets : List ℕ) → Inside r octets → Inside (with_beside r b) octets
+inside_beside : (r : TextReader) (b : TokenReader) (octets : List ℕ) → Inside r octets → Inside (with_beside r b) octets
 inside_beside r b octets h = record { some = h.some; inner = h.inner; fits = h.fits; room = h.room; fine = h.fine }
+
+-- nor do the octets ahead
+pub ahead_beside : (now : Now) (r : TextReader) (b : TokenReader) (rest : Rest) (octets : List ℕ) → TokenAhead now r rest octets
+    → TokenAhead now (with_beside r b) rest octets
+ahead_beside now r b rest octets h = record { inside = inside_beside r b octets h.inside; rests = h.rests; stage = h.stage }

@@ -49,8 +49,8 @@ use Rattle.ion_text.specs.machine.Pieces.{led, drive, go_on, Quiet}
 use Rattle.ion_text.specs.machine.Progress.{Advances, Stands}
 use Rattle.ion_text.specs.machine.Run.{State, uses, fails, tells, eats, takes, on_scan, on_said, behind_given, unsettled, reaches, longest_top, is_long_begun, token_of, run, run_on, with_scan}
 use Rattle.ion_text.specs.machine.Views.{state_of, open_frames, with_beside, base}
-use Rattle.ion_text.specs.machine.Walked.{behind_note, EndsAtOnce, IsFresh, IsValue, most, rested, FoundNote, FoundScalar, GivesTop, LeadsPast, Walked, WalkedBare, WalkedContainer, WalkedItem, WalkedNote, WalkedNotes, WalkedTop}
-use Rattle.ion_text.specs.machine.FrontTokens.{held_of}
+use Rattle.ion_text.specs.machine.Walked.{behind_note, IsFresh, most, rested, FoundNote, FoundScalar, GivesTop, LeadsPast, Walked, WalkedBare, WalkedContainer, WalkedItem, WalkedNote, WalkedNotes, WalkedTop}
+use Rattle.ion_text.specs.machine.FrontTokens.{held_of, EndsAtOnce, IsValue}
 use Rattle.ion_text.proofs.Arms.{left_found, given_found, mark_says, at_drop, blank_used}
 use Rattle.ion_text.proofs.Nested.{is_open_left, open_found, close_found, closing}
 use Rattle.ion_text.proofs.Passing.{NoticesNothing, inner_notices, passes_blank, passes_on, passes_none, passes_led, next_octet}
@@ -323,7 +323,7 @@ module _ (octets : List ℕ) (token : FoundToken) (f : FoundNote octets token) (
       let b = f.begins places.Top rest in
       let n = token.count in
       let start' = begun_at start rest.used [] ss in
-      let pays = held_in (held_of b.content) _ b.pays in
+      let pays = held_in (held_of b.content) _ b.is in
       noted_passes g l (at start c [] ss nows.Ready) start' refl refl rest octets token.kind b.kept n m token.left b.content pays.0 f.name b.found b.says pays.1
       (symbol_held pays.0 f.name pays.2) passed within one two
       (λ k few. top_quiet g l start c ss rest octets k (omega arith) (omega arith))
@@ -333,7 +333,7 @@ module _ (octets : List ℕ) (token : FoundToken) (f : FoundNote octets token) (
   note_leads g l start c (h ∷ fs) ss rest room =
       let r = at start c (h ∷ fs) ss nows.Ready in
       let b = f.begins (place r) rest in
-      let pays = held_in (held_of b.content) _ b.pays in
+      let pays = held_in (held_of b.content) _ b.is in
       note_passes g l r refl rest octets token.kind b.kept token.count m token.left b.content room (omega arith) b.found b.says passed tt tt refl pays.0 pays.1
       f.name (symbol_held pays.0 f.name pays.2) within one two
 

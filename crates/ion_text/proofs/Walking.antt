@@ -36,7 +36,7 @@ use Rattle.ion_text.specs.declared.state.Listing.{Listing}
 use Rattle.ion_text.specs.declared.state.Listing.TheVariants as listings
 use Rattle.ion_text.specs.declared.state.Now.{Now}
 use Rattle.ion_text.specs.declared.state.Now.TheVariants as nows
-use Rattle.ion_text.specs.machine.FrontTokens.{ends_symbol, held_of}
+use Rattle.ion_text.specs.machine.FrontTokens.{ends_symbol, held_of, EndsAtOnce, IsValue}
 use Rattle.ion_text.specs.laws.reading.complete.Complete.{depths, field_depths, depth-list, depth-sexp, depth-struct, field_deepest-more}
 use Rattle.ion_text.specs.machine.EachToken.{Setting, Spot, under, spot_at, Reading, Symbols, goes, at, place, place_in, item_place, behind_item, turn, on_ready, ended, opened, first_now, beyond_depth, closed}
 use Rattle.ion_text.specs.machine.Run.{is_top, with_scan, token_of}
@@ -44,7 +44,7 @@ use Rattle.ion_text.specs.machine.Pieces.{Quiet}
 use Rattle.ion_text.specs.machine.Nested.{bracket_in, open_mark, close_mark, OpensAt, closes, close_octet}
 use Rattle.ion_text.specs.machine.Views.{IsCalm}
 use Rattle.ion_text.specs.machine.AtOnce.{Passes, IsStill}
-use Rattle.ion_text.specs.machine.Walked.{behind_key, EndsAtOnce, IsValue, most, FoundScalar, FoundName, rested, Leads, LeadsBehind, Noted, Walked, WalkedItem, WalkedContainer, WalkedInside, WalkedName, kind_in}
+use Rattle.ion_text.specs.machine.Walked.{behind_key, most, FoundScalar, FoundName, rested, Leads, LeadsBehind, Noted, Walked, WalkedItem, WalkedContainer, WalkedInside, WalkedName, kind_in}
 use Rattle.ion_text.specs.laws.reading.Brackets.{open_turns}
 use Rattle.ion_text.proofs.Arms.{StaysIn, ready_turns, ended_stays, left_passes, given_passes, mark_says, at_drop, blank_used}
 use Rattle.ion_text.proofs.Nested.{is_open_left, open_found, opened_stays, close_found, closing}

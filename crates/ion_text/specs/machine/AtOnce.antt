@@ -1,8 +1,12 @@
 -- Octets of an open container that are taken up at once, up to one that is yet to be taken up.
-use Rattle.std.specs.Prelude.{◌≡◌, ◌<◌, ◌≤◌, ◌^◌, ℕ, ◌+◌, false, List, length, take, drop}
+use Rattle.std.specs.Prelude.{◌≡◌, ◌<◌, ◌≤◌, ◌^◌, ℕ, ◌+◌, false, List, Result, IfOk, IfErr, length, take, drop}
+use Rattle.ion_atoms.specs.declared.refusal.Reason.{Reason}
+use Rattle.ion_atoms.specs.declared.refusal.Reason.TheVariants.{Memory}
 use Rattle.ion_symtab.specs.declared.limits.Limits.{Limits}
 use Rattle.ion_symtab.specs.declared.catalog.Catalog.{Catalog}
 use Rattle.ion_tokens.specs.declared.mode.Mode.TheVariants as modes
+use Rattle.ion_tokens.specs.declared.plain_tokens.Rest.{Rest}
+use Rattle.ion_tokens.specs.machine.Rests.{resting}
 use Rattle.ion_tokens.specs.machine.Views.{scanned}
 use Rattle.ion_text.specs.declared.state.Now.{Now}
 use Rattle.ion_text.specs.declared.state.Now.TheVariants as nows
@@ -45,4 +49,16 @@ pub record Strides (old new : TextReader) (octets : List ℕ) (count : ℕ) : Ty
   pub rests : IsResting old → IsResting new
   pub fine : IsFine new
   pub steady : StaysSteady old new
+  pub same : SameReader old new
+
+-- in an open container no token has begun, one of this stage may come, and these octets are ahead
+pub record TokenAhead (now : Now) (r : TextReader) (rest : Rest) (octets : List ℕ) : Type 0 where
+  pub inside : Inside r octets
+  pub rests : scanned r.scanner ≡ resting rest
+  pub stage : r.stage ≡ now
+
+-- what taking up of these octets answers: how many they are, or that there is no memory
+pub record StridesBy (old new : TextReader) (octets : List ℕ) (result : Result ℕ Reason) : Type 0 where
+  pub strides : IfOk result (λ count. Strides old new octets count)
+  pub memory : IfErr result (λ reason. reason ≡ Memory)
   pub same : SameReader old new

@@ -1,7 +1,8 @@
 -- Tokens at the front of octets where a container is open: as values, and as names of fields.
-use Rattle.std.specs.Prelude.{◌≡◌, ℕ, ◌==◌, ◌&&◌, ◌||◌, Bool, false, not, nat_lt, List, Option, Some, None, Ok}
+use Rattle.std.specs.Prelude.{◌≡◌, ℕ, ◌==◌, ◌&&◌, ◌||◌, Bool, true, false, not, nat_lt, List, Option, Some, None, Ok}
 use Rattle.ion_model.specs.declared.value.Payload.{Payload}
 use Rattle.ion_model.specs.declared.value.Payload.TheVariants as payloads
+use Rattle.ion_model.specs.Measures.{annotated}
 use Rattle.ion_tokens.specs.declared.token_reader.FoundToken.{FoundToken}
 use Rattle.ion_tokens.specs.declared.mode.Place.{Place}
 use Rattle.ion_tokens.specs.declared.plain_tokens.Rest.{Rest}
@@ -9,7 +10,8 @@ use Rattle.ion_tokens.specs.Bodies.{Content, Word, Quoted, Short, TypedNull, Ope
 use Rattle.ion_tokens.specs.machine.Rests.{IsFound}
 use Rattle.ion_tokens.specs.machine.Said.{said}
 use Rattle.ion_text.specs.Grammar.{is_keyword}
-use Rattle.ion_text.specs.machine.EachToken.{held_word, held_payload}
+use Rattle.ion_text.specs.declared.state.Frame.{Frame}
+use Rattle.ion_text.specs.machine.EachToken.{Setting, Spot, Symbols, ended, held_word, held_payload, on_ready}
 use Rattle.ion_text.specs.declared.state.Held.{Held}
 use Rattle.ion_text.specs.declared.state.Held.TheVariants as helds
 
@@ -44,21 +46,23 @@ Names (Quoted w) name = name ≡ Some w
 Names (Short w) name = name ≡ Some w
 Names _ name = ⊥
 
--- octets begin with this token, which is this value unless `::` follows
-pub record BeginsSymbol (p : Place) (r : Rest) (octets : List ℕ) (token : FoundToken) (payload : Payload) : Type 0 where
-  pub kept : List ℕ
-  pub content : Content
-  pub found : IsFound p r octets token.kind kept token.count token.left
-  pub says : said token.kind kept ≡ Ok content
-  pub pays : Pays (held_of content) payload
+-- what is said is this value at once
+abbrev pub EndsAtOnce : Content → Payload → Type 0
+EndsAtOnce c payload = (setting : Setting) (spot : Spot) (fs : List Frame) (ss : Symbols) → on_ready setting spot fs ss c
+    ≡ ended setting spot fs (annotated ss payload)
 
--- octets begin with this token, which is this value
-pub record BeginsValue (p : Place) (r : Rest) (octets : List ℕ) (token : FoundToken) (payload : Payload) : Type 0 where
+-- what is said is this value; where it waits, unless `::` follows
+abbrev pub IsValue : Bool → Content → Payload → Type 0
+IsValue true c payload = Pays (held_of c) payload
+IsValue false c payload = EndsAtOnce c payload
+
+-- octets begin with this token, which is this value; where it waits, unless `::` follows
+pub record BeginsValue (waits : Bool) (p : Place) (r : Rest) (octets : List ℕ) (token : FoundToken) (payload : Payload) : Type 0 where
   pub kept : List ℕ
   pub content : Content
   pub found : IsFound p r octets token.kind kept token.count token.left
   pub says : said token.kind kept ≡ Ok content
-  pub is : value_of content ≡ Some payload
+  pub is : IsValue waits content payload
 
 -- octets begin with this token, which is this name of a field
 pub record BeginsName (p : Place) (r : Rest) (octets : List ℕ) (token : FoundToken) (name : Option (List ℕ)) : Type 0 where

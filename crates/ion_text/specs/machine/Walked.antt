@@ -30,7 +30,7 @@ use Rattle.ion_text.specs.declared.state.Frame.{Frame}
 use Rattle.ion_text.specs.declared.state.Frame.TheVariants as frames
 use Rattle.ion_text.specs.declared.state.Now.{Now}
 use Rattle.ion_text.specs.declared.state.Now.TheVariants as nows
-use Rattle.ion_text.specs.machine.FrontTokens.{held_of, Pays, BeginsName, BeginsSymbol}
+use Rattle.ion_text.specs.machine.FrontTokens.{BeginsName, BeginsValue, IsValue}
 use Rattle.ion_text.specs.machine.EachToken.{Setting, Spot, Symbols, at, begun_at, place_in, on_ready, ended, opened, first_now, closed}
 use Rattle.ion_text.specs.machine.AtOnce.{Passes}
 use Rattle.ion_text.specs.machine.Nested.{open_mark, close_mark, closes, close_octet}
@@ -55,16 +55,6 @@ pub record IsFlat (payload : Payload) (kind : Kind) : Type 0 where
   pub sort : kind_of (bare payload) ≡ kind
   pub deep : depth (bare payload) ≡ 0
   pub counted : nodes (bare payload) ≡ 1
-
--- what is said is this value at once
-abbrev pub EndsAtOnce : Content → Payload → Type 0
-EndsAtOnce c payload = (setting : Setting) (spot : Spot) (fs : List Frame) (ss : Symbols) → on_ready setting spot fs ss c
-    ≡ ended setting spot fs (annotated ss payload)
-
--- what is said is this value; where it waits, unless `::` follows
-abbrev pub IsValue : Bool → Content → Payload → Type 0
-IsValue true c payload = Pays (held_of c) payload
-IsValue false c payload = EndsAtOnce c payload
 
 -- in this place octets begin with this token, which is such a value
 pub record FoundScalar (p : Place) (r : Rest) (octets : List ℕ) (s : Scalar) : Type 0 where
@@ -183,7 +173,7 @@ pub record WalkedName (octets : List ℕ) (count : ℕ) (before after : Tally) :
 -- the token at the front of octets is an annotation if `::` follows, and names no local symbol tables
 pub record FoundNote (octets : List ℕ) (token : FoundToken) : Type 0 where
   pub name : Option (List ℕ)
-  pub begins : (p : Place) (r : Rest) → BeginsSymbol p r octets token (payloads.Symbol name)
+  pub begins : (p : Place) (r : Rest) → BeginsValue true p r octets token (payloads.Symbol name)
   pub free : names_table name ≡ false
 
 -- where a scanner rests behind an annotation in such a place, a blank of so many octets, and `::`

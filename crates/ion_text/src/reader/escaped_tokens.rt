@@ -1,15 +1,13 @@
 //! Tokens that lie whole in a piece and are not plain, where a container is open: texts with
 //! escapes, typed nulls, operators, clobs and blobs.
-ghost use Rattle.std.specs.Prelude.{◌≡◌, [], length, Some, IfOk, IfErr, IfSome};
+ghost use Rattle.std.specs.Prelude.{◌≡◌, [], false, Some, IfOk, IfErr, IfSome};
 ghost use Rattle.ion_atoms.specs.declared.refusal.Reason.TheVariants.{Memory};
 ghost use Rattle.ion_tokens.specs.Bodies.{content};
-ghost use Rattle.ion_tokens.specs.machine.Rests.{resting};
-ghost use Rattle.ion_tokens.specs.machine.Views.{scanned};
 ghost use Rattle.ion_text.specs.declared.state.Now.TheVariants as nows;
 ghost use Rattle.ion_text.specs.machine.FrontTokens.{held_of, value_of, Names, Pays, BeginsValue};
 ghost use Rattle.ion_text.specs.machine.EachToken.{place};
-ghost use Rattle.ion_text.specs.machine.AtOnce.{Inside, Strides};
-ghost use Rattle.ion_text.specs.machine.Views.{reading_of, SameReader};
+ghost use Rattle.ion_text.specs.machine.AtOnce.{StridesBy, TokenAhead};
+ghost use Rattle.ion_text.specs.machine.Views.{reading_of};
 
 use super::TextReader;
 use crate::state::Effect;
@@ -22,7 +20,7 @@ pub(super) fn may_be_rare(octets: &[u8]) -> bool {
     match octets.first() {
         Some(b'\'') => octets.strip_prefix(b"''").is_none(),
         Some(b'{') => octets.strip_prefix(b"{{").is_some(),
-        Some(b'/' | b',' | b'[' | b']' | b'(' | b')' | b'}') => false,
+        Some(b'/' | b',' | b'[' | b']' | b'(' | b')' | b'}' | b'$') => false,
         _ => true,
     }
 }
@@ -82,13 +80,9 @@ impl TextReader<'_> {
         rest: Rest,
         octets: &[u8],
     ) -> Result<usize, Reason>
-        requires inside { Inside self.old octets.now }
-        requires rests { scanned self.old.scanner ≡ resting rest }
-        requires stage { self.old.stage ≡ nows.Ready }
+        requires ahead { TokenAhead nows.Ready self.old rest octets.now }
         requires here { here ≡ place (reading_of self.old) }
-        ensures strides { IfOk result (λ count. Strides self.old self.new octets.now count) }
-        ensures memory { IfErr result (λ reason. reason ≡ Memory) }
-        ensures same { SameReader self.old self.new }
+        ensures { StridesBy self.old self.new octets.now result }
     {
         if !may_be_rare(octets) {
             return Ok(0);
@@ -109,7 +103,7 @@ impl TextReader<'_> {
     }
 
     /// Takes up a token that is a value at once.
-    fn take_whole(
+    pub(super) fn take_whole(
         &mut self,
         here: Place,
         rest: Rest,
@@ -117,14 +111,10 @@ impl TextReader<'_> {
         token: FoundToken,
         payload: Payload,
     ) -> Result<usize, Reason>
-        requires inside { Inside self.old octets.now }
-        requires rests { scanned self.old.scanner ≡ resting rest }
-        requires stage { self.old.stage ≡ nows.Ready }
+        requires ahead { TokenAhead nows.Ready self.old rest octets.now }
         requires here { here ≡ place (reading_of self.old) }
-        requires token { BeginsValue here rest octets.now token payload }
-        ensures strides { IfOk result (λ count. Strides self.old self.new octets.now count) }
-        ensures memory { IfErr result (λ reason. reason ≡ Memory) }
-        ensures same { SameReader self.old self.new }
+        requires token { BeginsValue false here rest octets.now token payload }
+        ensures { StridesBy self.old self.new octets.now result }
     {
         if token.count >= octets.len() {
             return Ok(0);
@@ -146,14 +136,10 @@ impl TextReader<'_> {
         rest: Rest,
         octets: &[u8],
     ) -> Result<usize, Reason>
-        requires inside { Inside self.old octets.now }
-        requires rests { scanned self.old.scanner ≡ resting rest }
-        requires stage { self.old.stage ≡ nows.Name }
+        requires ahead { TokenAhead nows.Name self.old rest octets.now }
         requires notes { self.old.notes ≡ [] }
         requires here { here ≡ place (reading_of self.old) }
-        ensures strides { IfOk result (λ count. Strides self.old self.new octets.now count) }
-        ensures memory { IfErr result (λ reason. reason ≡ Memory) }
-        ensures same { SameReader self.old self.new }
+        ensures { StridesBy self.old self.new octets.now result }
     {
         if !may_be_rare(octets) {
             return Ok(0);

@@ -4,12 +4,11 @@ ghost use Rattle.std.specs.Prelude.{◌≡◌, false, true, IfSome, Ok, Some};
 ghost use Rattle.ion_tokens.specs.Bodies.{content};
 ghost use Rattle.ion_tokens.specs.Places.{is_name};
 ghost use Rattle.ion_tokens.specs.declared.mode.Place.{Place};
-ghost use Rattle.ion_tokens.specs.declared.mode.Place.TheVariants as places;
 ghost use Rattle.ion_tokens.specs.declared.plain_tokens.Rest.{Rest};
-ghost use Rattle.ion_text.specs.machine.FrontTokens.{BeginsName};
+ghost use Rattle.ion_text.specs.machine.FrontTokens.{BeginsName, IsValue};
 ghost use Rattle.ion_text.specs.machine.EachToken.{held_word, held_payload};
 ghost use Rattle.ion_visiting.specs.Parts.{number_payload, payload_of};
-ghost use Rattle.ion_text.specs.machine.Walked.{IsFlat, IsValue};
+ghost use Rattle.ion_text.specs.machine.Walked.{IsFlat};
 ghost use Rattle.ion_text.specs.visiting.Walks.{FoundPart, FoundNumber};
 
 use super::symbols::plain_text;
@@ -206,10 +205,10 @@ pub(super) fn begins_number(octets: &[u8]) -> bool {
     matches!(octets.first(), Some(b'-' | b'0'..=b'9'))
 }
 
-/// The text in quotes there that is a field's name, if its characters stand as they are.
-pub(super) fn text_name(octets: &[u8]) -> Option<(FoundToken, &str)>
-    ensures { IfSome result (λ found. (rest : Rest) →
-        BeginsName places.Name rest octets.now found.0 (Some found.1.now)) }
+// The text in quotes there that is a field's name, if its characters stand as they are.
+fn text_name(octets: &[u8]) -> Option<(FoundToken, &str)>
+    ensures { IfSome result (λ found. (here : Place) (rest : Rest) →
+        BeginsName here rest octets.now found.0 (Some found.1.now)) }
 {
     let token = plain_text(octets)?;
     if token.count >= octets.len() || token.count < 2 {
@@ -219,10 +218,10 @@ pub(super) fn text_name(octets: &[u8]) -> Option<(FoundToken, &str)>
     Some((token, unsafe { str::from_utf8_unchecked(content) }))
 }
 
-/// A word there that is a field's name.
-pub(super) fn word_name(octets: &[u8]) -> Option<(FoundToken, &str)>
-    ensures { IfSome result (λ found. (rest : Rest) →
-        BeginsName places.Name rest octets.now found.0 (Some found.1.now)) }
+// A word there that is a field's name.
+fn word_name(octets: &[u8]) -> Option<(FoundToken, &str)>
+    ensures { IfSome result (λ found. (here : Place) (rest : Rest) →
+        BeginsName here rest octets.now found.0 (Some found.1.now)) }
 {
     let count = word(octets)?;
     if count >= octets.len() || octets[0] == b'$' {
@@ -238,4 +237,15 @@ pub(super) fn word_name(octets: &[u8]) -> Option<(FoundToken, &str)>
         left: true,
     };
     Some((token, text))
+}
+
+/// The field's name there, if it is a word or its characters stand as they are.
+pub(super) fn plain_name(octets: &[u8]) -> Option<(FoundToken, &str)>
+    ensures { IfSome result (λ found. (here : Place) (rest : Rest) →
+        BeginsName here rest octets.now found.0 (Some found.1.now)) }
+{
+    match octets.first() {
+        Some(b'"' | b'\'') => text_name(octets),
+        _ => word_name(octets),
+    }
 }

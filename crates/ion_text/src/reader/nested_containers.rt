@@ -1,15 +1,14 @@
 //! Containers that open and close inside another one, where their marks lie whole in a piece. What
 //! opens beyond the limit on depth is left to the octets.
-ghost use Rattle.std.specs.Prelude.{◌≡◌, ◌<◌, length, false, Ok, IfOk, IfErr, IfSome};
-ghost use Rattle.ion_atoms.specs.declared.refusal.Reason.TheVariants.{Memory};
+ghost use Rattle.std.specs.Prelude.{◌≡◌, ◌<◌, length, false, IfSome};
 ghost use Rattle.ion_tokens.specs.machine.Views.{scanned};
 ghost use Rattle.ion_tokens.specs.Places.{is_name};
 ghost use Rattle.ion_tokens.specs.machine.Rests.{resting};
 ghost use Rattle.ion_text.specs.declared.state.Now.TheVariants as nows;
 ghost use Rattle.ion_text.specs.machine.EachToken.{place};
 ghost use Rattle.ion_text.specs.machine.Nested.{OpensAt, ClosesAt, open_mark, close_mark};
-ghost use Rattle.ion_text.specs.machine.Views.{reading_of, SameReader};
-ghost use Rattle.ion_text.specs.machine.AtOnce.{Inside, Strides};
+ghost use Rattle.ion_text.specs.machine.Views.{reading_of};
+ghost use Rattle.ion_text.specs.machine.AtOnce.{Inside, StridesBy, TokenAhead};
 
 use super::TextReader;
 use crate::state::{Effect, Frame, Listing, Now};
@@ -63,14 +62,10 @@ impl TextReader<'_> {
         rest: Rest,
         octets: &[u8],
     ) -> Result<usize, Reason>
-        requires inside { Inside self.old octets.now }
-        requires rests { scanned self.old.scanner ≡ resting rest }
-        requires stage { self.old.stage ≡ nows.Ready }
+        requires ahead { TokenAhead nows.Ready self.old rest octets.now }
         requires here { here ≡ place (reading_of self.old) }
         requires value { is_name here ≡ false }
-        ensures strides { IfOk result (λ count. Strides self.old self.new octets.now count) }
-        ensures memory { IfErr result (λ reason. reason ≡ Memory) }
-        ensures same { SameReader self.old self.new }
+        ensures { StridesBy self.old self.new octets.now result }
     {
         if octets.len() < 2 || !self.may_deepen() {
             return Ok(0);
@@ -108,9 +103,7 @@ impl TextReader<'_> {
     pub(super) fn take_close(&mut self, rest: Rest, octets: &[u8]) -> Result<usize, Reason>
         requires inside { Inside self.old octets.now }
         requires rests { scanned self.old.scanner ≡ resting rest }
-        ensures strides { IfOk result (λ count. Strides self.old self.new octets.now count) }
-        ensures memory { IfErr result (λ reason. reason ≡ Memory) }
-        ensures same { SameReader self.old self.new }
+        ensures { StridesBy self.old self.new octets.now result }
     {
         let Some(bracket) = self.closing(octets[0]) else {
             return Ok(0);

@@ -1,24 +1,19 @@
 //! Symbols, annotations and names of fields that lie whole in a piece, where a container is open.
-ghost use Rattle.std.specs.Prelude.{◌≡◌, ◌≢◌, ◌+◌, ◌-◌, ◌<◌, [], length, get_or, take, drop, true, Some, Ok, IfOk, IfErr, IfSome, IsUtf8};
-ghost use Rattle.ion_atoms.specs.declared.refusal.Reason.TheVariants.{Memory};
-ghost use Rattle.ion_tokens.specs.machine.Rests.{resting, IsPassed};
-ghost use Rattle.ion_tokens.specs.machine.Views.{scanned};
+ghost use Rattle.std.specs.Prelude.{◌≡◌, ◌≢◌, ◌+◌, ◌-◌, ◌<◌, [], length, get_or, take, drop, true, Some, IfSome, IsUtf8};
+ghost use Rattle.ion_tokens.specs.machine.Rests.{IsPassed};
 ghost use Rattle.ion_tokens.specs.declared.mode.Place.{Place};
 ghost use Rattle.ion_tokens.specs.declared.plain_tokens.Rest.{Rest};
 ghost use Rattle.ion_text.specs.declared.state.Now.TheVariants as nows;
-ghost use Rattle.ion_text.specs.machine.FrontTokens.{ends_symbol, BeginsSymbol, BeginsName};
-ghost use Rattle.ion_text.specs.machine.EachToken.{place, held_word, held_payload};
-ghost use Rattle.ion_text.specs.machine.AtOnce.{Inside, Strides};
-ghost use Rattle.ion_text.specs.machine.Views.{reading_of, SameReader};
+ghost use Rattle.ion_text.specs.machine.FrontTokens.{ends_symbol, BeginsValue, BeginsName};
+ghost use Rattle.ion_text.specs.machine.EachToken.{place};
+ghost use Rattle.ion_text.specs.machine.AtOnce.{TokenAhead, StridesBy};
+ghost use Rattle.ion_text.specs.machine.Views.{reading_of};
 
 use super::TextReader;
-use crate::state::{Effect, Held, Now};
-use crate::words::{held_word, is_keyword};
+use super::finders::plain_name;
+use crate::state::{Effect, Now};
 use ion_model::{Payload, Reason, Symbol};
-use ion_tokens::{
-    FoundToken, Mark, Place, Rest, TokenKind, blanks, quoted_symbol, short_string, word,
-};
-use std::alloc::Global;
+use ion_tokens::{FoundToken, Mark, Place, Rest, TokenKind, blanks, quoted_symbol, short_string};
 
 // Whether an octet shows that no `::` follows a symbol: it is no blank, and begins no colon and no
 // comment.
@@ -107,88 +102,7 @@ pub(super) fn plain_text(octets: &[u8]) -> Option<FoundToken>
     })
 }
 
-// The value that a word is, but for `nan`.
-fn word_payload(alloc: Global, word: &str) -> Result<Option<Payload>, Reason>
-    ensures pays { IfOk result (λ value.
-        IfSome value (λ payload. held_payload (held_word word.now) ≡ Ok payload)) }
-    ensures memory { IfErr result (λ reason. reason ≡ Memory) }
-{
-    match held_word(alloc, word)? {
-        Held::Symbol(symbol) => Ok(Some(Payload::Symbol(symbol))),
-        Held::Version(_, symbol) => Ok(Some(Payload::Symbol(symbol))),
-        Held::Null(kind) => Ok(Some(Payload::Null(kind))),
-        Held::Truth(truth) => Ok(Some(Payload::Truth(truth))),
-        Held::Nan => Ok(None),
-    }
-}
-
 impl TextReader<'_> {
-    /// Takes up a word that is a value or an annotation.
-    #[inline(never)]
-    pub(super) fn take_word(
-        &mut self,
-        here: Place,
-        rest: Rest,
-        octets: &[u8],
-    ) -> Result<usize, Reason>
-        requires inside { Inside self.old octets.now }
-        requires rests { scanned self.old.scanner ≡ resting rest }
-        requires stage { self.old.stage ≡ nows.Ready }
-        requires here { here ≡ place (reading_of self.old) }
-        ensures strides { IfOk result (λ count. Strides self.old self.new octets.now count) }
-        ensures memory { IfErr result (λ reason. reason ≡ Memory) }
-        ensures same { SameReader self.old self.new }
-    {
-        let Some(count) = word(octets) else {
-            return self.take_rare(here, rest, octets);
-        };
-        if octets[0] == b'$' || count >= octets.len() {
-            return Ok(0);
-        }
-        let spelled = unsafe { str::from_utf8_unchecked(&octets[..count]) };
-        let Some(payload) = word_payload(self.alloc, spelled)? else {
-            return Ok(0);
-        };
-        let token = FoundToken {
-            kind: TokenKind::Word,
-            count,
-            left: true,
-        };
-        self.take_symbol(here, rest, octets, token, payload)
-    }
-
-    /// Takes up a quoted symbol that is a value or an annotation.
-    #[inline(never)]
-    pub(super) fn take_quoted(
-        &mut self,
-        here: Place,
-        rest: Rest,
-        octets: &[u8],
-    ) -> Result<usize, Reason>
-        requires inside { Inside self.old octets.now }
-        requires rests { scanned self.old.scanner ≡ resting rest }
-        requires stage { self.old.stage ≡ nows.Ready }
-        requires here { here ≡ place (reading_of self.old) }
-        ensures strides { IfOk result (λ count. Strides self.old self.new octets.now count) }
-        ensures memory { IfErr result (λ reason. reason ≡ Memory) }
-        ensures same { SameReader self.old self.new }
-    {
-        let Some(count) = quoted_symbol(octets) else {
-            return self.take_rare(here, rest, octets);
-        };
-        if count >= octets.len() || count < 2 {
-            return Ok(0);
-        }
-        let content = &octets[1..][..count - 2];
-        let symbol = Symbol::known(self.alloc, unsafe { str::from_utf8_unchecked(content) })?;
-        let token = FoundToken {
-            kind: TokenKind::QuotedSymbol,
-            count,
-            left: false,
-        };
-        self.take_symbol(here, rest, octets, token, Payload::Symbol(symbol))
-    }
-
     /// Takes up what is an annotation if `::` follows, and else a value, where the octets show
     /// which.
     pub(super) fn take_symbol(
@@ -199,14 +113,10 @@ impl TextReader<'_> {
         token: FoundToken,
         payload: Payload,
     ) -> Result<usize, Reason>
-        requires inside { Inside self.old octets.now }
-        requires rests { scanned self.old.scanner ≡ resting rest }
-        requires stage { self.old.stage ≡ nows.Ready }
+        requires ahead { TokenAhead nows.Ready self.old rest octets.now }
         requires here { here ≡ place (reading_of self.old) }
-        requires token { BeginsSymbol here rest octets.now token payload }
-        ensures strides { IfOk result (λ count. Strides self.old self.new octets.now count) }
-        ensures memory { IfErr result (λ reason. reason ≡ Memory) }
-        ensures same { SameReader self.old self.new }
+        requires token { BeginsValue true here rest octets.now token payload }
+        ensures { StridesBy self.old self.new octets.now result }
     {
         let Some(between) = behind_symbol(octets, token.count) else {
             return self.take_annotation(here, rest, octets, token, payload);
@@ -231,14 +141,10 @@ impl TextReader<'_> {
         token: FoundToken,
         payload: Payload,
     ) -> Result<usize, Reason>
-        requires inside { Inside self.old octets.now }
-        requires rests { scanned self.old.scanner ≡ resting rest }
-        requires stage { self.old.stage ≡ nows.Ready }
+        requires ahead { TokenAhead nows.Ready self.old rest octets.now }
         requires here { here ≡ place (reading_of self.old) }
-        requires token { BeginsSymbol here rest octets.now token payload }
-        ensures strides { IfOk result (λ count. Strides self.old self.new octets.now count) }
-        ensures memory { IfErr result (λ reason. reason ≡ Memory) }
-        ensures same { SameReader self.old self.new }
+        requires token { BeginsValue true here rest octets.now token payload }
+        ensures { StridesBy self.old self.new octets.now result }
     {
         let Payload::Symbol(symbol) = payload else {
             return Ok(0);
@@ -257,75 +163,17 @@ impl TextReader<'_> {
 
     /// Takes up a field's name, and the colon behind it.
     pub(super) fn take_name(&mut self, rest: Rest, octets: &[u8]) -> Result<usize, Reason>
-        requires inside { Inside self.old octets.now }
-        requires rests { scanned self.old.scanner ≡ resting rest }
-        requires stage { self.old.stage ≡ nows.Name }
-        ensures strides { IfOk result (λ count. Strides self.old self.new octets.now count) }
-        ensures memory { IfErr result (λ reason. reason ≡ Memory) }
-        ensures same { SameReader self.old self.new }
+        requires ahead { TokenAhead nows.Name self.old rest octets.now }
+        ensures { StridesBy self.old self.new octets.now result }
     {
         if self.has_notes() {
             return Ok(0);
         }
         let here = self.place();
-        match octets[0] {
-            b'"' | b'\'' => self.take_text_name(here, rest, octets),
-            _ => self.take_word_name(here, rest, octets),
-        }
-    }
-
-    /// Takes up a field's name that is a word.
-    #[inline(never)]
-    #[tactic(auto, using(crate::proofs::Symbols::word_name))]
-    fn take_word_name(&mut self, here: Place, rest: Rest, octets: &[u8]) -> Result<usize, Reason>
-        requires inside { Inside self.old octets.now }
-        requires rests { scanned self.old.scanner ≡ resting rest }
-        requires stage { self.old.stage ≡ nows.Name }
-        requires notes { self.old.notes ≡ [] }
-        requires here { here ≡ place (reading_of self.old) }
-        ensures strides { IfOk result (λ count. Strides self.old self.new octets.now count) }
-        ensures memory { IfErr result (λ reason. reason ≡ Memory) }
-        ensures same { SameReader self.old self.new }
-    {
-        let Some(count) = word(octets) else {
-            return Ok(0);
-        };
-        if octets[0] == b'$' || count >= octets.len() {
-            return Ok(0);
-        }
-        let spelled = unsafe { str::from_utf8_unchecked(&octets[..count]) };
-        if is_keyword(spelled) {
-            return Ok(0);
-        }
-        let name = Symbol::known(self.alloc, spelled)?;
-        let token = FoundToken {
-            kind: TokenKind::Word,
-            count,
-            left: true,
-        };
-        self.take_key(here, rest, octets, token, name)
-    }
-
-    /// Takes up a field's name in quotes.
-    #[inline(never)]
-    fn take_text_name(&mut self, here: Place, rest: Rest, octets: &[u8]) -> Result<usize, Reason>
-        requires inside { Inside self.old octets.now }
-        requires rests { scanned self.old.scanner ≡ resting rest }
-        requires stage { self.old.stage ≡ nows.Name }
-        requires notes { self.old.notes ≡ [] }
-        requires here { here ≡ place (reading_of self.old) }
-        ensures strides { IfOk result (λ count. Strides self.old self.new octets.now count) }
-        ensures memory { IfErr result (λ reason. reason ≡ Memory) }
-        ensures same { SameReader self.old self.new }
-    {
-        let Some(token) = plain_text(octets) else {
+        let Some((token, text)) = plain_name(octets) else {
             return self.take_rare_name(here, rest, octets);
         };
-        if token.count >= octets.len() || token.count < 2 {
-            return Ok(0);
-        }
-        let content = &octets[1..][..token.count - 2];
-        let name = Symbol::known(self.alloc, unsafe { str::from_utf8_unchecked(content) })?;
+        let name = Symbol::known(self.alloc, text)?;
         self.take_key(here, rest, octets, token, name)
     }
 
@@ -338,15 +186,11 @@ impl TextReader<'_> {
         token: FoundToken,
         name: Symbol,
     ) -> Result<usize, Reason>
-        requires inside { Inside self.old octets.now }
-        requires rests { scanned self.old.scanner ≡ resting rest }
-        requires stage { self.old.stage ≡ nows.Name }
+        requires ahead { TokenAhead nows.Name self.old rest octets.now }
         requires notes { self.old.notes ≡ [] }
         requires here { here ≡ place (reading_of self.old) }
         requires token { BeginsName here rest octets.now token name }
-        ensures strides { IfOk result (λ count. Strides self.old self.new octets.now count) }
-        ensures memory { IfErr result (λ reason. reason ≡ Memory) }
-        ensures same { SameReader self.old self.new }
+        ensures { StridesBy self.old self.new octets.now result }
     {
         let Some(between) = behind_name(octets, token.count) else {
             return Ok(0);

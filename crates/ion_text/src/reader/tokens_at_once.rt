@@ -8,23 +8,41 @@ ghost use Rattle.ion_tokens.specs.Places.{is_name};
 ghost use Rattle.ion_tokens.specs.machine.Rests.{resting, IsPassed};
 ghost use Rattle.ion_text.specs.declared.state.Now.TheVariants as nows;
 ghost use Rattle.ion_text.specs.machine.EachToken.{place};
+ghost use Rattle.ion_visiting.specs.Parts.{payload_of};
 ghost use Rattle.ion_text.specs.machine.Run.{is_top};
 ghost use Rattle.ion_text.specs.machine.Views.{open_frames, reading_of, state_of, IsFine, SameReader};
 ghost use Rattle.ion_text.specs.machine.Progress.{Took, StaysSteady};
-ghost use Rattle.ion_text.specs.machine.AtOnce.{IsResting, Inside, Strides};
+ghost use Rattle.ion_text.specs.machine.AtOnce.{IsResting, Inside, Strides, StridesBy, TokenAhead};
 
 use super::TextReader;
+use super::finders::{number_at, plain_at};
 use super::on_token::number_payload;
 use crate::state::{Effect, Now, Taken};
-use ion_model::{Payload, Reason, Refusal, Text};
-use ion_scalar::number_of;
-use ion_tokens::{Mark, Place, Rest, TokenKind, blanks, number, short_string};
+use ion_model::{Bytes, Payload, Reason, Refusal, Symbol, Text};
+use ion_tokens::{Mark, Place, Rest, TokenKind, blanks};
+use ion_visiting::Part;
+use std::alloc::Global;
 
 // Whether a value may stand there, and no field's name.
 fn may_be_value(place: Place) -> bool
     ensures { result ≡ not (is_name place) }
 {
     !matches!(place, Place::Name)
+}
+
+// The value of such a part.
+fn payload_of(alloc: Global, said: &Part<'_>) -> Result<Payload, Reason>
+    ensures pays { IfOk result (λ payload. payload ≡ payload_of said.now) }
+    ensures memory { IfErr result (λ reason. reason ≡ Memory) }
+{
+    match said {
+        Part::Null(kind) => Ok(Payload::Null(*kind)),
+        Part::Truth(truth) => Ok(Payload::Truth(*truth)),
+        Part::Symbol(text) => Ok(Payload::Symbol(Symbol::known(alloc, text)?)),
+        Part::Str(text) => Ok(Payload::Str(Text::from_string(String::from_str(alloc, text)?))),
+        Part::Clob(octets) => Ok(Payload::Clob(Bytes::from_vec(Vec::from_slice(alloc, octets)?))),
+        Part::Blob(octets) => Ok(Payload::Blob(Bytes::from_vec(Vec::from_slice(alloc, octets)?))),
+    }
 }
 
 impl TextReader<'_> {
@@ -61,9 +79,7 @@ impl TextReader<'_> {
     /// Takes up the tokens at the front of a piece that lie whole in it: how many octets they have.
     pub(super) fn take_tokens(&mut self, piece: &[u8]) -> Result<usize, Reason>
         requires inside { Inside self.old piece.now }
-        ensures strides { IfOk result (λ count. Strides self.old self.new piece.now count) }
-        ensures memory { IfErr result (λ reason. reason ≡ Memory) }
-        ensures same { SameReader self.old self.new }
+        ensures { StridesBy self.old self.new piece.now result }
     {
         let mut at = 0;
         for _ in 0..piece.len() {
@@ -80,9 +96,7 @@ impl TextReader<'_> {
     /// many octets those are, or none.
     fn take_token(&mut self, octets: &[u8]) -> Result<usize, Reason>
         requires inside { Inside self.old octets.now }
-        ensures strides { IfOk result (λ count. Strides self.old self.new octets.now count) }
-        ensures memory { IfErr result (λ reason. reason ≡ Memory) }
-        ensures same { SameReader self.old self.new }
+        ensures { StridesBy self.old self.new octets.now result }
     {
         let Some(rest) = self.scanner.rest() else {
             return Ok(0);
@@ -119,93 +133,57 @@ impl TextReader<'_> {
 
     /// Takes up a value.
     fn take_value(&mut self, rest: Rest, octets: &[u8]) -> Result<usize, Reason>
-        requires inside { Inside self.old octets.now }
-        requires rests { scanned self.old.scanner ≡ resting rest }
-        requires stage { self.old.stage ≡ nows.Ready }
-        ensures strides { IfOk result (λ count. Strides self.old self.new octets.now count) }
-        ensures memory { IfErr result (λ reason. reason ≡ Memory) }
-        ensures same { SameReader self.old self.new }
+        requires ahead { TokenAhead nows.Ready self.old rest octets.now }
+        ensures { StridesBy self.old self.new octets.now result }
     {
         let here = self.place();
         if !may_be_value(here) {
             return Ok(0);
         }
         match octets[0] {
-            b'"' => self.take_string(here, rest, octets),
             b'-' | b'0'..=b'9' => self.take_number(here, rest, octets),
             b'[' | b'(' | b'{' => self.take_open(here, rest, octets),
             b']' | b')' => self.take_close(rest, octets),
-            b'\'' => self.take_quoted(here, rest, octets),
-            _ => self.take_word(here, rest, octets),
+            _ => self.take_plain(here, rest, octets),
         }
     }
 
     /// Takes up a number.
     #[inline(never)]
     fn take_number(&mut self, here: Place, rest: Rest, octets: &[u8]) -> Result<usize, Reason>
-        requires inside { Inside self.old octets.now }
-        requires rests { scanned self.old.scanner ≡ resting rest }
-        requires stage { self.old.stage ≡ nows.Ready }
+        requires ahead { TokenAhead nows.Ready self.old rest octets.now }
         requires here { here ≡ place (reading_of self.old) }
         requires value { is_name here ≡ false }
-        ensures strides { IfOk result (λ count. Strides self.old self.new octets.now count) }
-        ensures memory { IfErr result (λ reason. reason ≡ Memory) }
-        ensures same { SameReader self.old self.new }
+        ensures { StridesBy self.old self.new octets.now result }
     {
-        let Some(count) = number(octets) else {
+        let Some((token, read)) = number_at(octets) else {
             return self.take_rare(here, rest, octets);
         };
-        if count >= octets.len() {
-            return Ok(0);
-        }
-        let Ok(read) = number_of(&octets[..count]) else {
-            return Ok(0);
-        };
-        let end = rest.used + count as u64;
-        self.scanner
-            .move_to(rest.past_token(here, TokenKind::Number, count));
-        match self.whole(number_payload(read), end) {
-            Ok(Effect::Goes) => Ok(count),
-            _ => Err(Reason::Memory),
-        }
+        self.take_whole(here, rest, octets, token, number_payload(read))
     }
 
-    /// Takes up a short string.
+    /// Takes up a plain token that is a value but no number, or an annotation.
     #[inline(never)]
-    fn take_string(&mut self, here: Place, rest: Rest, octets: &[u8]) -> Result<usize, Reason>
-        requires inside { Inside self.old octets.now }
-        requires rests { scanned self.old.scanner ≡ resting rest }
-        requires stage { self.old.stage ≡ nows.Ready }
+    fn take_plain(&mut self, here: Place, rest: Rest, octets: &[u8]) -> Result<usize, Reason>
+        requires ahead { TokenAhead nows.Ready self.old rest octets.now }
         requires here { here ≡ place (reading_of self.old) }
-        ensures strides { IfOk result (λ count. Strides self.old self.new octets.now count) }
-        ensures memory { IfErr result (λ reason. reason ≡ Memory) }
-        ensures same { SameReader self.old self.new }
+        ensures { StridesBy self.old self.new octets.now result }
     {
-        let Some(count) = short_string(octets) else {
+        let Some((scalar, said)) = plain_at(octets) else {
             return self.take_rare(here, rest, octets);
         };
-        if count >= octets.len() || count < 2 {
-            return Ok(0);
-        }
-        let content = &octets[1..][..count - 2];
-        let text = String::from_str(self.alloc, unsafe { str::from_utf8_unchecked(content) })?;
-        let end = rest.used + count as u64;
-        self.scanner
-            .move_to(rest.past_token(here, TokenKind::ShortString, count));
-        match self.whole(Payload::Str(Text::from_string(text)), end) {
-            Ok(Effect::Goes) => Ok(count),
-            _ => Err(Reason::Memory),
+        let payload = payload_of(self.alloc, &said)?;
+        if scalar.waits {
+            self.take_symbol(here, rest, octets, scalar.token, payload)
+        } else {
+            self.take_whole(here, rest, octets, scalar.token, payload)
         }
     }
 
     /// Takes up a comma.
     fn take_comma(&mut self, rest: Rest, octets: &[u8]) -> Result<usize, Reason>
-        requires inside { Inside self.old octets.now }
-        requires rests { scanned self.old.scanner ≡ resting rest }
-        requires stage { self.old.stage ≡ nows.After }
-        ensures strides { IfOk result (λ count. Strides self.old self.new octets.now count) }
-        ensures memory { IfErr result (λ reason. reason ≡ Memory) }
-        ensures same { SameReader self.old self.new }
+        requires ahead { TokenAhead nows.After self.old rest octets.now }
+        ensures { StridesBy self.old self.new octets.now result }
     {
         if octets[0] != b',' || octets.len() < 2 || self.has_notes() {
             return Ok(0);

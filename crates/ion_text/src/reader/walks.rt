@@ -19,8 +19,7 @@ ghost use Rattle.ion_text.specs.visiting.Walks.{FoundPart, FoundNumber, VisitedV
 use super::annotations::walk_notes;
 use super::escaped_tokens::may_be_rare;
 use super::finders::{
-    Scalar, begins_number, number_at, number_kind, plain_at, rare_part, symbol_at, text_name,
-    word_name,
+    Scalar, begins_number, number_at, number_kind, plain_at, plain_name, rare_part, symbol_at,
 };
 use super::nested_containers::{bracket_at, close_mark, open_mark};
 use super::symbols::{behind_name, behind_symbol};
@@ -374,15 +373,9 @@ fn walk_name<T: TextVisitor>(
     ensures { IfSome result (λ count. VisitedName T.visits octets.now count
         tally.old tally.new visitor.old visitor.new) }
 {
-    match octets.first() {
-        Some(b'"' | b'\'') => match text_name(octets) {
-            Some((token, text)) => walk_key(octets, token, text, tally, visitor),
-            None => walk_rare_name(beside, octets, tally, visitor),
-        },
-        _ => {
-            let (token, text) = word_name(octets)?;
-            walk_key(octets, token, text, tally, visitor)
-        }
+    match plain_name(octets) {
+        Some((token, text)) => walk_key(octets, token, text, tally, visitor),
+        None => walk_rare_name(beside, octets, tally, visitor),
     }
 }
 

@@ -8,10 +8,11 @@ use Rattle.ion_text.specs.machine.Views.{open_frames, reading_of, Does}
 use Rattle.ion_text.specs.machine.Nested.{open_mark}
 use Rattle.ion_text.proofs.Arms.{Moved}
 use Rattle.ion_text.proofs.Nested.{open_strides}
+use Rattle.ion_text.proofs.Striding.{strode}
 use Rattle.ion_text.proofs.reader.TextReader.take_open.Goals as goal
 
-pub returns-in-Ok-Goes-clause-strides : goal.returns-in-Ok-Goes-clause-strides
-returns-in-Ok-Goes-clause-strides c =
+pub returns-in-Ok-Goes : goal.returns-in-Ok-Goes
+returns-in-Ok-Goes c =
     let old = c.args.self.now in
     let new = c.open.new.self in
     let bracket = c.in-Some.bracket in
@@ -19,9 +20,10 @@ returns-in-Ok-Goes-clause-strides c =
     let values : is_name (place (reading_of old)) ≡ false = ap is_name (sym c.requires.here) ∙ c.requires.value in
     let move : Moved old.scanner c.move_to.new.self c.past_token.result =
     record { rests = c.move_to.ensures.rests; failure = c.move_to.ensures.failure; steady = c.move_to.ensures.steady } in
-    open_strides old new c.move_to.new.self c.args.rest c.past_token.result c.args.octets.now bracket c.requires.inside c.requires.rests move
+    strode _ _ _ _
+    (open_strides old new c.move_to.new.self c.args.rest c.past_token.result c.args.octets.now bracket c.requires.ahead.inside c.requires.ahead.rests move
     c.in-Ok-Goes.ensures.setting more c.in-Some.ensures values
     (c.past_token.ensures ∙ (ap (λ m. past_token c.args.here c.args.rest (kinds.Mark m) 1) c.open_mark.ensures
-    ∙ ap (λ p. past_token p c.args.rest (kinds.Mark (open_mark bracket)) 1) c.requires.here)) c.requires.stage
+    ∙ ap (λ p. past_token p c.args.rest (kinds.Mark (open_mark bracket)) 1) c.requires.here)) c.requires.ahead.stage
     (subst (λ (e : Effect). Does (opening bracket old.limits.depth old.start old.context (open_frames old) old.notes) (Ok e) new)
-    c.in-Ok-Goes.field-0-is c.in-Ok-Goes.ensures.does)
+    c.in-Ok-Goes.field-0-is c.in-Ok-Goes.ensures.does))

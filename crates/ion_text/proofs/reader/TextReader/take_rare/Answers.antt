@@ -2,12 +2,13 @@ use Rattle.std.proofs.Common.{◌≡◌, Some, subst}
 use Rattle.std.specs.Prelude.{IfSome}
 use Rattle.ion_tokens.specs.Bodies.{content}
 use Rattle.ion_tokens.specs.machine.Views.{octets_in}
+use Rattle.ion_text.specs.declared.state.Now.TheVariants as nows
 use Rattle.ion_text.specs.machine.FrontTokens.{held_of, value_of, Pays}
-use Rattle.ion_text.proofs.Symbols.{inside_beside}
+use Rattle.ion_text.proofs.Symbols.{ahead_beside, ends_so}
 use Rattle.ion_text.proofs.reader.TextReader.take_rare.Goals as goal
 
-pub take_symbol-requires-clause-inside : goal.take_symbol-requires-clause-inside
-take_symbol-requires-clause-inside c = inside_beside c.args.self.now c.body.new.self c.args.octets.now c.requires.inside
+pub take_symbol-requires-clause-ahead : goal.take_symbol-requires-clause-ahead
+take_symbol-requires-clause-ahead c = ahead_beside nows.Ready c.args.self.now c.body.new.self c.args.rest c.args.octets.now c.requires.ahead
 
 pub take_symbol-requires-clause-token : goal.take_symbol-requires-clause-token
 take_symbol-requires-clause-token c = record {
@@ -15,11 +16,11 @@ take_symbol-requires-clause-token c = record {
   content = content c.in-Ok.body;
   found = c.in-Some.ensures;
   says = c.in-Ok.ensures.says;
-  pays = subst (λ v. IfSome v (λ p. Pays (held_of (content c.in-Ok.body)) p)) c.in-Some-2.is c.in_ok-payload.ensures.pays;
+  is = subst (λ v. IfSome v (λ p. Pays (held_of (content c.in-Ok.body)) p)) c.in-Some-2.is c.in_ok-payload.ensures.pays;
 }
 
-pub take_whole-requires-clause-inside : goal.take_whole-requires-clause-inside
-take_whole-requires-clause-inside c = inside_beside c.args.self.now c.body.new.self c.args.octets.now c.requires.inside
+pub take_whole-requires-clause-ahead : goal.take_whole-requires-clause-ahead
+take_whole-requires-clause-ahead c = ahead_beside nows.Ready c.args.self.now c.body.new.self c.args.rest c.args.octets.now c.requires.ahead
 
 pub take_whole-requires-clause-token : goal.take_whole-requires-clause-token
 take_whole-requires-clause-token c = record {
@@ -27,5 +28,6 @@ take_whole-requires-clause-token c = record {
   content = content c.in-Ok.body;
   found = c.in-Some.ensures;
   says = c.in-Ok.ensures.says;
-  is = subst (λ v. IfSome v (λ p. value_of (content c.in-Ok.body) ≡ Some p)) c.in-Some-3.is c.in_ok-payload-2.ensures.value;
+  is = λ setting spot fs ss. ends_so setting spot fs ss (content c.in-Ok.body) c.in-Some-3.payload
+      (subst (λ v. IfSome v (λ p. value_of (content c.in-Ok.body) ≡ Some p)) c.in-Some-3.is c.in_ok-payload-2.ensures.value);
 }

@@ -3,11 +3,12 @@ use Rattle.std.specs.Prelude.{IfSome}
 use Rattle.ion_tokens.specs.Bodies.{content}
 use Rattle.ion_tokens.specs.machine.Views.{octets_in}
 use Rattle.ion_text.specs.machine.FrontTokens.{Names}
-use Rattle.ion_text.proofs.Symbols.{inside_beside}
+use Rattle.ion_text.specs.declared.state.Now.TheVariants as nows
+use Rattle.ion_text.proofs.Symbols.{ahead_beside}
 use Rattle.ion_text.proofs.reader.TextReader.take_rare_name.Goals as goal
 
-pub take_key-requires-clause-inside : goal.take_key-requires-clause-inside
-take_key-requires-clause-inside c = inside_beside c.args.self.now c.body.new.self c.args.octets.now c.requires.inside
+pub take_key-requires-clause-ahead : goal.take_key-requires-clause-ahead
+take_key-requires-clause-ahead c = ahead_beside nows.Name c.args.self.now c.body.new.self c.args.rest c.args.octets.now c.requires.ahead
 
 pub take_key-requires-clause-token : goal.take_key-requires-clause-token
 take_key-requires-clause-token c = record {

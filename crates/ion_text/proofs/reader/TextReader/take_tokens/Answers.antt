@@ -1,7 +1,7 @@
 use Rattle.std.proofs.Common.{◌≡◌, ◌+◌, ◌-◌, ℕ, length, take, drop, subst, arith}
 use Rattle.std.proofs.lemmas.List.{take_rest}
 use Rattle.ion_text.specs.machine.AtOnce.{Strides}
-use Rattle.ion_text.proofs.Striding.{strides_none, strides_on, inside_on}
+use Rattle.ion_text.proofs.Striding.{strides_none, strides_on, inside_on, strode}
 use Rattle.ion_text.proofs.reader.TextReader.take_tokens.Goals as goal
 
 pub loop-init : goal.loop-init
@@ -19,10 +19,11 @@ loop-preserved c =
     strides_on c.args.self.now c.loop.self c.take_token.new.self c.args.piece.now (take (length c.args.piece.now - c.loop.at) (drop c.loop.at c.args.piece.now))
     c.loop.at c.in_ok-count.count (take_rest c.args.piece.now c.loop.at) c.loop.invariant c.in_ok-count.ensures.strides
 
-pub returns-then-count-eq0-clause-strides : goal.returns-then-count-eq0-clause-strides
-returns-then-count-eq0-clause-strides c =
+pub returns-then-count-eq0 : goal.returns-then-count-eq0
+returns-then-count-eq0 c =
     let none : c.loop.at + c.in_ok-count.count ≡ c.loop.at = omega (arith, c.if-count-eq0.true) in
-    subst (λ (k : ℕ). Strides c.args.self.now c.take_token.new.self c.args.piece.now k) none
+    strode _ _ _ _
+    (subst (λ (k : ℕ). Strides c.args.self.now c.take_token.new.self c.args.piece.now k) none
     (strides_on c.args.self.now c.loop.self c.take_token.new.self c.args.piece.now
     (take (length c.args.piece.now - c.loop.at) (drop c.loop.at c.args.piece.now)) c.loop.at c.in_ok-count.count (take_rest c.args.piece.now c.loop.at)
-    c.loop.invariant c.in_ok-count.ensures.strides)
+    c.loop.invariant c.in_ok-count.ensures.strides))

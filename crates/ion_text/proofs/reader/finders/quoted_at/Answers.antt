@@ -6,8 +6,8 @@ use Rattle.ion_text.proofs.Symbols.{quoted_says}
 use Rattle.ion_text.proofs.Walks.{flat_symbol}
 use Rattle.ion_text.proofs.reader.finders.quoted_at.Goals as goal
 
-pub returns : goal.returns
-returns c = λ here rest.
+pub returns-clause-found : goal.returns-clause-found
+returns-clause-found c = λ here rest.
     let octets = c.args.octets.now in
     let n = c.in_ok-count.count in
     let kept = take (n - 2) (drop 1 octets) in

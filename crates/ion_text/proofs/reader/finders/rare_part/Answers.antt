@@ -3,9 +3,9 @@ use Rattle.std.specs.Cow.{cow_str_bytes}
 use Rattle.ion_atoms.specs.declared.kind.Kind.TheVariants as kinds
 use Rattle.ion_model.specs.declared.value.Payload.TheVariants as payloads
 use Rattle.ion_tokens.specs.Bodies.{content}
-use Rattle.ion_text.specs.machine.FrontTokens.{held_of, Pays}
+use Rattle.ion_text.specs.machine.FrontTokens.{held_of, Pays, IsValue}
 use Rattle.ion_text.specs.machine.EachToken.{on_ready}
-use Rattle.ion_text.specs.machine.Walked.{IsFlat, IsValue}
+use Rattle.ion_text.specs.machine.Walked.{IsFlat}
 use Rattle.ion_text.proofs.Walks.{flat_null, flat_symbol, flat_text, flat_clob, flat_blob}
 use Rattle.ion_text.proofs.reader.finders.rare_part.Goals as goal
 

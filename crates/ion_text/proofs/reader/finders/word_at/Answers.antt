@@ -5,8 +5,8 @@ use Rattle.ion_visiting.specs.Parts.{payload_of}
 use Rattle.ion_text.proofs.Symbols.{word_said}
 use Rattle.ion_text.proofs.reader.finders.word_at.Goals as goal
 
-pub returns : goal.returns
-returns c = λ here rest.
+pub returns-clause-found : goal.returns-clause-found
+returns-clause-found c = λ here rest.
     let octets = c.args.octets.now in
     let n = c.in_ok-count.count in
     let kept = take n octets in

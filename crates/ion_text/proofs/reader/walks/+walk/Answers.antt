@@ -31,6 +31,16 @@ walk_item-returns-then-not-begins_symbol g t c =
     item_bare_visited g.T.TextVisitor.visits c.args.here c.args.level c.args.octets.now c.args.tally.now c.walk_value.new.tally _ _ c.walk_value.result
     c.walk_value.ensures
 
+pub walk_item-returns-in_default : goal.walk_item-returns-in_default
+walk_item-returns-in_default g t c =
+    item_bare_visited g.T.TextVisitor.visits c.args.here c.args.level c.args.octets.now c.args.tally.now c.walk_rare.new.tally _ _ c.walk_rare.result
+    c.walk_rare.ensures
+
+pub walk_item-returns-in-Some-behind_symbol : goal.walk_item-returns-in-Some-behind_symbol
+walk_item-returns-in-Some-behind_symbol g t c =
+    item_bare_visited g.T.TextVisitor.visits c.args.here c.args.level c.args.octets.now c.args.tally.now c.walk_symbol.new.tally _ _ c.walk_symbol.result
+    c.walk_symbol.ensures
+
 pub walk_container-returns : goal.walk_container-returns
 walk_container-returns g t c =
     let octets = c.args.octets.now in
