@@ -20,11 +20,8 @@ use Rattle.ion_visiting.specs.Visits.{Visited, bare_visited, annotated_visited, 
 use Rattle.ion_text.specs.Output.{known_text, symbol_text, notes_text, separated, enclosed, value_text, layer_text, field_text}
 use Rattle.ion_text.specs.laws.writing.Output.{text-out}
 use Rattle.ion_text.specs.declared.transcription.Transcription.{Transcription}
-use Rattle.ion_text.specs.declared.reader.walks.Tally.{Tally}
 use Rattle.ion_visiting.specs.Parts.{number_payload, payload_of}
-use Rattle.ion_text.specs.machine.Walked.{WalkedTop}
 use Rattle.ion_visiting.specs.declared.part.Part.{Part}
-use Rattle.ion_text.specs.visiting.Walks.{VisitedTop}
 use Rattle.ion_text.specs.visiting.Transcribing.{transcribing, front, open_octet, bracket_close, octet_between, AddsPart, Opens, Closes}
 
 -- what stands before the next item behind these

@@ -1,5 +1,5 @@
 -- A line that was written, as a value that was carried.
-use Rattle.std.proofs.Common.{◌≡◌, ℕ, List, Option, None, Some, Result, Ok, Err, OnOk, OnErr, IfErr, subst, sym, Bool, true}
+use Rattle.std.proofs.Common.{◌≡◌, ℕ, List, Option, None, Some, Result, Ok, Err, OnOk, OnErr, IfErr, subst, sym}
 use Rattle.ion_model.specs.declared.value.Value.{Value}
 use Rattle.ion_symtab.specs.declared.fault.Fault.{Fault}
 use Rattle.ion_symtab.specs.declared.outlet.Outlet.{Ghosts as Outlet}

@@ -1,4 +1,4 @@
-use Rattle.std.proofs.Common.{◌≡◌, ◌+◌, ◌≤◌, length, refl, arith}
+use Rattle.std.proofs.Common.{◌+◌, ◌≤◌, length, refl, arith}
 use Rattle.ion_visiting.specs.Parts.{payload_of}
 use Rattle.ion_text.proofs.Walking.{symbol_leads, walked_scalar}
 use Rattle.ion_text.proofs.Visited.{scalar_visited}
