@@ -68,9 +68,11 @@ module _ (old : TextReader) (piece item : List ℕ) (blank count : ℕ) (rest be
       let s = size in
       subst (λ x. Advances old.catalog.now old.limits (is_some old.awaited) (scanned old.scanner).used (state_of old) piece
       (Ok (record { used = blank + count; value = Some x })) old.awaited (state_of (gone_on old moved old.beside))) t.gives
+      (subst (λ o. Advances old.catalog.now old.limits (is_some old.awaited) (scanned old.scanner).used (state_of old) piece
+      (Ok (record { used = blank + count; value = Some t.walked.value })) o (state_of (gone_on old moved old.beside))) (sym f.awaited)
       (top_advances old moved old.beside old.limits.depth item count t.first t.last t.walked f.before piece blank (min (length piece - blank) old.limits.item)
       f.fresh (there ∙ ap resting (sym t.ends))
-      is f.within f.few (omega arith) (omega arith) f.passed (t.begins ∙ f.rests) (omega arith))
+      is f.within f.few (omega arith) (omega arith) f.passed (t.begins ∙ f.rests) (omega arith)))
 
 -- 3. What is so of it then.
 

@@ -46,8 +46,8 @@ use Rattle.ion_text.specs.machine.AtOnce.{Passes}
 use Rattle.ion_text.specs.machine.EachToken.{under, spot_at, Reading, Symbols, goes, gives, refuses, at, fresh, place, place_in, settle, turn, turned, within, ended, begun_at, opened, first_now}
 use Rattle.ion_text.specs.machine.Nested.{open_mark, close_mark, OpensAt}
 use Rattle.ion_text.specs.machine.Pieces.{led, drive, go_on, Quiet}
-use Rattle.ion_text.specs.machine.Progress.{Advances, Stands}
-use Rattle.ion_text.specs.machine.Run.{State, uses, fails, tells, eats, takes, on_scan, on_said, behind_given, unsettled, reaches, longest_top, is_long_begun, token_of, run, run_on, with_scan}
+use Rattle.ion_text.specs.machine.Progress.{Advances, Stands, resumed}
+use Rattle.ion_text.specs.machine.Run.{State, Effect, Run, uses, fails, tells, leaves, eats, takes, once_more, on_scan, on_said, behind_given, unsettled, reaches, longest_top, is_long_begun, token_of, run, run_on, with_scan}
 use Rattle.ion_text.specs.machine.Views.{state_of, open_frames, with_beside, base}
 use Rattle.ion_text.specs.machine.Walked.{behind_note, IsFresh, most, rested, FoundNote, FoundScalar, GivesTop, LeadsPast, Walked, WalkedBare, WalkedContainer, WalkedItem, WalkedNote, WalkedNotes, WalkedTop}
 use Rattle.ion_text.specs.machine.FrontTokens.{held_of, EndsAtOnce, IsValue}
@@ -132,7 +132,7 @@ module _ (g : Catalog) (l : Limits) (r : Reading) (still : settle g l r ≡ goes
       (drive g l (take (n - 1) octets) rest.used r (resting rest) found.known found.ran quiet (inl still))) tells_it)
 
 -- a whole value of the top level is given
-top_ended : (g : Catalog) (l : Limits) (end start : ℕ) (c : List Slot) (v : Value) → is_table v ≡ false → end ≤ start + l.item
+pub top_ended : (g : Catalog) (l : Limits) (end start : ℕ) (c : List Slot) (v : Value) → is_table v ≡ false → end ≤ start + l.item
     → ended (under g l) (spot_at end start c) [] v ≡ gives v (fresh c)
 top_ended g l end start c v free room =
     ap (λ b. if b then turned l.item start end (next c v g) else within l.item start end (gives v (fresh c))) free
@@ -149,20 +149,20 @@ begun_more start begin [] (x ∷ ss) s = refl
 begun_more start begin (f ∷ fs) ss s = refl
 
 module _ (g : Catalog) (l : Limits) (start : ℕ) (c : List Slot) (ss : Symbols) where
-  abbrev on_top : Reading
+  abbrev pub on_top : Reading
   on_top = at start c [] ss nows.Ready
 
   abbrev begin : ℕ → ℕ
   begin used = begun_at start used [] ss
 
-  top_quiet : (rest : Rest) (octets : List ℕ) (n : ℕ) → n ≤ length octets → rest.used + n ≤ l.item + begin rest.used
+  pub top_quiet : (rest : Rest) (octets : List ℕ) (n : ℕ) → n ≤ length octets → rest.used + n ≤ l.item + begin rest.used
       → Quiet g l on_top places.Top (resting rest) (take n octets)
   top_quiet rest octets n within room =
       let size = length-take-le n octets within in
       let is = base_begun start rest.used ss in
       quiet_within g l on_top rest.used tt places.Top (take n octets) (resting rest) (omega arith) (omega arith) (omega arith)
 
-  top_blank : (rest : Rest) (piece : List ℕ) (n : ℕ) → n ≤ length piece → rest.used + n ≤ l.item + begin rest.used → IsPassed piece n
+  pub top_blank : (rest : Rest) (piece : List ℕ) (n : ℕ) → n ≤ length piece → rest.used + n ≤ l.item + begin rest.used → IsPassed piece n
       → Passes g l (rested rest start c [] ss nows.Ready) piece n (rested (past_blank rest n) start c [] ss nows.Ready)
   top_blank rest piece n within room passed =
       passes_led g l (rested rest start c [] ss nows.Ready) (rested (past_blank rest n) start c [] ss nows.Ready) piece n within (blank_used rest n)
@@ -636,29 +636,63 @@ gone_on r s b = record {
   failed = r.failed;
 }
 
+-- a value comes behind `to` octets, if one comes
+abbrev FirstBehind : ℕ → List (Value × ℕ) → Type 0
+FirstBehind to [] = Unit {0}
+FirstBehind to (x ∷ xs) = to < x.1
+
+-- where no value ends before the first octet, it doesn't matter whether that octet comes again
+pub resumed_same : (g : Catalog) (l : Limits) (again : Bool) (to : ℕ) (m : State) (octets : List ℕ) (r : Run) → FirstBehind to r.given
+    → run g l to m octets ≡ r → resumed g l again to m octets ≡ r
+resumed_same g l false to m octets r first e = e
+resumed_same g l true to m [] r first e = e
+resumed_same g l true to m (o ∷ os) r first e = by (eats g l m o) e
+  where
+    by : (x : Effect) → run_on to (λ n. eats g l n o) (λ n. run g l (to + 1) n os) x ≡ r → once_more to (λ n. run g l (to + 1) n os) x ≡ r
+    by (uses n) e = e
+    by (tells v n) e = e
+    by (leaves v n) e =
+        let never : to < to = subst (FirstBehind to) (sym (ap (λ (r : Run). r.given) e)) first in absurd (omega arith)
+    by (fails reason) e = e
+
+-- a reader at the top level between two items
+pub state_there : (r : TextReader) (s : Known) (rest : Rest) (begin : ℕ) → s ≡ resting rest → open_frames r ≡ [] → r.notes ≡ [] → r.stage ≡ nows.Ready
+    → with_scan s (at begin r.context (open_frames r) r.notes r.stage) ≡ rested rest begin r.context [] [] nows.Ready
+state_there r s rest begin e1 e2 e3 e4 = states s (resting rest) begin (open_frames r) r.notes r.stage e1 e2 e3 e4
+  where
+    states : (s t : Known) (begin : ℕ) (fs : List Frame) (ss : Symbols) (now : Now) → s ≡ t → fs ≡ [] → ss ≡ [] → now ≡ nows.Ready
+        → with_scan s (at begin r.context fs ss now) ≡ with_scan t (at begin r.context [] [] nows.Ready)
+    states s t begin fs ss now e1 e2 e3 e4 =
+        ap (λ x. with_scan x (at begin r.context fs ss now)) e1
+        ∙ (ap (λ x. with_scan t (at begin r.context x ss now)) e2
+        ∙ (ap (λ x. with_scan t (at begin r.context [] x now)) e3 ∙ ap (λ x. with_scan t (at begin r.context [] [] x)) e4))
+
 -- a reader that went over a blank and an item at the top level advanced with the item's value
 pub top_advances : (old : TextReader) (moved : Scanner) (b : TokenReader) (level : ℕ) (item : List ℕ) (count : ℕ) (before after : Tally)
     (w : WalkedTop level item count before after) (rest : Rest) (piece : List ℕ) (n k : ℕ)
     → IsFresh old rest → scanned moved ≡ resting after.rest → item ≡ take k (drop n piece) → n ≤ length piece → n ≤ old.limits.item
     → length item ≤ old.limits.item → length item ≡ min k (length piece - n) → IsPassed piece n → before.rest ≡ past_blank rest n → level ≤ old.limits.depth
     → Advances old.catalog.now old.limits (is_some old.awaited) (scanned old.scanner).used (state_of old) piece
-    (Ok (record { used = n + count; value = Some w.value })) old.awaited (state_of (gone_on old moved b))
+    (Ok (record { used = n + count; value = Some w.value })) None (state_of (gone_on old moved b))
 top_advances old moved b level item count before after w rest piece n k h there is within blank few size passed from deep =
     let x = top_runs old.catalog.now old.limits level item count before after w old.start old.context rest piece n k is within blank few size passed from
     deep in
     let a : state_of old ≡ rested rest old.start old.context [] [] nows.Ready =
-    states (scanned old.scanner) (resting rest) old.start (open_frames old) old.notes old.stage h.rests h.top h.bare h.ready in
+    state_there old (scanned old.scanner) rest old.start h.rests h.top h.bare h.ready in
     let e : state_of (gone_on old moved b) ≡ rested after.rest 0 old.context [] [] nows.Ready =
-    states (scanned moved) (resting after.rest) 0 (open_frames old) old.notes old.stage there h.top h.bare h.ready in
+    state_there old (scanned moved) after.rest 0 there h.top h.bare h.ready in
     let used : (scanned old.scanner).used ≡ rest.used = ap (λ (s : Known). s.used) h.rests in
-    rw (a, e, used, h.awaited) x
-  where
-    states : (s t : Known) (begin : ℕ) (fs : List Frame) (ss : Symbols) (now : Now) → s ≡ t → fs ≡ [] → ss ≡ [] → now ≡ nows.Ready
-        → with_scan s (at begin old.context fs ss now) ≡ with_scan t (at begin old.context [] [] nows.Ready)
-    states s t begin fs ss now e1 e2 e3 e4 =
-        ap (λ x. with_scan x (at begin old.context fs ss now)) e1
-        ∙ (ap (λ x. with_scan t (at begin old.context x ss now)) e2
-        ∙ (ap (λ x. with_scan t (at begin old.context [] x now)) e3 ∙ ap (λ x. with_scan t (at begin old.context [] [] x)) e4))
+    let some = x.1.0 in
+    rw (a, e, used) (
+      x.0,
+      (
+        some,
+        resumed_same old.catalog.now old.limits (is_some old.awaited) rest.used (rested rest old.start old.context [] [] nows.Ready)
+            (take (n + count) piece)
+            (record { given = (w.value, rest.used + (n + count)) ∷ []; now = Ok (rested after.rest 0 old.context [] [] nows.Ready) })
+            (omega arith) x.1.1,
+      ),
+    )
 
 -- what a reader stands for has nothing to do with what it reads tokens with beside its scanner
 pub beside_stands : (r : TextReader) (b : TokenReader) (u : List ℕ) (s : List (Value × ℕ)) → Stands r u s → Stands (with_beside r b) u s

@@ -1,5 +1,5 @@
 -- What a walk over octets in memory finds of a value that it doesn't build.
-use Rattle.std.specs.Prelude.{◌≡◌, ◌+◌, ◌-◌, ◌^◌, ◌≤◌, ◌<◌, ℕ, suc, min, true, false, List, [], ◌∷◌, ◌++◌, length, take, drop, get_or, Option, None, Ok}
+use Rattle.std.specs.Prelude.{◌≡◌, ◌+◌, ◌-◌, ◌^◌, ◌≤◌, ◌<◌, ℕ, suc, min, true, false, List, [], ◌∷◌, ◌++◌, length, take, drop, get_or, Option, Ok}
 use Rattle.ion_atoms.specs.declared.kind.Kind.{Kind}
 use Rattle.ion_atoms.specs.declared.kind.Kind.TheVariants as kinds
 use Rattle.ion_model.specs.declared.value.Field.{Field}
@@ -37,14 +37,13 @@ use Rattle.ion_text.specs.machine.Nested.{open_mark, close_mark, closes, close_o
 use Rattle.ion_text.specs.machine.Run.{State, is_top, run, with_scan}
 use Rattle.ion_text.specs.machine.Views.{open_frames, Puts, IsFine}
 
--- no item is open and no octet is awaited, and the scanner rests there
+-- no item is open, and the scanner rests there
 pub record IsFresh (r : TextReader) (rest : Rest) : Type 0 where
   pub rests : scanned r.scanner ≡ resting rest
   pub fine : IsFine r
   pub top : open_frames r ≡ []
   pub bare : r.notes ≡ []
   pub ready : r.stage ≡ nows.Ready
-  pub awaited : r.awaited ≡ None
 
 -- the most nodes that are counted
 abbrev pub most : ℕ

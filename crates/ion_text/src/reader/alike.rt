@@ -111,6 +111,9 @@ impl TextReader<'_> {
         requires room { (scanned self.now.scanner).used + length piece.now < 2 ^ 63 }
         ensures { IfSome result (λ front. IsFront self.now piece.now front.blank front.rest) }
     {
+        if self.is_awaiting() {
+            return None;
+        }
         let rest = self.fresh_rest()?;
         let blank = blanks(up_to(piece, self.limits.item));
         Some(Front {

@@ -1,6 +1,6 @@
 //! Tokens at the front of octets that are a value or a field's name, with what they say. Of a token
 //! that isn't whole, isn't plain or may be a symbol's id nothing is found.
-ghost use Rattle.std.specs.Prelude.{◌≡◌, false, true, IfSome, Ok, Some};
+ghost use Rattle.std.specs.Prelude.{◌≡◌, ◌<◌, false, true, length, IfSome, Ok, Some};
 ghost use Rattle.ion_tokens.specs.Bodies.{content};
 ghost use Rattle.ion_tokens.specs.Places.{is_name};
 ghost use Rattle.ion_tokens.specs.declared.mode.Place.{Place};
@@ -140,10 +140,12 @@ pub(super) fn number_kind(number: Number) -> Kind
     }
 }
 
-/// The number there.
+/// The number there, whose end the octet behind it shows.
 pub(super) fn number_at(octets: &[u8]) -> Option<(FoundToken, Number)>
-    ensures { IfSome result (λ found. (here : Place) (rest : Rest) → is_name here ≡ false →
+    ensures found { IfSome result (λ found. (here : Place) (rest : Rest) → is_name here ≡ false →
         FoundNumber here rest octets.now found.0 found.1) }
+    ensures left { IfSome result (λ found. found.0.left ≡ true) }
+    ensures within { IfSome result (λ found. found.0.count < length octets.now) }
 {
     let count = number(octets)?;
     if count >= octets.len() {

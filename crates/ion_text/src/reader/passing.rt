@@ -1,8 +1,10 @@
 //! Values of the top level that lie whole in a piece and are passed over.
-ghost use Rattle.std.specs.Prelude.{◌≡◌, ◌+◌, ◌<◌, ◌^◌, [], length, take, min, IfSome, IsNone, None, Ok, Some};
+ghost use Rattle.std.specs.Prelude.{◌≡◌, ◌+◌, ◌<◌, ◌^◌, [], length, take, min, false, IfSome, IsNone, None, Ok, Some};
 ghost use Rattle.std.specs.Option.{is_some};
 ghost use Rattle.ion_model.specs.declared.value.Value.{Value};
 ghost use Rattle.ion_model.specs.Outlines.{outline_of};
+ghost use Rattle.ion_model.specs.Measures.{bare};
+ghost use Rattle.ion_visiting.specs.Parts.{number_payload};
 ghost use Rattle.ion_tokens.specs.declared.token_reader.TokenReader.{TokenReader};
 ghost use Rattle.ion_tokens.specs.machine.Views.{scanned};
 ghost use Rattle.ion_text.specs.machine.Progress.{Advances, SameSettings, StaysSteady};
@@ -11,12 +13,14 @@ ghost use Rattle.ion_text.specs.machine.Walked.{IsFresh};
 ghost use Rattle.ion_text.specs.visiting.Walks.{ItemAhead};
 
 use super::TextReader;
+use super::finders::{begins_number, number_at, number_kind};
 use super::top_values::walk_top;
 use super::walks::Tally;
 use crate::state::Now;
 use crate::visitor::Unheeding;
 use ion_model::Outline;
-use ion_tokens::{Rest, blanks};
+use ion_scalar::Number;
+use ion_tokens::{Place, Rest, blanks};
 
 // Octets up to so many.
 pub(super) fn up_to(octets: &[u8], most: u64) -> &[u8]
@@ -29,13 +33,24 @@ pub(super) fn up_to(octets: &[u8], most: u64) -> &[u8]
     }
 }
 
+// The outline of a number.
+fn outline_of(number: Number) -> Outline
+    ensures { result ≡ outline_of (bare (number_payload number)) }
+{
+    Outline {
+        kind: number_kind(number),
+        depth: 0,
+        nodes: 1,
+    }
+}
+
 impl TextReader<'_> {
-    /// Where the scanner rests, if no item is open and no octet is awaited.
+    /// Where the scanner rests, if no item is open.
     pub(super) fn fresh_rest(&self) -> Option<Rest>
         ensures { IfSome result (λ rest. IsFresh self.now rest) }
     {
-        match (self.frames.last(), &self.stage, self.awaited) {
-            (None, Now::Ready, None) => {}
+        match (self.frames.last(), &self.stage) {
+            (None, Now::Ready) => {}
             _ => return None,
         }
         if self.has_notes() {
@@ -44,9 +59,18 @@ impl TextReader<'_> {
         self.scanner.rest()
     }
 
+    /// Whether an octet is awaited.
+    pub(super) fn is_awaiting(&self) -> bool
+        ensures { result ≡ false → self.now.awaited ≡ None }
+    {
+        match self.awaited {
+            None => false,
+            Some(_) => true,
+        }
+    }
+
     /// What may be an item at the front of a piece: how many octets of a blank stand before it, its
-    /// octets up to the limit on items, and what is noted of it yet. `None` if an item is open or
-    /// an octet is awaited.
+    /// octets up to the limit on items, and what is noted of it yet. `None` if an item is open.
     #[inline(always)]
     pub(super) fn item_ahead<'p>(&self, piece: &'p [u8]) -> Option<(usize, &'p [u8], Tally)>
         requires room { (scanned self.now.scanner).used + length piece.now < 2 ^ 63 }
@@ -61,9 +85,10 @@ impl TextReader<'_> {
     }
 
     /// Takes up a blank and the item behind it at the front of a piece without building that: how
-    /// many octets they have, and the outline of its value. `None`, with nothing taken up, where an
-    /// item is open, or the value isn't whole, ends before the octet behind it, may be a local
-    /// symbol table, may not stand here or is in any way unusual.
+    /// many octets they have, and the outline of its value. Of what ends before the octet behind it
+    /// numbers alone are taken up so, where that octet is there. `None`, with nothing taken up,
+    /// where an item is open, or the value isn't whole, may be a local symbol table, may not stand
+    /// here or is in any way unusual.
     pub(super) fn walk(&mut self, piece: &[u8]) -> Option<(usize, Outline)>
         requires room { (scanned self.old.scanner).used + length piece.now < 2 ^ 63 }
         ensures gives { IfSome result (λ found. (v : Value) × (outline_of v ≡ found.1)
@@ -78,11 +103,20 @@ impl TextReader<'_> {
         ensures setting { SameSettings self.old self.new }
     {
         let (before, item, begun) = self.item_ahead(piece)?;
+        if begins_number(item) {
+            let (token, number) = number_at(item)?;
+            let behind = begun.rest.past_token(Place::Top, token.kind, token.count);
+            self.scanner.move_to(behind);
+            self.start = 0;
+            self.awaited = Some(item[token.count]);
+            return Some((before + token.count, outline_of(number)));
+        }
         let mut tally = begun;
         let depth = self.limits.depth;
         let count = walk_top(&mut self.beside, item, depth, &mut tally, &mut Unheeding)?;
         self.scanner.move_to(tally.rest);
         self.start = 0;
+        self.awaited = None;
         Some((before + count, tally.outline(depth)))
     }
 }

@@ -1,18 +1,47 @@
 //! Items of the top level that lie whole in a piece, which a visitor takes: their annotations, and
 //! a value that ends with its own last octet. A symbol, a number or a long string ends before the
 //! octet behind it, so that the reader takes it up token by token.
-ghost use Rattle.std.specs.Prelude.{◌+◌, ◌≤◌, ◌<◌, ◌^◌, length, IfSome};
-ghost use Rattle.ion_text.specs.visiting.Walks.{VisitedBare, VisitedTop};
+ghost use Rattle.std.specs.Prelude.{◌≡◌, ◌+◌, ◌≤◌, ◌<◌, ◌^◌, false, length, IfSome};
+ghost use Rattle.ion_tokens.specs.declared.mode.Place.TheVariants as places;
+ghost use Rattle.ion_visiting.specs.Parts.{payload_of};
+ghost use Rattle.ion_text.specs.visiting.Walks.{FoundPart, VisitedBare, VisitedTop};
 
 use super::annotations::walk_notes;
-use super::finders::string_at;
+use super::escaped_tokens::may_be_rare;
+use super::finders::{Scalar, rare_part, string_at};
 use super::nested_containers::bracket_at;
 use super::walks::{Tally, walk_container};
 use ion_tokens::{Place, TokenReader};
-use ion_visiting::TextVisitor;
+use ion_visiting::{Part, TextVisitor};
 
-// Goes over the short string there.
-fn walk_string<T: TextVisitor>(
+// Goes over this token, which is a value that ends with its own last octet.
+#[inline(always)]
+fn walk_given<T: TextVisitor>(
+    octets: &[u8],
+    scalar: Scalar,
+    said: &Part<'_>,
+    level: u32,
+    tally: &mut Tally,
+    visitor: &mut T,
+) -> Option<usize>
+    requires found { FoundPart places.Top tally.old.rest octets.now scalar (payload_of said.now) }
+    requires waits { scalar.waits ≡ false }
+    requires given { scalar.token.left ≡ false }
+    requires low { tally.old.level ≤ level }
+    requires room { tally.old.rest.used + length octets.now < 2 ^ 63 }
+    ensures { IfSome result (λ count. VisitedBare T.visits level octets.now count
+        tally.old tally.new visitor.old visitor.new) }
+{
+    if !visitor.part(said) {
+        return None;
+    }
+    Some(tally.pass_scalar(Place::Top, scalar, 0))
+}
+
+// Goes over a clob, a blob or a short string with escapes there.
+#[inline(never)]
+fn walk_rare_given<T: TextVisitor>(
+    beside: &mut TokenReader,
     octets: &[u8],
     level: u32,
     tally: &mut Tally,
@@ -23,11 +52,38 @@ fn walk_string<T: TextVisitor>(
     ensures { IfSome result (λ count. VisitedBare T.visits level octets.now count
         tally.old tally.new visitor.old visitor.new) }
 {
-    let (scalar, said) = string_at(octets)?;
-    if !visitor.part(&said) {
+    if !may_be_rare(octets) {
         return None;
     }
-    Some(tally.pass_scalar(Place::Top, scalar, 0))
+    let token = beside.token(Place::Top, tally.rest, octets)?;
+    let Ok(body) = beside.body(token.kind) else {
+        return None;
+    };
+    let (kind, waits, said) = rare_part(&body)?;
+    if waits || token.left {
+        return None;
+    }
+    let scalar = Scalar { token, kind, waits };
+    walk_given(octets, scalar, &said, level, tally, visitor)
+}
+
+// Goes over a short string, a clob or a blob there.
+fn walk_scalar<T: TextVisitor>(
+    beside: &mut TokenReader,
+    octets: &[u8],
+    level: u32,
+    tally: &mut Tally,
+    visitor: &mut T,
+) -> Option<usize>
+    requires low { tally.old.level ≤ level }
+    requires room { tally.old.rest.used + length octets.now < 2 ^ 63 }
+    ensures { IfSome result (λ count. VisitedBare T.visits level octets.now count
+        tally.old tally.new visitor.old visitor.new) }
+{
+    match string_at(octets) {
+        Some((scalar, said)) => walk_given(octets, scalar, &said, level, tally, visitor),
+        None => walk_rare_given(beside, octets, level, tally, visitor),
+    }
 }
 
 // Goes over the value there, whose annotations stand before it.
@@ -47,7 +103,7 @@ fn walk_bare<T: TextVisitor>(
         return None;
     }
     match bracket_at(octets) {
-        None => walk_string(octets, level, tally, visitor),
+        None => walk_scalar(beside, octets, level, tally, visitor),
         Some(bracket) => {
             walk_container(beside, Place::Top, bracket, octets, level, tally, visitor)
         }

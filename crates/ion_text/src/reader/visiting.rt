@@ -41,6 +41,9 @@ impl TextReader<'_> {
         ensures steady { StaysSteady self.old self.new }
         ensures setting { SameSettings self.old self.new }
     {
+        if self.is_awaiting() {
+            return None;
+        }
         let (before, item, begun) = self.item_ahead(piece)?;
         let most = level.min(self.limits.depth);
         let mut tally = Tally::new(most, begun.rest);

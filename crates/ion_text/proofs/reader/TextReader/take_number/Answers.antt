@@ -6,7 +6,7 @@ use Rattle.ion_text.proofs.reader.TextReader.take_number.Goals as goal
 
 pub take_whole-requires-clause-token : goal.take_whole-requires-clause-token
 take_whole-requires-clause-token c =
-    let found = c.in-Some.ensures c.args.here c.args.rest c.requires.value in
+    let found = c.in-Some.ensures.found c.args.here c.args.rest c.requires.value in
     record {
       kept = found.kept;
       content = Number' c.in-Some.read;

@@ -3,8 +3,8 @@ use Rattle.ion_scalar.specs.text.Reading.{number_read, number_reads}
 use Rattle.ion_text.proofs.Arms.{number_says}
 use Rattle.ion_text.proofs.reader.finders.number_at.Goals as goal
 
-pub returns : goal.returns
-returns c = λ here rest value.
+pub returns-clause-found : goal.returns-clause-found
+returns-clause-found c = λ here rest value.
     let kept = take c.in_ok-count.count c.args.octets.now in
     let same : Ok c.in-Ok.read ≡ number_read kept = c.in-Ok.ensures.only (number_read kept) (number_reads kept) in
     record { kept = kept; found = c.in_ok-count.ensures here rest value; says = number_says kept c.in-Ok.read same }

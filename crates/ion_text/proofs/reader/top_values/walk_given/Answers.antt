@@ -4,25 +4,25 @@ use Rattle.ion_visiting.specs.Parts.{payload_of}
 use Rattle.ion_text.proofs.Tops.{bare_scalar}
 use Rattle.ion_text.proofs.Visited.{bare_scalar_visited}
 use Rattle.ion_text.proofs.Walking.{found_within}
-use Rattle.ion_text.proofs.reader.top_values.walk_string.Goals as goal
+use Rattle.ion_text.proofs.reader.top_values.walk_given.Goals as goal
 
 pub pass_scalar-requires : goal.pass_scalar-requires
 pass_scalar-requires g c =
     let octets = c.args.octets.now in
-    let s = c.in_ok-scalar.scalar in
+    let s = c.args.scalar in
     let rest = c.args.tally.now.rest in
-    let f = (c.in_ok-scalar.ensures.found places.Top rest).token in
+    let f = c.requires.found.token in
     let within = found_within places.Top rest octets s.token.kind f.kept s.token.count s.token.left f.found in
     omega (arith, c.requires.room)
 
 pub returns : goal.returns
 returns g c =
     let octets = c.args.octets.now in
-    let s = c.in_ok-scalar.scalar in
+    let s = c.args.scalar in
     let none : s.token.count + 0 ≡ s.token.count = omega arith in
-    let found = c.in_ok-scalar.ensures.found places.Top c.args.tally.now.rest in
-    bare_scalar_visited g.T.TextVisitor.visits places.Top c.args.tally.now.rest octets s (payload_of c.in_ok-scalar.said) found c.args.level s.token.count
+    let found = c.requires.found in
+    bare_scalar_visited g.T.TextVisitor.visits places.Top c.args.tally.now.rest octets s (payload_of c.args.said.now) found c.args.level s.token.count
     c.pass_scalar.result c.args.tally.now c.pass_scalar.new.self _ _ (c.pass_scalar.ensures.total ∙ none)
-    (bare_scalar c.args.level octets s c.args.tally.now c.pass_scalar.new.self found.token c.in_ok-scalar.ensures.waits c.in_ok-scalar.ensures.given
+    (bare_scalar c.args.level octets s c.args.tally.now c.pass_scalar.new.self found.token c.requires.waits c.requires.given
     c.requires.low c.pass_scalar.ensures.noted)
     (c.part.ensures c.if-not-part.false)
