@@ -22,7 +22,7 @@ pub mod Walking
 pub mod Keywords
 pub mod Notes
 pub mod Tops
-pub mod TopNumbers
+pub mod TopLeft
 pub mod Elsewhere
 pub mod Alikes
 pub mod Visited

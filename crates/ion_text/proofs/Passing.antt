@@ -190,7 +190,8 @@ pub inner_notices : (l : Limits) (r : Reading) → is_top r.frames ≡ false →
 inner_notices l r inner s idle room = idle_noticed l r s idle inner room
 
 module _ (g : Catalog) (l : Limits) (r : Reading) where
-  blank_waits : (h : Held) (end : ℕ) → r.now ≡ nows.Pending h end → (p : Place) (os : List ℕ) (s t : Known) → is_sane s.mode ≡ true → is_idle t.mode ≡ true
+  -- a blank behind what may be a symbol goes on to wait
+  pub blank_waits : (h : Held) (end : ℕ) → r.now ≡ nows.Pending h end → (p : Place) (os : List ℕ) (s t : Known) → is_sane s.mode ≡ true → is_idle t.mode ≡ true
       → scanning.run p os s ≡ Next t → Waiting g l r p s os
   blank_waits h end now p [] s t sane idle e = tt
   blank_waits h end now p (o ∷ os) s t sane idle e =

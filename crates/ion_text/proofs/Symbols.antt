@@ -220,7 +220,8 @@ ends_shows p r o h =
     (skip _ (o == 58) (no_colon o h)
     (both (is_name p) (yes refl) (value_shows p r o)))))))))
 
-ends_waits : (p : Place) (r : Rest) (o : ℕ) → ends_symbol o ≡ true → symbol_waits (feed p (resting r) o) ≡ false
+-- no `::` follows before an octet that shows so
+pub ends_waits : (p : Place) (r : Rest) (o : ℕ) → ends_symbol o ≡ true → symbol_waits (feed p (resting r) o) ≡ false
 ends_waits p r o h = (ends_shows p r o h).is
 
 next_at : (k : ℕ) (w : List ℕ) → get_or (drop k w) 1 0 ≡ get_or w (k + 1) 0

@@ -284,7 +284,7 @@ module _ (g : Catalog) (l : Limits) (start : ℕ) (c : List Slot) (ss : Symbols)
       (omega arith))
 
 -- what waits behind an annotation, or behind `::`, isn't too long
-waits_notices : (l : Limits) (start : ℕ) (c : List Slot) (ss : Symbols) (h : Held) (end most : ℕ) → end ≤ start + l.item
+pub waits_notices : (l : Limits) (start : ℕ) (c : List Slot) (ss : Symbols) (h : Held) (end most : ℕ) → end ≤ start + l.item
     → NoticesNothing l (at start c [] ss (nows.Pending h end)) most
 waits_notices l start c ss h end most room s idle few = ap
     (λ b. if b then uses (with_scan s (at start c [] ss (nows.Pending h end))) else fails reasons.ItemTooLong) (le_true (end - start) l.item (omega arith))
@@ -567,7 +567,7 @@ walked_top level octets rest a b before mid after is w x =
       counted = omega arith;
     }
 
-same_outline : (j k : Kind) (c d m n : ℕ) → j ≡ k → c ≡ d → m ≡ n
+pub same_outline : (j k : Kind) (c d m n : ℕ) → j ≡ k → c ≡ d → m ≡ n
     → Path Outline (record { kind = j; depth = c; nodes = m }) (record { kind = k; depth = d; nodes = n })
 same_outline j k c d m n e f h =
     ap (λ x. record { kind = x; depth = c; nodes = m }) e

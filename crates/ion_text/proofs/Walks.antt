@@ -1,8 +1,9 @@
 -- Values that are gone over and not built.
-use Rattle.std.proofs.Common.{◌≡◌, ℕ, Bool, true, false, List, Option, Some, Ok, refl, ap, ◌∙◌}
-use Rattle.std.specs.Prelude.{if◌then◌else◌, ◌||◌, codes}
+use Rattle.std.proofs.Common.{◌≡◌, ◌≢◌, ℕ, Bool, true, false, List, [], ◌∷◌, get_or, Option, Some, Ok, refl, ap, arith, ◌∙◌}
+use Rattle.std.specs.Prelude.{if◌then◌else◌, ◌==◌, ◌&&◌, ◌||◌, codes}
 use Rattle.std.specs.Str.{bytes_eq}
 use Rattle.std.proofs.lemmas.Bool.{cond-true, cond-false}
+use Rattle.std.proofs.lemmas.Bool.Decides.{nat_tests}
 use Rattle.ion_atoms.specs.declared.kind.Kind.{Kind}
 use Rattle.ion_atoms.specs.declared.kind.Kind.TheVariants as sorts
 use Rattle.ion_model.specs.declared.value.Payload.{Payload}
@@ -13,9 +14,10 @@ use Rattle.ion_model.specs.Measures.{Layer, bare}
 use Rattle.ion_model.specs.laws.Measures.{depth-out, nodes-bare, layer_depth, layer_nodes}
 use Rattle.ion_scalar.specs.declared.number.Number.{Number}
 use Rattle.ion_scalar.specs.declared.number.Number.TheVariants as numbers
-use Rattle.ion_text.specs.Grammar.{is_keyword, is_version, the_marker}
+use Rattle.ion_text.specs.Grammar.{behind_front, is_keyword, is_version, the_marker, version_parts}
 use Rattle.ion_text.specs.declared.state.Held.TheVariants as helds
 use Rattle.ion_text.specs.machine.EachToken.{held_word, held_payload}
+use Rattle.ion_text.specs.machine.FrontTokens.{is_marker}
 use Rattle.ion_visiting.specs.Parts.{number_payload}
 use Rattle.ion_text.specs.machine.Walked.{IsFlat}
 
@@ -87,6 +89,28 @@ module _ (w : List ℕ) where
       by : (b : Bool) → held_payload (if b then helds.Version (bytes_eq w the_marker) (Some w) else helds.Symbol (Some w)) ≡ Ok (payloads.Symbol (Some w))
       by true = refl
       by false = refl
+
+  -- a word that begins with no `$` is no version marker
+  pub word_unmarked : get_or w 0 0 ≢ 36 → is_marker (held_word w) ≡ false
+  word_unmarked first = go (bytes_eq w (codes "null")) (bytes_eq w (codes "true")) (bytes_eq w (codes "false")) (bytes_eq w (codes "nan"))
+    where
+      plain : (w : List ℕ) → get_or w 0 0 ≢ 36 → is_version w ≡ false
+      plain [] h = refl
+      plain (o ∷ os) h = ap (λ b. b && behind_front (codes "ion_") os version_parts) (other o h)
+        where
+          other : (o : ℕ) → o ≢ 36 → (36 == o) ≡ false
+          other o h = grind (arith, nat_tests)
+
+      last : is_marker (if is_version w then helds.Version (bytes_eq w the_marker) (Some w) else helds.Symbol (Some w)) ≡ false
+      last = ap (λ b. is_marker (if b then helds.Version (bytes_eq w the_marker) (Some w) else helds.Symbol (Some w))) (plain w first)
+
+      go : (n t f a : Bool) → is_marker (if n then helds.Null sorts.Null else (if t then helds.Truth true else (if f then helds.Truth false
+          else (if a then helds.Nan else (if is_version w then helds.Version (bytes_eq w the_marker) (Some w) else helds.Symbol (Some w)))))) ≡ false
+      go true t f a = refl
+      go false true f a = refl
+      go false false true a = refl
+      go false false false true = refl
+      go false false false false = last
 
   -- a word that is no keyword is the symbol of its text
   pub word_free : is_keyword w ≡ false → held_payload (held_word w) ≡ Ok (payloads.Symbol (Some w))

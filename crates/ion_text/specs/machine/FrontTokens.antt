@@ -34,6 +34,11 @@ value_of (Clob w) = Some (payloads.Clob w)
 value_of (Blob w) = Some (payloads.Blob w)
 value_of _ = None
 
+-- a word of the form of a version marker
+abbrev pub is_marker : Held → Bool
+is_marker (helds.Version ours s) = true
+is_marker _ = false
+
 -- what is held is this value, unless `::` follows
 abbrev pub Pays : Option Held → Payload → Type 0
 Pays None payload = ⊥

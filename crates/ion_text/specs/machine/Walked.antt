@@ -33,8 +33,9 @@ use Rattle.ion_text.specs.declared.state.Now.TheVariants as nows
 use Rattle.ion_text.specs.machine.FrontTokens.{BeginsName, BeginsValue, IsValue}
 use Rattle.ion_text.specs.machine.EachToken.{Setting, Spot, Symbols, at, begun_at, place_in, ended, opened, first_now, closed}
 use Rattle.ion_text.specs.machine.AtOnce.{Passes}
+use Rattle.ion_text.specs.machine.Pieces.{led}
 use Rattle.ion_text.specs.machine.Nested.{open_mark, close_mark, closes, close_octet}
-use Rattle.ion_text.specs.machine.Run.{State, is_top, run, with_scan}
+use Rattle.ion_text.specs.machine.Run.{State, eats, is_top, leaves, run, with_scan}
 use Rattle.ion_text.specs.machine.Views.{open_frames, Puts, IsFine}
 
 -- no item is open, and the scanner rests there
@@ -227,6 +228,20 @@ abbrev pub GivesTop : Catalog → Limits → Rest → ℕ → List Slot → Symb
 GivesTop g l before start c ss octets count after v =
     run g l before.used (rested before start c [] ss nows.Ready) (take count octets)
     ≡ record { given = (v, before.used + count) ∷ []; now = Ok (rested after 0 c [] [] nows.Ready) }
+
+-- A run over so many octets leads to where the next one shows the end of this value.
+abbrev pub LeavesTop : Catalog → Limits → Rest → ℕ → List Slot → List ℕ → ℕ → Rest → Value → Type 0
+LeavesTop g l before start c octets count after v =
+    (m : State) × (run g l before.used (rested before start c [] [] nows.Ready) (take count octets) ≡ led m)
+    × (eats g l m (get_or octets count 0) ≡ leaves v (rested after 0 c [] [] nows.Ready))
+
+-- Octets at the top level begin with an item that ends before the octet behind so many.
+pub record WalkedLeft (octets : List ℕ) (count : ℕ) (before after : Rest) (v : Value) : Type 0 where
+  pub leaves : (g : Catalog) (l : Limits) (start : ℕ) (c : List Slot) → length octets ≤ l.item
+      → LeavesTop g l before start c octets count after v
+  pub some : 0 < count
+  pub within : count < length octets
+  pub used : after.used ≡ before.used + count
 
 -- Octets at the top level, behind the annotations of an item, begin with its value, which ends with the last of so many.
 pub record WalkedBare (level : ℕ) (octets : List ℕ) (count : ℕ) (before after : Tally) : Type 0 where

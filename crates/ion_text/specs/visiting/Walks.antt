@@ -1,5 +1,5 @@
 -- A value that a walk over octets in memory finds, and what its visitor took of it.
-use Rattle.std.specs.Prelude.{◌≡◌, ◌+◌, ◌-◌, ◌<◌, ◌≤◌, ℕ, min, List, length, take, drop, get_or, Some, Ok}
+use Rattle.std.specs.Prelude.{true, false, ◌≡◌, ◌+◌, ◌-◌, ◌<◌, ◌≤◌, ℕ, min, List, length, take, drop, get_or, Some, Ok}
 use Rattle.ion_model.specs.declared.value.Payload.{Payload}
 use Rattle.ion_tokens.specs.declared.mode.Place.{Place}
 use Rattle.ion_visiting.specs.declared.bracket.Bracket.{Bracket}
@@ -10,7 +10,9 @@ use Rattle.ion_tokens.specs.Bodies.{Number'}
 use Rattle.ion_tokens.specs.machine.Rests.{past_blank, IsFound, IsPassed}
 use Rattle.ion_tokens.specs.machine.Said.{said}
 use Rattle.ion_visiting.specs.Visits.{Visits, name, Visited, VisitedPayload, VisitedAnnotations}
+use Rattle.ion_text.specs.declared.state.Held.{Held}
 use Rattle.ion_text.specs.declared.reader.TextReader.{TextReader}
+use Rattle.ion_text.specs.machine.FrontTokens.{held_of, is_marker}
 use Rattle.ion_text.specs.declared.reader.annotations.Note.{Note}
 use Rattle.ion_text.specs.declared.reader.finders.Scalar.{Scalar}
 use Rattle.ion_text.specs.declared.reader.walks.Tally.{Tally}
@@ -20,6 +22,12 @@ use Rattle.ion_text.specs.machine.Walked.{IsFresh, FoundScalar, FoundNote, Walke
 pub record FoundPart (p : Place) (r : Rest) (octets : List ℕ) (s : Scalar) (payload : Payload) : Type 0 where
   pub token : FoundScalar p r octets s
   pub is : token.payload ≡ payload
+
+-- in this place octets begin with this token, which is this value unless `::` follows, and no version marker
+pub record FoundSymbol (p : Place) (r : Rest) (octets : List ℕ) (s : Scalar) (payload : Payload) : Type 0 where
+  pub part : FoundPart p r octets s payload
+  pub waits : s.waits ≡ true
+  pub free : (h : Held) → held_of part.token.content ≡ Some h → is_marker h ≡ false
 
 -- in this place octets begin with this token, which is this number
 pub record FoundNumber (p : Place) (r : Rest) (octets : List ℕ) (token : FoundToken) (number : Number) : Type 0 where

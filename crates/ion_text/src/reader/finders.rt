@@ -9,7 +9,7 @@ ghost use Rattle.ion_text.specs.machine.FrontTokens.{BeginsName, IsValue};
 ghost use Rattle.ion_text.specs.machine.EachToken.{held_word, held_payload};
 ghost use Rattle.ion_visiting.specs.Parts.{number_payload, payload_of};
 ghost use Rattle.ion_text.specs.machine.Walked.{IsFlat};
-ghost use Rattle.ion_text.specs.visiting.Walks.{FoundPart, FoundNumber};
+ghost use Rattle.ion_text.specs.visiting.Walks.{FoundPart, FoundNumber, FoundSymbol};
 
 use super::symbols::plain_text;
 use crate::words::{is_keyword, may_be_keyword};
@@ -52,9 +52,8 @@ fn word_part(word: &str) -> Option<(Kind, Part<'_>)>
 
 // The word at the front of octets, as a value.
 fn word_at(octets: &[u8]) -> Option<(Scalar, Part<'_>)>
-    ensures waits { IfSome result (λ found. found.0.waits ≡ true) }
-    ensures found { IfSome result (λ found. (here : Place) (rest : Rest) →
-        FoundPart here rest octets.now found.0 (payload_of found.1)) }
+    ensures { IfSome result (λ found. (here : Place) (rest : Rest) →
+        FoundSymbol here rest octets.now found.0 (payload_of found.1)) }
 {
     let count = word(octets)?;
     if count >= octets.len() || octets[0] == b'$' {
@@ -76,9 +75,8 @@ fn word_at(octets: &[u8]) -> Option<(Scalar, Part<'_>)>
 
 // The quoted symbol there.
 fn quoted_at(octets: &[u8]) -> Option<(Scalar, Part<'_>)>
-    ensures waits { IfSome result (λ found. found.0.waits ≡ true) }
-    ensures found { IfSome result (λ found. (here : Place) (rest : Rest) →
-        FoundPart here rest octets.now found.0 (payload_of found.1)) }
+    ensures { IfSome result (λ found. (here : Place) (rest : Rest) →
+        FoundSymbol here rest octets.now found.0 (payload_of found.1)) }
 {
     let count = quoted_symbol(octets)?;
     if count >= octets.len() || count < 2 {
@@ -181,9 +179,8 @@ pub(super) fn rare_part<'b>(body: &'b Body<'_>) -> Option<(Kind, bool, Part<'b>)
 
 /// The word or the quoted symbol there, as a value.
 pub(super) fn symbol_at(octets: &[u8]) -> Option<(Scalar, Part<'_>)>
-    ensures found { IfSome result (λ found. (here : Place) (rest : Rest) →
-        FoundPart here rest octets.now found.0 (payload_of found.1)) }
-    ensures waits { IfSome result (λ found. found.0.waits ≡ true) }
+    ensures { IfSome result (λ found. (here : Place) (rest : Rest) →
+        FoundSymbol here rest octets.now found.0 (payload_of found.1)) }
 {
     match octets.first() {
         Some(b'\'') => quoted_at(octets),

@@ -3,23 +3,21 @@ ghost use Rattle.std.specs.Prelude.{◌≡◌, ◌+◌, ◌<◌, ◌^◌, [], le
 ghost use Rattle.std.specs.Option.{is_some};
 ghost use Rattle.ion_model.specs.declared.value.Value.{Value};
 ghost use Rattle.ion_model.specs.Outlines.{outline_of};
-ghost use Rattle.ion_model.specs.Measures.{bare};
-ghost use Rattle.ion_visiting.specs.Parts.{number_payload};
 ghost use Rattle.ion_tokens.specs.declared.token_reader.TokenReader.{TokenReader};
 ghost use Rattle.ion_tokens.specs.machine.Views.{scanned};
 ghost use Rattle.ion_text.specs.machine.Progress.{Advances, SameSettings, StaysSteady};
 ghost use Rattle.ion_text.specs.machine.Views.{state_of, with_beside, IsFine};
-ghost use Rattle.ion_text.specs.machine.Walked.{IsFresh};
+ghost use Rattle.ion_text.specs.machine.Walked.{IsFresh, WalkedLeft};
 ghost use Rattle.ion_text.specs.visiting.Walks.{ItemAhead};
 
 use super::TextReader;
-use super::finders::{begins_number, number_at, number_kind};
+use super::finders::{begins_number, number_at, number_kind, symbol_at};
+use super::symbols::behind_symbol;
 use super::top_values::walk_top;
 use super::walks::Tally;
 use crate::state::Now;
 use crate::visitor::Unheeding;
-use ion_model::Outline;
-use ion_scalar::Number;
+use ion_model::{Kind, Outline};
 use ion_tokens::{Place, Rest, blanks};
 
 // Octets up to so many.
@@ -33,15 +31,56 @@ pub(super) fn up_to(octets: &[u8], most: u64) -> &[u8]
     }
 }
 
-// The outline of a number.
-fn outline_of(number: Number) -> Outline
-    ensures { result ≡ outline_of (bare (number_payload number)) }
+// The outline of a value of this kind without others in it.
+fn flat(kind: Kind) -> Outline
+    ensures { result ≡ record { kind = kind; depth = 0; nodes = 1 } }
 {
     Outline {
-        kind: number_kind(number),
+        kind,
         depth: 0,
         nodes: 1,
     }
+}
+
+// The number there, where the octet behind it shows its end: how many octets it has, where a
+// scanner rests behind them, and its outline.
+fn number_left(octets: &[u8], rest: Rest) -> Option<(usize, Rest, Outline)>
+    requires room { rest.used + length octets.now < 2 ^ 63 }
+    ensures { IfSome result (λ left. (v : Value) × (outline_of v ≡ left.2)
+        × WalkedLeft octets.now left.0 rest left.1 v) }
+{
+    let (token, number) = number_at(octets)?;
+    let behind = rest.past_token(Place::Top, token.kind, token.count);
+    Some((token.count, behind, flat(number_kind(number))))
+}
+
+// The symbol there and the blank behind it, where the octet behind that shows that no `::` follows.
+fn symbol_left(octets: &[u8], rest: Rest) -> Option<(usize, Rest, Outline)>
+    requires room { rest.used + length octets.now < 2 ^ 63 }
+    ensures { IfSome result (λ left. (v : Value) × (outline_of v ≡ left.2)
+        × WalkedLeft octets.now left.0 rest left.1 v) }
+{
+    let (scalar, _) = symbol_at(octets)?;
+    let between = behind_symbol(octets, scalar.token.count)?;
+    if between == 0 {
+        return None;
+    }
+    let behind = rest
+        .past_token(Place::Top, scalar.token.kind, scalar.token.count)
+        .past_blank(between);
+    Some((scalar.token.count + between, behind, flat(scalar.kind)))
+}
+
+// What ends there before the octet behind it, as these say.
+fn left_at(octets: &[u8], rest: Rest) -> Option<(usize, Rest, Outline)>
+    requires room { rest.used + length octets.now < 2 ^ 63 }
+    ensures { IfSome result (λ left. (v : Value) × (outline_of v ≡ left.2)
+        × WalkedLeft octets.now left.0 rest left.1 v) }
+{
+    if begins_number(octets) {
+        return number_left(octets, rest);
+    }
+    symbol_left(octets, rest)
 }
 
 impl TextReader<'_> {
@@ -85,10 +124,9 @@ impl TextReader<'_> {
     }
 
     /// Takes up a blank and the item behind it at the front of a piece without building that: how
-    /// many octets they have, and the outline of its value. Of what ends before the octet behind it
-    /// numbers alone are taken up so, where that octet is there. `None`, with nothing taken up,
-    /// where an item is open, or the value isn't whole, may be a local symbol table, may not stand
-    /// here or is in any way unusual.
+    /// many octets they have, and the outline of its value. Behind a number or a symbol the octet
+    /// that shows its end comes again. `None`, with nothing taken up, where an item is open, or the
+    /// value isn't whole, may be a local symbol table, may not stand here or is in any way unusual.
     pub(super) fn walk(&mut self, piece: &[u8]) -> Option<(usize, Outline)>
         requires room { (scanned self.old.scanner).used + length piece.now < 2 ^ 63 }
         ensures gives { IfSome result (λ found. (v : Value) × (outline_of v ≡ found.1)
@@ -103,13 +141,11 @@ impl TextReader<'_> {
         ensures setting { SameSettings self.old self.new }
     {
         let (before, item, begun) = self.item_ahead(piece)?;
-        if begins_number(item) {
-            let (token, number) = number_at(item)?;
-            let behind = begun.rest.past_token(Place::Top, token.kind, token.count);
-            self.scanner.move_to(behind);
+        if let Some((count, rest, outline)) = left_at(item, begun.rest) {
+            self.scanner.move_to(rest);
             self.start = 0;
-            self.awaited = Some(item[token.count]);
-            return Some((before + token.count, outline_of(number)));
+            self.awaited = Some(item[count]);
+            return Some((before + count, outline));
         }
         let mut tally = begun;
         let depth = self.limits.depth;

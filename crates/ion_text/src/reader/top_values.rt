@@ -1,6 +1,6 @@
 //! Items of the top level that lie whole in a piece, which a visitor takes: their annotations, and
 //! a value that ends with its own last octet. A symbol, a number or a long string ends before the
-//! octet behind it, so that the reader takes it up token by token.
+//! octet behind it, which comes again.
 ghost use Rattle.std.specs.Prelude.{◌≡◌, ◌+◌, ◌≤◌, ◌<◌, ◌^◌, false, length, IfSome};
 ghost use Rattle.ion_tokens.specs.declared.mode.Place.TheVariants as places;
 ghost use Rattle.ion_visiting.specs.Parts.{payload_of};

@@ -1,9 +1,5 @@
-use Rattle.std.proofs.Common.{◌<◌, ◌^◌, ap, refl, sym, ◌∙◌, arith}
-use Rattle.ion_model.specs.Measures.{bare}
-use Rattle.ion_tokens.specs.declared.mode.Place.TheVariants as places
-use Rattle.ion_tokens.specs.machine.Rests.{resting}
-use Rattle.ion_visiting.specs.Parts.{number_payload}
-use Rattle.ion_text.proofs.TopNumbers.{number_advances}
+use Rattle.std.proofs.Common.{◌<◌, ◌^◌, refl, sym, ◌∙◌, arith}
+use Rattle.ion_text.proofs.TopLeft.{left_advances}
 use Rattle.ion_text.proofs.Tops.{outlined, top_advances}
 use Rattle.ion_text.proofs.reader.TextReader.walk.Goals as goal
 
@@ -24,24 +20,16 @@ returns-clause-gives c =
           (omega arith),
     )
 
--- a number
-pub returns-then-begins_number-clause-gives : goal.returns-then-begins_number-clause-gives
-returns-then-begins_number-clause-gives c =
+-- a number or a symbol
+pub returns-in-Some-clause-gives : goal.returns-in-Some-clause-gives
+returns-in-Some-clause-gives c =
     let old = c.args.self.now in
-    let ahead = c.in_ok-before.ensures in
-    let item = c.in_ok-before.item.now in
-    let begun = c.in_ok-before.begun in
-    let token = c.in_ok-token.token in
-    let found = c.in_ok-token.ensures in
-    let f = found.found places.Top begun.rest refl in (
-      bare (number_payload c.in_ok-token.number),
-      sym c.outline_of.ensures,
-      number_advances old c.move_to.new.self c.args.piece.now item c.in_ok-before.before begun token c.in_ok-token.number ahead f found.left found.within
-          (c.move_to.ensures.rests ∙ ap resting c.past_token-behind.ensures),
+    let left = c.in-Some.ensures in (
+      left.0,
+      left.1,
+      left_advances old c.move_to.new.self c.args.piece.now c.in_ok-before.item.now c.in_ok-before.before c.in-Some.count c.in_ok-before.begun c.in-Some.rest
+          left.0 c.in_ok-before.ensures left.2 c.move_to.ensures.rests,
     )
-
-pub returns-in_err-token-clause-none : goal.returns-in_err-token-clause-none
-returns-in_err-token-clause-none c = λ none. (c.args.self.now.beside, refl)
 
 pub returns-in_err-before-clause-none : goal.returns-in_err-before-clause-none
 returns-in_err-before-clause-none c = λ none. (c.args.self.now.beside, refl)

@@ -1,12 +1,17 @@
-use Rattle.std.proofs.Common.{◌≡◌, ◌≢◌, ◌∙◌, Ok, ap, sym, arith, take, get_or, refl}
+use Rattle.std.proofs.Common.{◌≡◌, ◌≢◌, ◌∙◌, Option, Ok, false, ap, sym, subst, arith, take, get_or, refl}
+use Rattle.std.specs.Prelude.{IfSome}
 use Rattle.ion_tokens.specs.Bodies.{Word}
 use Rattle.ion_text.specs.machine.EachToken.{held_payload, held_word}
 use Rattle.ion_visiting.specs.Parts.{payload_of}
+use Rattle.ion_text.specs.declared.state.Held.{Held}
+use Rattle.ion_text.specs.machine.FrontTokens.{is_marker}
+use Rattle.ion_text.proofs.Arms.{first_of}
 use Rattle.ion_text.proofs.Symbols.{word_said}
+use Rattle.ion_text.proofs.Walks.{word_unmarked}
 use Rattle.ion_text.proofs.reader.finders.word_at.Goals as goal
 
-pub returns-clause-found : goal.returns-clause-found
-returns-clause-found c = λ here rest.
+pub returns : goal.returns
+returns c = λ here rest.
     let octets = c.args.octets.now in
     let n = c.in_ok-count.count in
     let kept = take n octets in
@@ -15,14 +20,19 @@ returns-clause-found c = λ here rest.
     let pays : held_payload (held_word kept) ≡ Ok (payload_of c.in_ok-kind.said) = ap (λ w. held_payload (held_word w)) (sym c.from_utf8_unchecked.ensures)
     ∙ is.0 in
     record {
-      token = record {
-        kept = kept;
-        content = Word kept;
-        payload = payload_of c.in_ok-kind.said;
-        found = c.in_ok-count.ensures.found here rest;
-        says = word_said here rest octets n (c.in_ok-count.ensures.found here rest) c.in_ok-count.ensures.text first;
-        is = pays;
-        flat = is.1;
+      part = record {
+        token = record {
+          kept = kept;
+          content = Word kept;
+          payload = payload_of c.in_ok-kind.said;
+          found = c.in_ok-count.ensures.found here rest;
+          says = word_said here rest octets n (c.in_ok-count.ensures.found here rest) c.in_ok-count.ensures.text first;
+          is = pays;
+          flat = is.1;
+        };
+        is = refl;
       };
-      is = refl;
+      waits = refl;
+      free = λ h e. subst (λ (o : Option Held). IfSome o (λ h. is_marker h ≡ false)) e
+          (word_unmarked kept (λ d. first (sym (first_of n octets (c.in_ok-count.ensures.found here rest).some) ∙ d)));
     }

@@ -31,6 +31,12 @@ walk_item-returns-then-not-begins_symbol g t c =
     item_bare_visited g.T.TextVisitor.visits c.args.here c.args.level c.args.octets.now c.args.tally.now c.walk_value.new.tally _ _ c.walk_value.result
     c.walk_value.ensures
 
+pub walk_item-walk_symbol-requires-clause-found : goal.walk_item-walk_symbol-requires-clause-found
+walk_item-walk_symbol-requires-clause-found g t c = (c.in-Some.ensures c.args.here c.args.tally.now.rest).part
+
+pub walk_item-walk_symbol-requires-clause-waits : goal.walk_item-walk_symbol-requires-clause-waits
+walk_item-walk_symbol-requires-clause-waits g t c = (c.in-Some.ensures c.args.here c.args.tally.now.rest).waits
+
 pub walk_item-returns-in_default : goal.walk_item-returns-in_default
 walk_item-returns-in_default g t c =
     item_bare_visited g.T.TextVisitor.visits c.args.here c.args.level c.args.octets.now c.args.tally.now c.walk_rare.new.tally _ _ c.walk_rare.result
