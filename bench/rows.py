@@ -5,7 +5,7 @@ import sys
 
 SINGLE = [["check"], ["show"], ["convert", "--to", "text"], ["convert", "--to", "binary"]]
 DOCUMENTS = [
-    "records.ion", "shuffled.ion", "pretty.ion", "texts.ion", "nested.ion",
+    "records.ion", "shuffled.ion", "pretty.ion", "texts.ion", "nested.ion", "lines.ion",
     "mixed.10n", "small.10n", "blobs.10n", "records.10n", "nested.10n",
 ]  # fmt: skip
 # Beside each document with itself.

@@ -1,12 +1,13 @@
 #!/usr/bin/env python3
-"""Writes five documents of Ion text to measure with: texts.py FOLDER [MEGABYTES].
+"""Writes six documents of Ion text to measure with: texts.py FOLDER [MEGABYTES].
 
 records.ion: structs of small values, one a line, as a log has them (words, short strings, ints, decimals,
 timestamps, lists, an s-expression, a comment and an annotation here and there). shuffled.ion: the same records, the
 fields of each in another order. pretty.ion: such structs, a field a line, indented. texts.ion: long strings, blobs,
 comments and words of some hundred octets. nested.ion: values of every kind one in the other, with annotations,
-comments, texts beyond ASCII, escapes, long strings, decimals, and timestamps of each precision. Each is about
-MEGABYTES (usually 100) long. The octets are the same at each call.
+comments, texts beyond ASCII, escapes, long strings, decimals, and timestamps of each precision. lines.ion: values of
+the top level without others in them, one a line. Each is about MEGABYTES (usually 100) long. The octets are the same at
+each call.
 """
 import base64
 import random
@@ -111,6 +112,23 @@ def nested(source, number):
     return "[" + value(source, 6) + "]" + behind + "\n"
 
 
+def line(source, number):
+    kind = number % 8
+    if kind < 2:
+        return f"{source.randrange(-1000, 10**9)}\n"
+    if kind == 2:
+        return f"{source.randrange(1, 1000)}.{source.randrange(0, 100):02}\n"
+    if kind == 3:
+        return f"2026-{1 + number % 12:02}-{1 + number % 28:02}T{number % 24:02}:{number % 60:02}:{number % 59:02}Z\n"
+    if kind == 4:
+        return source.choice(NAMES + ["true", "null", "'two words'"]) + "\n"
+    if kind == 5:
+        return source.choice(NAMES) + "\n"
+    if kind == 6:
+        return f'"{words(source, 1, 6)}"\n'
+    return "{{ " + base64.b64encode(source.randbytes(source.randrange(3, 30))).decode() + " }}\n"
+
+
 def write(path, size, one):
     source = random.Random(1)
     written = number = 0
@@ -128,6 +146,7 @@ def main():
     write(folder + "/pretty.ion", size, pretty)
     write(folder + "/texts.ion", size, long_texts)
     write(folder + "/nested.ion", size, nested)
+    write(folder + "/lines.ion", size, line)
 
 
 main()
