@@ -3,13 +3,13 @@ ghost use Rattle.std.specs.Prelude.{◌≡◌, ◌+◌, ◌-◌, ◌^◌, ◌<�
 ghost use Rattle.std.specs.List.{take_while};
 ghost use Rattle.ion_tokens.specs.Octets.{is_white, is_word_octet};
 ghost use Rattle.ion_tokens.specs.Lexemes.{Each};
-ghost use Rattle.ion_tokens.specs.machine.AtOnce.{is_between, is_plain, is_raw, is_numeric, goes_on, keeps_them, gone_on, AreKept, GoesOver};
+ghost use Rattle.ion_tokens.specs.machine.AtOnce.{is_between, is_plain, is_raw, is_numeric, is_plain_operator, goes_on, keeps_them, gone_on, AreKept, GoesOver};
 ghost use Rattle.ion_tokens.specs.machine.Machines.{known};
 
 use crate::lanes::{number_ends, raw_ends, text_ends, word_ends};
 use crate::machine::{Machine, start_of};
 use crate::mode::{Lob, Mode, Style, Within};
-use crate::octets::{is_base64, is_line_end, is_stop, is_white, is_word_octet};
+use crate::octets::{is_base64, is_line_end, is_operator_octet, is_stop, is_white, is_word_octet};
 use crate::quoted::{is_clob, is_long, quote_of};
 use simdutf8::{compat, is_utf8};
 use std::alloc::AllocError;
@@ -197,6 +197,24 @@ fn each_of_number(octets: &[u8]) -> usize
         .iter()
         .copied()
         .take_while(|octet| !(is_stop(*octet) || *octet == b'/'))
+        .count()
+}
+
+// An octet of an operator that begins no comment.
+fn is_plain_operator(octet: u8) -> bool
+    ensures { result ≡ is_plain_operator octet }
+{
+    is_operator_octet(octet) && !(octet == b'/')
+}
+
+/// How many octets of an operator there are at the front, up to a `/`.
+pub fn of_operator(octets: &[u8]) -> usize
+    ensures { result ≡ length (take_while is_plain_operator octets.now) }
+{
+    octets
+        .iter()
+        .copied()
+        .take_while(|octet| is_plain_operator(*octet))
         .count()
 }
 

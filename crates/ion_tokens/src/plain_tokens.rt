@@ -1,11 +1,11 @@
 //! Blanks and plain tokens that lie whole in memory, read where a scanner rests. What is cut,
 //! refused or unusual isn't told here: the scanner takes it up octet by octet.
-ghost use Rattle.std.specs.Prelude.{◌≡◌, ◌+◌, ◌-◌, ◌<◌, ◌≤◌, ◌^◌, false, true, length, take, drop, IfSome, IsUtf8};
+ghost use Rattle.std.specs.Prelude.{◌≡◌, ◌+◌, ◌-◌, ◌<◌, ◌≤◌, ◌∷◌, ◌^◌, ℕ, List, false, true, length, take, drop, IfSome, IsUtf8};
 ghost use Rattle.ion_tokens.specs.Places.{is_name};
 ghost use Rattle.ion_tokens.specs.machine.Rests.{past_blank, past_token, IsPassed, IsFound};
 ghost use Rattle.ion_tokens.specs.declared.mode.Place.{Place};
 
-use crate::front::{characters, of_number, of_word, white};
+use crate::front::{characters, of_number, of_operator, of_word, white};
 use crate::machine::takes_colon;
 use crate::mode::{Place, Style, TokenKind};
 use crate::octets::{begins_word, is_digit};
@@ -96,6 +96,24 @@ pub fn number(octets: &[u8]) -> Option<usize>
     Some(count)
 }
 
+/// How many octets the operator at the front has, if it has no `/` and the octet behind it shows
+/// its end; `None` also before a digit and before `i`. It stands in an s-expression.
+pub fn operator(octets: &[u8]) -> Option<usize>
+    ensures found { IfSome result (λ count. (rest : Rest) → IsFound Place.Sexp rest octets.now
+        TokenKind.Operator (take count octets.now) count true) }
+    ensures text { IfSome result (λ count. IsUtf8 (take count octets.now)) }
+{
+    let count = of_operator(octets);
+    if count == 0 || count >= octets.len() {
+        return None;
+    }
+    let behind = octets[count];
+    if is_digit(behind) || behind == b'i' || behind == b'/' {
+        return None;
+    }
+    Some(count)
+}
+
 /// How many octets the short string at the front has, quotes and all, if its characters stand as
 /// they are, without escapes.
 pub fn short_string(octets: &[u8]) -> Option<usize>
@@ -131,4 +149,30 @@ pub fn quoted_symbol(octets: &[u8]) -> Option<usize>
         return None;
     }
     Some(count + 2)
+}
+
+/// The same of a segment of a long string, without carriage returns and quotes, too.
+pub fn long_segment(octets: &[u8]) -> Option<usize>
+    ensures found { IfSome result (λ count. (place : Place) (rest : Rest) →
+        IsFound place rest octets.now TokenKind.LongString
+        (take (count - 6) (drop 3 octets.now)) count false) }
+    ensures text { IfSome result (λ count. IsUtf8 (take (count - 6) (drop 3 octets.now))) }
+    ensures size { IfSome result (λ count. (6 ≤ count) × (count ≤ length octets.now)) }
+{
+    if !begins_long(octets) {
+        return None;
+    }
+    let content = &octets[3..];
+    let count = characters(Style::LongString, content);
+    if !begins_long(&content[count..]) {
+        return None;
+    }
+    Some(count + 6)
+}
+
+// Whether octets begin with the three quotes of a long string.
+fn begins_long(octets: &[u8]) -> bool
+    ensures { result ≡ true → (behind : List ℕ) × (octets.now ≡ 39 ∷ 39 ∷ 39 ∷ behind) }
+{
+    octets.strip_prefix(b"'''").is_some()
 }

@@ -50,6 +50,13 @@ impl TokenReader {
         }
     }
 
+    /// What it takes its memory of.
+    pub fn alloc(&self) -> Global
+        ensures { result ≡ self.now.machine.alloc }
+    {
+        self.machine.alloc
+    }
+
     /// The token at the front of these octets, where a scanner rests, if its end shows in them.
     /// `None` also where it is refused or unusual, where a comment stands before it, and where
     /// memory runs out. Of a token that isn't found nothing is kept.

@@ -1,5 +1,5 @@
 -- Operators are read as they are spelled.
-use Rattle.std.proofs.Common.{◌≡◌, ◌≢◌, ℕ, ◌+◌, ◌-◌, ◌⊎◌, inl, inr, ⊎_elim, Bool, true, false, List, [], ◌∷◌, ◌++◌, length, refl, sym, ap, ◌∙◌, subst, arith, append_assoc, append-nil, length-append, cond}
+use Rattle.std.proofs.Common.{◌≡◌, ◌≢◌, ℕ, ◌+◌, ◌-◌, ◌<◌, ◌⊎◌, inl, inr, ⊎_elim, Bool, true, false, List, [], ◌∷◌, ◌++◌, length, refl, sym, ap, ◌∙◌, subst, arith, append_assoc, append-nil, length-append, cond}
 use Rattle.std.specs.Prelude.{◌==◌, ◌&&◌, ◌||◌, not, codes, take, Some, Ok}
 use Rattle.std.proofs.lemmas.Bool.{false≢true, true≢false}
 use Rattle.std.proofs.lemmas.Bool.Decides.{nat_tests}
@@ -14,6 +14,7 @@ use Rattle.ion_tokens.specs.declared.mode.Keep.TheVariants as keeps
 use Rattle.ion_tokens.specs.declared.mode.Action.TheVariants as actions
 use Rattle.ion_tokens.specs.machine.Table.{next, in_blank, in_slash, in_operator, in_operator_slash, in_infinity, is_sexp, run_ending}
 use Rattle.ion_tokens.specs.machine.Scanning.{Next, Left, acts, follow, run, past}
+use Rattle.ion_tokens.specs.machine.AtOnce.{is_plain_operator}
 use Rattle.ion_tokens.specs.Lexemes.{Each, begins, ends, begins_comment, comment_within, begins_infinity, IsOperator}
 use Rattle.ion_tokens.proofs.complete.Moves.{at, Moves, moves_none, moves_one, moves_then, moves_to, blank, Opens, opens_one, opens_then, Takes, Now, Later, AtEnd, Open, Resumes, lexeme, takes_left, takes_end}
 use Rattle.ion_tokens.proofs.complete.TakesWords.{takes_before_slash}
@@ -120,7 +121,8 @@ digit_ends : (e : Ending) (x : ℕ) → is_digit x ≡ true → (e ≡ endings.P
 digit_ends e x d (inl i) = subst (λ e. in_operator places.Sexp e x ≡ actions.Before kinds.Operator keeps.Nothing modes.Blank) (sym i) (rw d)
 digit_ends e x d (inr i) = subst (λ e. in_operator places.Sexp e x ≡ actions.Before kinds.Operator keeps.Nothing modes.Blank) (sym i) (rw d)
 
-other_ends : (e : Ending) (x : ℕ) → is_digit x ≡ false → x ≢ 105 → x ≢ 47 → is_operator_octet x ≡ false → in_operator places.Sexp e x
+-- an octet of no operator that begins neither a number nor `inf` nor a comment ends one
+pub other_ends : (e : Ending) (x : ℕ) → is_digit x ≡ false → x ≢ 105 → x ≢ 47 → is_operator_octet x ≡ false → in_operator places.Sexp e x
     ≡ actions.Before kinds.Operator keeps.Nothing modes.Blank
 other_ends e x d i s o = by (is_digit x) (x == 105) (x == 47) (is_operator_octet x) d (not_is x 105 i) (not_is x 47 s) o where
   not_is : (a b : ℕ) → a ≢ b → (a == b) ≡ false
@@ -392,3 +394,48 @@ sexp_only places.FieldValue h = absurd (false≢true h)
 -- in an s-expression an operator is read as it is spelled, before what ends it
 pub takes_operator : (p : Place) (colon : Bool) (w r : List ℕ) → is_sexp p ≡ true → IsOperator w r → Takes p colon w r kinds.Operator w
 takes_operator p colon w r s o = subst (λ q. Takes q colon w r kinds.Operator w) (sym (sexp_only p s)) (in_sexp colon w r o)
+
+-- octets of operators are ASCII
+pub low_operator : (o : ℕ) → is_operator_octet o ≡ true → o < 128
+low_operator o h = grind (arith, nat_tests)
+
+-- octets of an operator that begin no comment
+
+pub plain_is : (o : ℕ) → is_plain_operator o ≡ true → (is_operator_octet o ≡ true) × (o ≢ 47)
+plain_is o h = by (is_operator_octet o) (o == 47) refl refl h where
+  differs : (o == 47) ≡ false → o ≢ 47
+  differs e = grind (arith, nat_tests)
+
+  by : (b c : Bool) → is_operator_octet o ≡ b → (o == 47) ≡ c → (b && not c) ≡ true → (is_operator_octet o ≡ true) × (o ≢ 47)
+  by false c e f h = absurd cc
+  by true false e f h = (e, differs f)
+  by true true e f h = absurd cc
+
+plain_moves : (os front : List ℕ) (e : Ending) → Each is_plain_operator os
+    → (e' : Ending) × Moves places.Sexp (modes.Operator e) front os (modes.Operator e') (front ++ os)
+plain_moves [] front e h = (
+  e,
+  moves_to places.Sexp (modes.Operator e) (modes.Operator e) [] front front (front ++ []) (sym (append-nil front))
+      (moves_none places.Sexp (modes.Operator e) front),
+)
+plain_moves (o ∷ os) front e h =
+    let is = plain_is o h.0 in
+    let m = plain_moves os (front ++ o ∷ []) (run_ending o) h.1 in (
+      m.0,
+      moves_to places.Sexp (modes.Operator e) (modes.Operator m.0) (o ∷ os) front ((front ++ o ∷ []) ++ os) (front ++ o ∷ os)
+          (append_assoc front (o ∷ []) os)
+          (moves_then places.Sexp (modes.Operator e) (modes.Operator (run_ending o)) (modes.Operator m.0) (o ∷ []) os front (front ++ o ∷ [])
+          ((front ++ o ∷ []) ++ os) (op_one front e o is.0 is.1) m.1),
+    )
+
+-- such octets open an operator
+pub plain_opens : (colon : Bool) (w : List ℕ) → 0 < length w → Each is_plain_operator w
+    → (e : Ending) × Opens places.Sexp colon w (modes.Operator e) w
+plain_opens colon [] some h = absurd (omega arith)
+plain_opens colon (o ∷ os) some h =
+    let is = plain_is o h.0 in
+    let m = plain_moves os (o ∷ []) (first_ending o) h.1 in (
+      m.0,
+      opens_then places.Sexp colon (o ∷ []) os (modes.Operator (first_ending o)) (modes.Operator m.0) (o ∷ []) (o ∷ os)
+          (opens_one places.Sexp colon o (modes.Operator (first_ending o)) (keeps.One o) (op_first colon o is.0 is.1)) m.1,
+    )

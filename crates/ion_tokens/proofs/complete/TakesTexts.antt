@@ -184,7 +184,8 @@ drops_two k a b =
     let size : length ((k ++ a ∷ []) ++ b ∷ []) - 2 ≡ length k = omega (arith, length-append (k ++ a ∷ []) (b ∷ []), length-append k (a ∷ [])) in
     ap (λ (n : ℕ). take n ((k ++ a ∷ []) ++ b ∷ [])) size ∙ ap (take (length k)) (append_assoc k (a ∷ []) (b ∷ [])) ∙ take-append_seam k (a ∷ b ∷ [])
 
-opens_long : (p : Place) (colon : Bool) → Opens p colon (39 ∷ 39 ∷ 39 ∷ []) (modes.Text styles.LongString within.Plain) []
+-- three quotes open a segment of a long string
+pub opens_long : (p : Place) (colon : Bool) → Opens p colon (39 ∷ 39 ∷ 39 ∷ []) (modes.Text styles.LongString within.Plain) []
 opens_long p colon = opens_then p colon (39 ∷ 39 ∷ []) (39 ∷ []) modes.Quotes (modes.Text styles.LongString within.Plain) [] [] (opens_quotes p colon)
     (moves_one p modes.Quotes 39 [] (modes.Text styles.LongString within.Plain) keeps.Nothing (λ s u. refl) (λ c. refl))
 

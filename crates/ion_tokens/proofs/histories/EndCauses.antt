@@ -25,6 +25,7 @@ use Rattle.ion_tokens.specs.Bodies.{IsWordBody, IsBody, null_of, kind_named, id_
 use Rattle.ion_tokens.specs.Lexed.{Placed}
 use Rattle.ion_tokens.specs.machine.Scanned.{Scanned}
 use Rattle.ion_tokens.specs.machine.Steps.{Ends, is_end_reason}
+use Rattle.ion_tokens.proofs.complete.TakesOperators.{low_operator}
 use Rattle.ion_tokens.proofs.sound.Opens.{IsOpen}
 use Rattle.ion_tokens.proofs.sound.Holds.{InMode}
 use Rattle.ion_tokens.specs.laws.Each.{each_last}
@@ -38,9 +39,6 @@ ascii_each class (o ∷ os) low h (suc i) = ascii_each class os low h.1 i
 
 low_word : (o : ℕ) → is_word_octet o ≡ true → o < 128
 low_word o h = grind (arith, nat_tests)
-
-low_operator : (o : ℕ) → is_operator_octet o ≡ true → o < 128
-low_operator o h = grind (arith, nat_tests)
 
 -- a token that the end shows is refused for such a reason alone, if it is
 abbrev IsFairBody : TokenKind → List ℕ → Type 0

@@ -1,13 +1,13 @@
 -- How octets in memory show that a blank or a token stands whole at their front. Crates above cite these names.
-use Rattle.std.proofs.Common.{◌≡◌, ◌≢◌, ◌⊎◌, inl, inr, ℕ, ◌+◌, ◌-◌, ◌<◌, ◌≤◌, zero, suc, Bool, true, false, cond, List, [], ◌∷◌, ◌++◌, length, take, drop, refl, sym, ap, ◌∙◌, subst, arith, append-nil}
+use Rattle.std.proofs.Common.{◌≡◌, ◌≢◌, ◌⊎◌, inl, inr, ℕ, ◌+◌, ◌-◌, ◌<◌, ◌≤◌, zero, suc, Bool, true, false, cond, List, [], ◌∷◌, ◌++◌, length, take, drop, refl, sym, ap, ◌∙◌, subst, arith, append-nil, length-append, take-append-drop}
 use Rattle.std.specs.Prelude.{◌==◌, ◌&&◌, ◌||◌, not, slice_index, IsUtf8}
 use Rattle.std.specs.List.{take_while, prefix_len}
 use Rattle.std.proofs.lemmas.Bool.Decides.{nat_tests}
-use Rattle.std.proofs.lemmas.List.{length-take}
+use Rattle.std.proofs.lemmas.List.{length-take, length-take-le}
 use Rattle.std.proofs.lemmas.List.Folds.{length-prefix_len}
 use Rattle.std.proofs.lemmas.List.Sums.{prefix_len_stops, prefix_len-le-length}
 use Rattle.std.proofs.lemmas.Str.{IsUtf8-from_ascii}
-use Rattle.ion_tokens.specs.Octets.{is_white, is_digit, begins_word, is_word_octet, is_stop}
+use Rattle.ion_tokens.specs.Octets.{is_white, is_digit, begins_word, is_word_octet, is_operator_octet, is_stop}
 use Rattle.ion_tokens.specs.Places.{is_name}
 use Rattle.ion_tokens.specs.declared.mode.Place.{Place}
 use Rattle.ion_tokens.specs.declared.mode.Style.{Style}
@@ -26,13 +26,15 @@ use Rattle.ion_tokens.specs.declared.plain_tokens.Rest.{Rest}
 use Rattle.ion_tokens.specs.machine.Table.{next, in_blank}
 use Rattle.ion_tokens.specs.machine.Scanning.{Known, Next, Given, Left, feed, run, acts, past, cut, go_to, kept_after}
 use Rattle.ion_tokens.specs.Lexemes.{Each, begins, begins_number, IsWord}
-use Rattle.ion_tokens.specs.machine.AtOnce.{is_raw, is_numeric, AreKept}
+use Rattle.ion_tokens.specs.machine.AtOnce.{is_raw, is_numeric, is_plain_operator, AreKept}
 use Rattle.ion_tokens.specs.machine.Rests.{resting, past_blank, IsPassed, IsFound}
-use Rattle.ion_tokens.proofs.complete.Moves.{at, Opens, opens_one, opens_then, Moves, Stays}
+use Rattle.ion_tokens.proofs.complete.Moves.{at, Opens, opens_one, opens_then, Moves, moves_one, moves_then, Stays}
 use Rattle.ion_tokens.proofs.texts.Characters.{ascii_each, kept_goes}
 use Rattle.ion_tokens.proofs.runs.GoesOn.{front_on, each_front, front_all, rest_is}
 use Rattle.ion_tokens.proofs.complete.TakesWords.{opens_word, opens_number, opens_brace, opens_colon, word_ends, no_dot, number_stops, brace_ends, colon_ends}
-use Rattle.ion_tokens.proofs.complete.TakesTexts.{BeginsOther, opens_quote, from_quote}
+use Rattle.ion_tokens.specs.declared.mode.Place.TheVariants as places
+use Rattle.ion_tokens.proofs.complete.TakesOperators.{low_operator, plain_is, plain_opens, other_ends}
+use Rattle.ion_tokens.proofs.complete.TakesTexts.{BeginsOther, opens_quote, opens_long, from_quote, drops_two}
 
 -- a blank
 
@@ -214,6 +216,33 @@ number_found octets n first begun e more slash p r name =
     (opens_number p r.colon (take n octets) name b.1 (front_each is_numeric octets n e)) (λ s u. refl) b.0 more
     (number_stops x (stop_is x (front_stops is_numeric octets n e more) slash))
 
+-- An operator.
+
+no_operator : (o : ℕ) → is_plain_operator o ≡ false → o ≢ 47 → is_operator_octet o ≡ false
+no_operator o h n = by (is_operator_octet o) (o == 47) h (not_same o 47 n) where
+  by : (b c : Bool) → (b && not c) ≡ false → c ≡ false → b ≡ false
+  by false c h f = refl
+  by true false h f = cc
+  by true true h f = cc
+
+operator_ascii : (o : ℕ) → is_plain_operator o ≡ true → o < 128
+operator_ascii o h = low_operator o (plain_is o h).0
+
+-- an operator without `/` stands whole in an s-expression before an octet of none that begins neither a number nor `inf`
+pub operator_found : (octets : List ℕ) (n : ℕ) → 0 < n → n ≡ length (take_while is_plain_operator octets) → n < length octets
+    → is_digit (slice_index octets n) ≡ false → slice_index octets n ≢ 105 → slice_index octets n ≢ 47
+    → (r : Rest) → IsFound places.Sexp r octets kinds.Operator (take n octets) n true
+operator_found octets n some e more digit i slash r =
+    let x = slice_index octets n in
+    let size = length-take n octets in
+    let opens = plain_opens r.colon (take n octets) (omega arith) (front_each is_plain_operator octets n e) in
+    opened_left places.Sexp r octets n kinds.Operator (modes.Operator opens.0) (take n octets) keeps.Nothing opens.1 (λ s u. refl) some more
+    (other_ends opens.0 x digit i slash (no_operator x (front_stops is_plain_operator octets n e more) slash))
+
+-- octets of operators are a text
+pub operator_text : (octets : List ℕ) (n : ℕ) → n ≡ length (take_while is_plain_operator octets) → IsUtf8 (take n octets)
+operator_text octets n e = front_text is_plain_operator octets n operator_ascii e
+
 -- What stands between quotes.
 
 text_moves : (p : Place) (s : Style) (w kept : List ℕ) → AreKept s w → Moves p (modes.Text s within.Plain) kept w (modes.Text s within.Plain) (kept ++ w)
@@ -282,6 +311,77 @@ quoted_found octets n some first kept one more last =
     let tail = rest_is octets 1 in
     quoted_stands octets n some first (subst (λ w. AreKept styles.QuotedSymbol (take n w)) tail kept) (omega arith)
     (subst (λ (w : List ℕ). n < length w) tail more) (subst (λ w. slice_index w n ≡ 39) tail last)
+
+-- three quotes, characters that are kept as they are, and three quotes stand whole as a segment of a long string
+long_stands : (w us : List ℕ) → AreKept styles.LongString w
+    → (p : Place) (r : Rest) → IsFound p r (39 ∷ 39 ∷ 39 ∷ (w ++ 39 ∷ 39 ∷ 39 ∷ us)) kinds.LongString w (length w + 6) false
+long_stands w us kept p r =
+    let octets : List ℕ = 39 ∷ 39 ∷ 39 ∷ (w ++ 39 ∷ 39 ∷ 39 ∷ us) in
+    let n : ℕ = length w + 5 in
+    let inside : List ℕ = (w ++ 39 ∷ []) ++ 39 ∷ [] in
+    let size : length octets ≡ length w + 6 + length us = omega (arith, length-append w (39 ∷ 39 ∷ 39 ∷ us)) in
+    let opens : Opens p r.colon (take n octets) (modes.Text styles.LongString within.TwoQuotes) inside =
+    subst (λ x. Opens p r.colon x (modes.Text styles.LongString within.TwoQuotes) inside) (sym (front w us))
+    (opens_then p r.colon (39 ∷ 39 ∷ 39 ∷ []) (w ++ 39 ∷ 39 ∷ []) (modes.Text styles.LongString within.Plain) (modes.Text styles.LongString within.TwoQuotes) []
+    inside (opens_long p r.colon)
+    (moves_then p (modes.Text styles.LongString within.Plain) (modes.Text styles.LongString within.Plain) (modes.Text styles.LongString within.TwoQuotes) w
+    (39 ∷ 39 ∷ []) [] w inside (text_moves p styles.LongString w [] kept)
+    (moves_then p (modes.Text styles.LongString within.Plain) (modes.Text styles.LongString within.OneQuote) (modes.Text styles.LongString within.TwoQuotes)
+    (39 ∷ []) (39 ∷ []) w (w ++ 39 ∷ []) inside
+    (moves_one p (modes.Text styles.LongString within.Plain) 39 w (modes.Text styles.LongString within.OneQuote) (keeps.One 39) (λ a b. refl) (λ b. refl))
+    (moves_one p (modes.Text styles.LongString within.OneQuote) 39 (w ++ 39 ∷ []) (modes.Text styles.LongString within.TwoQuotes) (keeps.One 39) (λ a b. refl)
+    (λ b. refl))))) in
+    let last : slice_index octets n ≡ 39 = third w us in
+    let total : n + 1 ≡ length w + 6 = omega arith in
+    subst (λ (k : ℕ). IsFound p r octets kinds.LongString w k false) total
+    (subst (λ k. IsFound p r octets kinds.LongString k (n + 1) false) (drops_two w 39 39)
+    (opened_given p r octets n kinds.LongString (modes.Text styles.LongString within.TwoQuotes) inside keeps.DropQuotes opens (λ s u. refl) (omega arith)
+    (ap (λ (x : ℕ). next p r.colon (modes.Text styles.LongString within.TwoQuotes) x) last)))
+  where
+    inner : (w us : List ℕ) (k : ℕ) → k ≡ length w + 2 → take k (w ++ 39 ∷ 39 ∷ 39 ∷ us) ≡ w ++ 39 ∷ 39 ∷ []
+    inner [] us k e = let two : k ≡ 2 = omega arith in ap (λ k. take k (39 ∷ 39 ∷ 39 ∷ us)) two
+    inner (o ∷ os) us zero e = absurd (omega arith)
+    inner (o ∷ os) us (suc k) e = ap (λ l. o ∷ l) (inner os us k (omega arith))
+
+    front : (w us : List ℕ) → take (length w + 5) (39 ∷ 39 ∷ 39 ∷ (w ++ 39 ∷ 39 ∷ 39 ∷ us)) ≡ 39 ∷ 39 ∷ 39 ∷ (w ++ 39 ∷ 39 ∷ [])
+    front w us =
+        let e : length w + 5 ≡ suc (suc (suc (length w + 2))) = omega arith in
+        ap (λ k. take k (39 ∷ 39 ∷ 39 ∷ (w ++ 39 ∷ 39 ∷ 39 ∷ us))) e ∙ ap (λ l. 39 ∷ 39 ∷ 39 ∷ l) (inner w us (length w + 2) refl)
+
+    at_third : (w us : List ℕ) (k : ℕ) → k ≡ length w + 2 → slice_index (w ++ 39 ∷ 39 ∷ 39 ∷ us) k ≡ 39
+    at_third [] us k e = let two : k ≡ 2 = omega arith in ap (slice_index (39 ∷ 39 ∷ 39 ∷ us)) two
+    at_third (o ∷ os) us zero e = absurd (omega arith)
+    at_third (o ∷ os) us (suc k) e = at_third os us k (omega arith)
+
+    third : (w us : List ℕ) → slice_index (39 ∷ 39 ∷ 39 ∷ (w ++ 39 ∷ 39 ∷ 39 ∷ us)) (length w + 5) ≡ 39
+    third w us =
+        let e : length w + 5 ≡ suc (suc (suc (length w + 2))) = omega arith in
+        ap (slice_index (39 ∷ 39 ∷ 39 ∷ (w ++ 39 ∷ 39 ∷ 39 ∷ us))) e ∙ at_third w us (length w + 2) refl
+
+-- a segment of a long string stands whole where its characters are kept as they are
+pub long_found : (octets content behind us : List ℕ) (n : ℕ) → octets ≡ 39 ∷ 39 ∷ 39 ∷ behind → content ≡ drop 3 octets
+    → AreKept styles.LongString (take n content) → n ≤ length content → drop n content ≡ 39 ∷ 39 ∷ 39 ∷ us
+    → (p : Place) (r : Rest) → IsFound p r octets kinds.LongString (take (n + 6 - 6) (drop 3 octets)) (n + 6) false
+long_found octets content behind us n opens is kept within shuts p r =
+    let there : drop 3 octets ≡ behind = ap (drop 3) opens in
+    let whole : behind ≡ take n behind ++ 39 ∷ 39 ∷ 39 ∷ us =
+    sym (take-append-drop n behind) ∙ ap (λ x. take n behind ++ x) (ap (drop n) (sym there ∙ sym is) ∙ shuts) in
+    let k : length (take n behind) ≡ n =
+    length-take-le n behind (subst (λ (x : List ℕ). n ≤ length x) (is ∙ there) within) in
+    let m : n + 6 - 6 ≡ n = omega arith in
+    let found = long_stands (take n behind) us (subst (λ x. AreKept styles.LongString (take n x)) (is ∙ there) kept) p r in
+    let all : octets ≡ 39 ∷ 39 ∷ 39 ∷ (take n behind ++ 39 ∷ 39 ∷ 39 ∷ us) = opens ∙ ap (λ x. 39 ∷ 39 ∷ 39 ∷ x) whole in
+    subst (λ o. IsFound p r o kinds.LongString (take (n + 6 - 6) (drop 3 octets)) (n + 6) false) (sym all)
+    (subst (λ x. IsFound p r (39 ∷ 39 ∷ 39 ∷ (take n behind ++ 39 ∷ 39 ∷ 39 ∷ us)) kinds.LongString (take (n + 6 - 6) x) (n + 6) false) (sym there)
+    (subst (λ (j : ℕ). IsFound p r (39 ∷ 39 ∷ 39 ∷ (take n behind ++ 39 ∷ 39 ∷ 39 ∷ us)) kinds.LongString (take j behind) (n + 6) false) (sym m)
+    (subst (λ (j : ℕ). IsFound p r (39 ∷ 39 ∷ 39 ∷ (take n behind ++ 39 ∷ 39 ∷ 39 ∷ us)) kinds.LongString (take n behind) (j + 6) false) k found)))
+
+-- and says a text
+pub long_text : (octets content : List ℕ) (n : ℕ) → content ≡ drop 3 octets → AreKept styles.LongString (take n content)
+    → IsUtf8 (take (n + 6 - 6) (drop 3 octets))
+long_text octets content n is kept =
+    let m : n ≡ n + 6 - 6 = omega arith in
+    subst (λ (i : ℕ). IsUtf8 (take i (drop 3 octets))) m (subst (λ w. IsUtf8 (take n w)) is kept.1)
 
 -- Marks.
 

@@ -6,7 +6,7 @@ use Rattle.ion_tokens.specs.declared.mode.Within.TheVariants as within
 use Rattle.ion_tokens.specs.declared.mode.Lob.TheVariants as lobs
 use Rattle.ion_tokens.specs.declared.mode.Mode.TheVariants as modes
 use Rattle.ion_tokens.specs.Ascii.{line_feed, asterisk, slash, backslash}
-use Rattle.ion_tokens.specs.Octets.{is_white, is_line_end, is_word_octet, is_stop, is_base64}
+use Rattle.ion_tokens.specs.Octets.{is_white, is_line_end, is_word_octet, is_stop, is_base64, is_operator_octet}
 use Rattle.ion_tokens.specs.Lexemes.{Each}
 use Rattle.ion_tokens.specs.machine.Table.{is_long, is_clob, quote_of, stands}
 use Rattle.ion_tokens.specs.machine.Scanning.{Known, start_of}
@@ -30,6 +30,10 @@ AreKept s w = Each (is_raw (is_long s) (quote_of s)) w × IsUtf8 w × (IsTrue (i
 -- a number goes on with it
 abbrev pub is_numeric : ℕ → Bool
 is_numeric o = not (is_stop o || (o == slash))
+
+-- an octet of an operator that begins no comment
+abbrev pub is_plain_operator : ℕ → Bool
+is_plain_operator o = is_operator_octet o && not (o == slash)
 
 -- the mode goes on as it is with this octet; of modes in which few such octets come in a row none is counted
 abbrev pub goes_on : Mode → ℕ → Bool
