@@ -28,7 +28,7 @@ module _ (d : DocReader) {piece : List ℕ} {used : ℕ} {v : Value} where
         limits = refl;
         counts = up.counts ∙ ap (λ (n : ℕ). n + used) (sym taken);
         progress = omega (arith, up.progress);
-        awaited = refl;
+        awaited = tt;
         stands = λ u s stands.
             let h = inside d (Binary old) u s is stands in
             (up.stands u s h.0, begins_on true u (take used piece) h.1, up.limits ∙ h.2, up.catalog ∙ h.3);

@@ -1,5 +1,5 @@
 -- Two documents that are read side by side.
-use Rattle.std.proofs.Common.{◌≡◌, ℕ, ◌+◌, ◌-◌, ◌*◌, ◌<◌, ◌≤◌, List, [], ◌∷◌, ◌++◌, length, take, ap, refl, ◌∙◌, arith, Option, Some, None, IsNone, length-take, length-drop}
+use Rattle.std.proofs.Common.{◌≡◌, ℕ, ◌+◌, ◌-◌, ◌*◌, ◌<◌, ◌≤◌, List, [], ◌∷◌, ◌++◌, length, take, drop, ap, sym, subst, refl, ◌∙◌, arith, Option, Some, None, length-take, length-drop}
 use Rattle.ion_model.specs.declared.value.Value.{Value}
 use Rattle.ion_symtab.specs.declared.catalog.Catalog.{Catalog}
 use Rattle.ion_symtab.specs.declared.limits.Limits.{Limits}
@@ -11,23 +11,20 @@ use Rattle.ion_streams.specs.reading.Standing.{IfOpen, IsOpen, IfClosed, work_of
 use Rattle.ion_streams.specs.declared.source.Source.{Source}
 use Rattle.ion_streams.specs.declared.source.Standing.{Standing}
 use Rattle.ion_streams.specs.declared.source.Standing.TheVariants.{Open, Ended, Refused}
-use Rattle.ion_streams.proofs.Pieces.{went}
+use Rattle.ion_streams.proofs.Pieces.{went, begins_drop}
 use Rattle.ion_streams.proofs.Steps.{plain_next, reads_went}
 
-none_begins : (awaits : Option ℕ) (rest : List ℕ) → IsNone awaits → Begins awaits rest
-none_begins None rest h = tt
-none_begins (Some b) rest h = absurd cc
-
--- so many octets of the piece were used, and the last of them gave this value
+-- so many octets of the piece were used, and gave this value
 pub past : {X : Type 0} (I : Items X) (counted : (r : X) (u : List ℕ) (s : List (Value × ℕ)) → I.stands r u s → I.taken r ≡ length u) (before after : Source X)
     (used : ℕ) (v : Value) →
     IsReady I before → used ≤ length (left_of before) → I.catalog after.items ≡ I.catalog before.items → I.limits after.items ≡ I.limits before.items →
-    I.taken after.items ≡ I.taken before.items + used → I.pending after.items < I.pending before.items + 2 * used → IsNone (I.awaits after.items) →
+    I.taken after.items ≡ I.taken before.items + used → I.pending after.items < I.pending before.items + 2 * used
+    → Begins (I.awaits after.items) (drop used (left_of before)) →
     ((u : List ℕ) (s : List (Value × ℕ)) → I.stands before.items u s → I.stands after.items (u ++ take used (left_of before)) (s ++ (v, length u + used) ∷ []))
     →
     after.piece.items ≡ before.piece.items → after.at ≡ before.at + used → after.end ≡ before.end → after.used ≡ before.used + used → after.reads ≡ before.reads
     → WentPast I before after v
-past I counted before after used v ready fits under within taken less none go piece at end more reads =
+past I counted before after used v ready fits under within taken less next go piece at end more reads =
     let inside : used ≤ before.end - before.at = omega (arith, fits, length-take {A = ℕ}, length-drop {A = ℕ}) in
     let same = ready.counted in
     let room = ready.room in
@@ -46,7 +43,8 @@ past I counted before after used v ready fits under within taken less none go pi
         fits = omega (arith, end, ready.fits);
         piece = ap length piece ∙ ready.piece;
         room = omega (arith, room, taken, inside, at, end, reads, ready.within);
-        begins = none_begins _ _ none;
+        begins = subst (λ x. Begins (I.awaits after.items) x) (sym rest)
+            (begins_drop (I.awaits after.items) before.piece.items before.at before.end used inside next);
         counted = omega (arith, taken, more, same);
       };
       less = omega (arith, less, inside, at, end, reads, ready.within);

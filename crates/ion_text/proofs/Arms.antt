@@ -19,7 +19,7 @@ use Rattle.ion_tokens.specs.declared.mode.Mark.{Mark}
 use Rattle.ion_tokens.specs.declared.mode.Mark.TheVariants as marks
 use Rattle.ion_tokens.specs.declared.mode.TokenKind.TheVariants as kinds
 use Rattle.ion_tokens.specs.Octets.{is_digit}
-use Rattle.ion_tokens.specs.Bodies.{Content, Word, Short, Number', Mark', id_of, number_in}
+use Rattle.ion_tokens.specs.Bodies.{Content, Word, Short, Long, Operator, Number', Mark', id_of, number_in}
 use Rattle.ion_tokens.specs.machine.Said.{said, spelled, word_said, number_said}
 use Rattle.ion_tokens.proofs.runs.WholeTokens.{comma_found}
 use Rattle.ion_tokens.specs.machine.Views.{scanned, looks, failure}
@@ -233,6 +233,16 @@ spelled_utf8 c octets h = ap (λ b. if b then Ok c else Err reasons.BadUtf8) (is
 pub short_says : (octets : List ℕ) → IsUtf8 octets → said kinds.ShortString octets ≡ Ok (Short octets)
 unfolding said
 short_says octets h = spelled_utf8 (Short octets) octets h
+
+-- the token of an operator in UTF-8 says its octets
+pub operator_says : (octets : List ℕ) → IsUtf8 octets → said kinds.Operator octets ≡ Ok (Operator octets)
+unfolding said
+operator_says octets h = spelled_utf8 (Operator octets) octets h
+
+-- the token of a segment of a long string in UTF-8 says its octets
+pub long_says : (octets : List ℕ) → IsUtf8 octets → said kinds.LongString octets ≡ Ok (Long octets)
+unfolding said
+long_says octets h = spelled_utf8 (Long octets) octets h
 
 no_id : (octets : List ℕ) → get_or octets 0 0 ≢ 36 → id_of octets ≡ None
 no_id [] h = refl

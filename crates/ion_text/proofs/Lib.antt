@@ -19,6 +19,7 @@ pub mod Symbols
 pub mod Innermost
 pub mod Walks
 pub mod Walking
+pub mod LongStrings
 pub mod Keywords
 pub mod Notes
 pub mod Tops

@@ -43,7 +43,9 @@ use Rattle.ion_text.specs.declared.state.Held.TheVariants as helds
 use Rattle.ion_text.specs.declared.state.Now.{Now}
 use Rattle.ion_text.specs.declared.state.Now.TheVariants as nows
 use Rattle.ion_text.specs.declared.reader.TextReader.{TextReader}
-use Rattle.ion_text.specs.machine.FrontTokens.{ends_symbol, held_of, value_of, Pays, Names, BeginsValue, BeginsName}
+use Rattle.ion_text.specs.visiting.Walks.{FoundPart}
+use Rattle.ion_text.specs.declared.reader.finders.Scalar.{Scalar}
+use Rattle.ion_text.specs.machine.FrontTokens.{ends_symbol, held_of, value_of, Pays, Names, BeginsValue, BeginsName, IsValue}
 use Rattle.ion_text.specs.machine.EachToken.{Setting, Spot, under, spot_in, token_at, Reading, Symbols, goes, late, at, place, place_in, settle, turn, turn_now, on_ready, on_name, ended, paid, held_word, held_payload, held_symbol, noted, keyed, named}
 use Rattle.ion_text.specs.machine.AtOnce.{Passes, IsStill, Inside, Strides, TokenAhead}
 use Rattle.ion_text.specs.machine.Run.{is_top, with_scan, token_of}
@@ -641,3 +643,14 @@ inside_beside r b octets h = record { some = h.some; inner = h.inner; fits = h.f
 pub ahead_beside : (now : Now) (r : TextReader) (b : TokenReader) (rest : Rest) (octets : List ℕ) → TokenAhead now r rest octets
     → TokenAhead now (with_beside r b) rest octets
 ahead_beside now r b rest octets h = record { inside = inside_beside r b octets h.inside; rests = h.rests; stage = h.stage }
+
+-- a value that was found is there
+pub part_begins : (b : Bool) (p : Place) (r : Rest) (octets : List ℕ) (s : Scalar) (q payload : Payload) → FoundPart p r octets s q → payload ≡ q → s.waits ≡ b
+    → BeginsValue b p r octets s.token payload
+part_begins b p r octets s q payload f same waits = record {
+  kept = f.token.kept;
+  content = f.token.content;
+  found = f.token.found;
+  says = f.token.says;
+  is = subst (λ b. IsValue b f.token.content payload) waits (subst (λ x. IsValue s.waits f.token.content x) (f.is ∙ sym same) f.token.is);
+}

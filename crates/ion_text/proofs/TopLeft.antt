@@ -38,11 +38,12 @@ use Rattle.ion_text.specs.machine.Pieces.{led, drive, go_on}
 use Rattle.ion_text.specs.machine.Progress.{Advances}
 use Rattle.ion_text.specs.machine.Run.{State, Effect, takes, on_scan, on_said, on_settled, behind_left, unsettled, token_of, run, with_scan}
 use Rattle.ion_text.specs.machine.Views.{state_of}
-use Rattle.ion_text.specs.machine.Walked.{rested, FoundScalar, IsFlat, LeavesTop, WalkedLeft}
+use Rattle.ion_text.specs.machine.Walked.{rested, FoundScalar, IsFlat, FoundLeft, LeavesTop, WalkedLeft}
 use Rattle.ion_text.specs.visiting.Walks.{FoundNumber, FoundSymbol, ItemAhead}
 use Rattle.ion_text.proofs.Arms.{blank_used, given_found, left_found}
 use Rattle.ion_text.proofs.Passing.{NoticesNothing, blank_quiet, blank_waits}
 use Rattle.ion_text.proofs.Symbols.{ends_waits, held_in, waits_so}
+use Rattle.ion_text.proofs.Walks.{flat_number}
 use Rattle.ion_text.proofs.Tops.{on_top, gone_on, passes_then, resumed_same, same_outline, state_there, top_blank, top_ended, top_quiet, waits_notices}
 
 -- a number is no local symbol table
@@ -58,7 +59,7 @@ from_there (o ∷ os) zero more = (os, refl)
 from_there (o ∷ os) (suc n) more = from_there os n (omega arith)
 
 -- nodes and depth of a value without others in it
-flat_outline : (q : Payload) (k : Kind) → IsFlat q k → outline_of (bare q) ≡ record { kind = k; depth = 0; nodes = 1 }
+pub flat_outline : (q : Payload) (k : Kind) → IsFlat q k → outline_of (bare q) ≡ record { kind = k; depth = 0; nodes = 1 }
 flat_outline q k f = same_outline (kind_of (bare q)) k (min (depth (bare q)) (2 ^ 64 - 1)) 0 (min (nodes (bare q)) (2 ^ 64 - 1)) 1 f.sort
     (ap (λ n. min n (2 ^ 64 - 1)) f.deep) (ap (λ n. min n (2 ^ 64 - 1)) f.counted)
 
@@ -91,18 +92,13 @@ module _ (rest : Rest) (item : List ℕ) (token : FoundToken) (number : Number) 
             ∙ ap (behind_left again (resting behind)) turns)),
       )
 
-  pub walked_number : (k : Kind) → IsFlat (number_payload number) k
-      → (v : Value) × (outline_of v ≡ record { kind = k; depth = 0; nodes = 1 }) × WalkedLeft item token.count rest behind v
-  walked_number k flat = (
-    bare (number_payload number),
-    flat_outline (number_payload number) k flat,
-    record {
-      leaves = number_leaves;
-      some = number_found.some;
-      within = number_found.shown;
-      used = refl;
-    },
-  )
+  -- so it is one that such an octet ends
+  pub found_number : FoundLeft item token.count rest behind (number_payload number)
+  found_number = record {
+    leaves = record { leaves = number_leaves; some = number_found.some; within = number_found.shown; used = refl };
+    flat = (flat_number number).deep;
+    plain = no_table number;
+  }
 
 -- a reader that went over a blank and such a value, and awaits the octet behind it, advanced with the value
 pub left_advances : (old : TextReader) (moved : Scanner) (piece item : List ℕ) (n count : ℕ) (begun : Tally) (after : Rest) (v : Value)
@@ -256,14 +252,17 @@ module _ (rest : Rest) (item : List ℕ) (s : Scalar) (q : Payload) (f : FoundSy
           ∙ (ap (paid (under g l) (spot_at (rest.used + n) rest.used c) [] []) pays.2
           ∙ top_ended g l (rest.used + n) rest.used c (bare p.payload) (symbol_free h p.payload pays.2) (omega arith))
 
-  pub walked_symbol : (v : Value) × (outline_of v ≡ record { kind = s.kind; depth = 0; nodes = 1 })
-      × WalkedLeft item (n + m) rest past_between v
-  walked_symbol =
+  pub found_symbol : (FoundLeft item (n + m) rest past_between q) × IsFlat q s.kind
+  found_symbol =
       let some = p.found.some in
       let used = blank_used past_symbol m in (
-        bare p.payload,
-        flat_outline p.payload s.kind p.flat,
-        record { leaves = symbol_leaves; some = omega arith; within = within; used = used ∙ more rest.used n m },
+        subst (λ x. FoundLeft item (n + m) rest past_between x) f.part.is
+            (record {
+              leaves = record { leaves = symbol_leaves; some = omega arith; within = within; used = used ∙ more rest.used n m };
+              flat = p.flat.deep;
+              plain = symbol_free pays.0 p.payload pays.2;
+            }),
+        subst (λ x. IsFlat x s.kind) f.part.is p.flat,
       )
     where
       more : (a b c : ℕ) → a + b + c ≡ a + (b + c)

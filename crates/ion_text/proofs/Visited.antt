@@ -1,8 +1,11 @@
 -- Values that are gone over, and their visitor.
 use Rattle.std.proofs.Common.{◌≡◌, ℕ, ◌+◌, ◌-◌, ◌<◌, ◌≤◌, Bool, get_or, List, [], ◌∷◌, length, drop, Option, Some, None, IfSome, refl, sym, subst, ◌∙◌, arith, length-append, false}
+use Rattle.ion_atoms.specs.declared.kind.Kind.{Kind}
 use Rattle.ion_model.specs.declared.value.Field.{Field}
 use Rattle.ion_model.specs.declared.value.Value.{Value}
 use Rattle.ion_model.specs.declared.value.Payload.{Payload}
+use Rattle.ion_model.specs.declared.value.Payload.TheVariants as payloads
+use Rattle.ion_text.proofs.Walks.{flat_text}
 use Rattle.ion_visiting.specs.declared.bracket.Bracket.{Bracket}
 use Rattle.ion_visiting.specs.declared.bracket.Bracket.TheVariants as brackets
 use Rattle.ion_tokens.specs.declared.mode.Place.{Place}
@@ -13,8 +16,8 @@ use Rattle.ion_visiting.specs.Visits.{IsPart, Visits, part, annotation, name, ba
 use Rattle.ion_text.specs.declared.reader.finders.Scalar.{Scalar}
 use Rattle.ion_text.specs.declared.reader.walks.Tally.{Tally}
 use Rattle.ion_text.specs.machine.Nested.{OpensAt}
-use Rattle.ion_text.specs.machine.Walked.{behind_open, behind_close, Walked, WalkedName, WalkedNote, WalkedBare}
-use Rattle.ion_text.specs.visiting.Walks.{FoundPart, VisitedValue, VisitedItem, VisitedContainer, VisitedInside, VisitedName, VisitedNotes, VisitedBare, VisitedTop}
+use Rattle.ion_text.specs.machine.Walked.{IsFlat, FoundLeft, behind_open, behind_close, Walked, WalkedName, WalkedNote, WalkedBare}
+use Rattle.ion_text.specs.visiting.Walks.{FoundPart, VisitedValue, VisitedItem, VisitedContainer, VisitedInside, VisitedName, VisitedNotes, VisitedLeft, VisitedBare, VisitedTop}
 use Rattle.ion_text.proofs.Tops.{item_annotated, notes_none, notes_on, walked_bare, walked_top}
 use Rattle.ion_text.proofs.Walking.{ListGone, SexpGone, FieldsGone, item_bare, walked_container, list_inside, sexp_inside, fields_inside, inside_by}
 
@@ -34,6 +37,18 @@ module _ {S M : Type 0} (h : Visits S M) where
       subst (λ k. VisitedValue h p level octets k before after a b) (sym e)
       (record { walked = w.0; visited = part_visited p r octets s q f w.0.payload a b w.1 t })
 
+  -- a long string is visited where the visitor takes its text
+  pub long_visited : (p : Place) (level : ℕ) (octets : List ℕ) (count : ℕ) (before after : Tally) (text : List ℕ) (a b : S)
+      → (w : Walked p level octets count before after) × (w.payload ≡ payloads.Str text) → h.takes a (part (payloads.Str text)) b
+      → VisitedValue h p level octets count before after a b
+  long_visited p level octets count before after text a b w t =
+      let flat = flat_text text in
+      record {
+        walked = w.0;
+        visited = subst (λ x. VisitedPayload h x a b) (sym w.1)
+            (in_one (payloads.Str text) a b (record { flat = flat.deep; one = flat.counted }) t);
+      }
+
   -- a token that is a value of the top level is visited where the visitor takes its part
   pub bare_scalar_visited : (p : Place) (r : Rest) (octets : List ℕ) (s : Scalar) (q : Payload) (f : FoundPart p r octets s q) (level n total : ℕ)
       (before after : Tally) (a b : S) → total ≡ n → (w : WalkedBare level octets n before after) × (w.payload ≡ f.token.payload)
@@ -41,6 +56,12 @@ module _ {S M : Type 0} (h : Visits S M) where
   bare_scalar_visited p r octets s q f level n total before after a b e w t =
       subst (λ k. VisitedBare h level octets k before after a b) (sym e)
       (record { walked = w.0; visited = part_visited p r octets s q f w.0.payload a b w.1 t })
+
+  -- a number or a symbol of the top level is visited where the visitor takes its part
+  pub left_visited : (octets : List ℕ) (count : ℕ) (before after : Rest) (q : Payload) (k : Kind) (a b : S) → FoundLeft octets count before after q → IsFlat q k
+      → h.takes a (part q) b → VisitedLeft h octets count before after a b
+  left_visited octets count before after q k a b f flat t =
+      record { payload = q; found = f; visited = in_one q a b (record { flat = flat.deep; one = flat.counted }) t }
 
   -- a field's name
   pub name_visited : (octets : List ℕ) (key total n : ℕ) (s : Option (List ℕ)) (before after : Tally) (a b : S) → key ≡ total

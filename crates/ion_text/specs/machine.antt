@@ -11,4 +11,5 @@ pub mod Nested
 pub mod Walked
 pub mod Alike
 pub mod FrontTokens
+pub mod LongStrings
 pub mod Places

@@ -23,6 +23,8 @@ mod end_of_input;
 mod escaped_tokens;
 mod finders;
 mod items;
+mod left_values;
+mod long_strings;
 mod nested_containers;
 mod octets;
 mod on_token;

@@ -13,7 +13,7 @@ pub trait Visitable {
     ghost taken: { Self → ℕ };
 
     /// From one state to the other it took up so many octets of a piece, the last of which ended
-    /// this value.
+    /// this value, or the next one did, which it awaits.
     ghost took_up: { Self → Self → List ℕ → ℕ → Value → Type 0 };
 
     /// Takes up the value at the front of a piece, of at most so many levels, and tells its parts to

@@ -1,5 +1,5 @@
 -- What is found of two pieces that begin with the same item.
-use Rattle.std.specs.Prelude.{◌≡◌, ◌≤◌, ℕ, List, None, length}
+use Rattle.std.specs.Prelude.{◌≡◌, ◌≤◌, ℕ, List, length}
 use Rattle.ion_model.specs.declared.value.Value.{Value}
 use Rattle.ion_tokens.specs.declared.plain_tokens.Rest.{Rest}
 use Rattle.ion_tokens.specs.machine.Rests.{past_blank, IsPassed}
@@ -11,7 +11,6 @@ use Rattle.ion_text.specs.machine.Walked.{IsFresh, WalkedTop}
 pub record IsFront (r : TextReader) (piece : List ℕ) (blank : ℕ) (behind : Rest) : Type 0 where
   pub before : Rest
   pub fresh : IsFresh r before
-  pub awaited : r.awaited ≡ None
   pub within : blank ≤ length piece
   pub few : blank ≤ r.limits.item
   pub passed : IsPassed piece blank

@@ -243,6 +243,12 @@ pub record WalkedLeft (octets : List ℕ) (count : ℕ) (before after : Rest) (v
   pub within : count < length octets
   pub used : after.used ≡ before.used + count
 
+-- octets at the top level begin with this value without others in it, behind whose octets the next one shows its end
+pub record FoundLeft (octets : List ℕ) (count : ℕ) (before after : Rest) (payload : Payload) : Type 0 where
+  pub leaves : WalkedLeft octets count before after (bare payload)
+  pub flat : depth (bare payload) ≡ 0
+  pub plain : is_table (bare payload) ≡ false
+
 -- Octets at the top level, behind the annotations of an item, begin with its value, which ends with the last of so many.
 pub record WalkedBare (level : ℕ) (octets : List ℕ) (count : ℕ) (before after : Tally) : Type 0 where
   pub payload : Payload

@@ -16,7 +16,7 @@ use Rattle.ion_text.specs.machine.FrontTokens.{held_of, is_marker}
 use Rattle.ion_text.specs.declared.reader.annotations.Note.{Note}
 use Rattle.ion_text.specs.declared.reader.finders.Scalar.{Scalar}
 use Rattle.ion_text.specs.declared.reader.walks.Tally.{Tally}
-use Rattle.ion_text.specs.machine.Walked.{IsFresh, FoundScalar, FoundNote, Walked, WalkedItem, WalkedContainer, WalkedInside, WalkedName, WalkedNotes, WalkedBare, WalkedTop}
+use Rattle.ion_text.specs.machine.Walked.{IsFresh, FoundLeft, FoundScalar, FoundNote, Walked, WalkedItem, WalkedContainer, WalkedInside, WalkedName, WalkedNotes, WalkedBare, WalkedTop}
 
 -- in this place octets begin with this token, which is this value
 pub record FoundPart (p : Place) (r : Rest) (octets : List ℕ) (s : Scalar) (payload : Payload) : Type 0 where
@@ -91,6 +91,12 @@ module _ {S M : Type 0} (h : Visits S M) where
     pub walked : WalkedNotes p octets count before after
     pub some : 0 < count → 0 < length walked.notes
     pub visited : VisitedAnnotations h walked.notes a b
+
+  -- octets at the top level begin with a number or a symbol, which the visitor took, and the octet behind so many shows its end
+  pub record VisitedLeft (octets : List ℕ) (count : ℕ) (before after : Rest) (a b : S) : Type 0 where
+    pub payload : Payload
+    pub found : FoundLeft octets count before after payload
+    pub visited : VisitedPayload h payload a b
 
   -- octets behind the annotations of an item begin with its value, whose parts the visitor took
   pub record VisitedBare (level : ℕ) (octets : List ℕ) (count : ℕ) (before after : Tally) (a b : S) : Type 0 where

@@ -7,17 +7,23 @@ ghost use Rattle.ion_model.specs.declared.value.Value.{Value};
 ghost use Rattle.ion_symtab.specs.TookUp.{TookUp};
 ghost use Rattle.ion_symtab.specs.declared.catalog.Catalog.{Catalog};
 ghost use Rattle.ion_tokens.specs.machine.Views.{scanned};
+ghost use Rattle.ion_model.specs.declared.value.Payload.{Payload};
+ghost use Rattle.ion_visiting.specs.Parts.{payload_of};
 ghost use Rattle.ion_text.specs.machine.Alike.{IsFront, IsTop};
-ghost use Rattle.ion_text.specs.machine.Progress.{Advances, SameSettings, StaysSteady};
+ghost use Rattle.ion_text.specs.machine.Walked.{FoundLeft};
+ghost use Rattle.ion_text.specs.machine.Progress.{Advances, BeginsWith, SameSettings, StaysSteady};
 ghost use Rattle.ion_text.specs.machine.Views.{state_of, IsFine};
 
 use super::TextReader;
+use super::finders::{begins_number, begins_symbol};
+use super::left_values::{number_left, symbol_left};
 use super::passing::up_to;
 use super::top_values::walk_top;
 use super::walks::Tally;
 use crate::visitor::Unheeding;
 use ion_symtab::Items;
 use ion_tokens::{Rest, TokenReader, blanks};
+use ion_visiting::Part;
 use std::simd::prelude::*;
 
 /// How many octets of a line are compared at most before an item is gone over.
@@ -105,15 +111,89 @@ fn top_at(tokens: &mut TokenReader, octets: &[u8], rest: Rest, depth: u32) -> Op
     })
 }
 
+/// Whether both are the same word or the same quoted symbol.
+fn parts_alike(said: &Part<'_>, other: &Part<'_>) -> bool
+    ensures { result ≡ true → payload_of said.now ≡ payload_of other.now }
+{
+    match (said, other) {
+        (Part::Symbol(text), Part::Symbol(same)) => text == same,
+        (Part::Truth(truth), Part::Truth(same)) => truth == same,
+        (Part::Null(kind), Part::Null(same)) => kind == same,
+        _ => false,
+    }
+}
+
+/// The number at both fronts, where it has the same octets.
+fn numbers_alike(octets: &[u8], rest: Rest, beside: &[u8], other_rest: Rest) -> Option<(Top, Top)>
+    requires room { rest.used + length octets.now < 2 ^ 63 }
+    requires other_room { other_rest.used + length beside.now < 2 ^ 63 }
+    ensures { IfSome result (λ tops. (payload : Payload)
+        × FoundLeft octets.now tops.0.count rest tops.0.rest payload
+        × FoundLeft beside.now tops.1.count other_rest tops.1.rest payload) }
+{
+    let (count, behind, _) = number_left(octets, rest)?;
+    let (other_count, other_behind, _) = number_left(beside, other_rest)?;
+    if count > octets.len() || count != other_count || !fronts_alike(octets, beside, count) {
+        return None;
+    }
+    let top = Top {
+        count,
+        rest: behind,
+    };
+    let other_top = Top {
+        count: other_count,
+        rest: other_behind,
+    };
+    Some((top, other_top))
+}
+
+/// The symbol at both fronts, where it is the same.
+fn symbols_alike(octets: &[u8], rest: Rest, beside: &[u8], other_rest: Rest) -> Option<(Top, Top)>
+    requires room { rest.used + length octets.now < 2 ^ 63 }
+    requires other_room { other_rest.used + length beside.now < 2 ^ 63 }
+    ensures { IfSome result (λ tops. (payload : Payload)
+        × FoundLeft octets.now tops.0.count rest tops.0.rest payload
+        × FoundLeft beside.now tops.1.count other_rest tops.1.rest payload) }
+{
+    let (count, behind, _, said) = symbol_left(octets, rest)?;
+    let (other_count, other_behind, _, other_said) = symbol_left(beside, other_rest)?;
+    if !parts_alike(&said, &other_said) {
+        return None;
+    }
+    let top = Top {
+        count,
+        rest: behind,
+    };
+    let other_top = Top {
+        count: other_count,
+        rest: other_behind,
+    };
+    Some((top, other_top))
+}
+
+/// The number or the symbol at both fronts, where it is the same.
+fn lefts_alike(octets: &[u8], rest: Rest, beside: &[u8], other_rest: Rest) -> Option<(Top, Top)>
+    requires room { rest.used + length octets.now < 2 ^ 63 }
+    requires other_room { other_rest.used + length beside.now < 2 ^ 63 }
+    ensures { IfSome result (λ tops. (payload : Payload)
+        × FoundLeft octets.now tops.0.count rest tops.0.rest payload
+        × FoundLeft beside.now tops.1.count other_rest tops.1.rest payload) }
+{
+    if begins_number(octets) {
+        return numbers_alike(octets, rest, beside, other_rest);
+    }
+    if begins_symbol(octets) {
+        return symbols_alike(octets, rest, beside, other_rest);
+    }
+    None
+}
+
 impl TextReader<'_> {
-    /// Where an item may begin behind a blank, if none is open and no octet is awaited.
+    /// Where an item may begin behind a blank, if none is open.
     fn front(&self, piece: &[u8]) -> Option<Front>
         requires room { (scanned self.now.scanner).used + length piece.now < 2 ^ 63 }
         ensures { IfSome result (λ front. IsFront self.now piece.now front.blank front.rest) }
     {
-        if self.is_awaiting() {
-            return None;
-        }
         let rest = self.fresh_rest()?;
         let blank = blanks(up_to(piece, self.limits.item));
         Some(Front {
@@ -188,10 +268,10 @@ impl TextReader<'_> {
         ensures other_used { IfSome result (λ used.
             (scanned other.new.scanner).used ≡ (scanned other.old.scanner).used + used.1) }
         ensures none { IsNone result → (self.new ≡ self.old) × (other.new ≡ other.old) }
-        ensures awaits { IfSome result (λ _.
-            (self.old.awaited ≡ None) × (self.new.awaited ≡ None)) }
-        ensures other_awaits { IfSome result (λ _.
-            (other.old.awaited ≡ None) × (other.new.awaited ≡ None)) }
+        ensures awaits { IfSome result (λ used. BeginsWith self.old.awaited piece.now
+            × BeginsWith self.new.awaited (drop used.0 piece.now)) }
+        ensures other_awaits { IfSome result (λ used. BeginsWith other.old.awaited beside.now
+            × BeginsWith other.new.awaited (drop used.1 beside.now)) }
         ensures fine { IsFine self.old → IsFine self.new }
         ensures other_fine { IsFine other.old → IsFine other.new }
         ensures steady { StaysSteady self.old self.new }
@@ -199,10 +279,26 @@ impl TextReader<'_> {
         ensures setting { SameSettings self.old self.new }
         ensures other_setting { SameSettings other.old other.new }
     {
+        if !self.goes_on_with(piece) || !other.goes_on_with(beside) {
+            return None;
+        }
         let front = self.front(piece)?;
         let other_front = other.front(beside)?;
         let octets = self.item(piece, front.blank);
         let other_octets = other.item(beside, other_front.blank);
+        let lefts = lefts_alike(octets, front.rest, other_octets, other_front.rest);
+        if let Some((left, other_left)) = lefts {
+            self.scanner.move_to(left.rest);
+            self.start = 0;
+            self.awaited = Some(octets[left.count]);
+            other.scanner.move_to(other_left.rest);
+            other.start = 0;
+            other.awaited = Some(other_octets[other_left.count]);
+            return Some((
+                front.blank + left.count,
+                other_front.blank + other_left.count,
+            ));
+        }
         let mut tokens = TokenReader::new(self.alloc);
         let found = self.alike_tops(
             other,
@@ -216,8 +312,10 @@ impl TextReader<'_> {
         let (top, other_top) = found?;
         self.scanner.move_to(top.rest);
         self.start = 0;
+        self.awaited = None;
         other.scanner.move_to(other_top.rest);
         other.start = 0;
+        other.awaited = None;
         Some((front.blank + top.count, other_front.blank + other_top.count))
     }
 }

@@ -10,6 +10,8 @@ ghost use Rattle.ion_text.specs.machine.AtOnce.{StridesBy, TokenAhead};
 ghost use Rattle.ion_text.specs.machine.Views.{reading_of};
 
 use super::TextReader;
+use super::finders::operator_at;
+use super::tokens_at_once::payload_of;
 use crate::state::Effect;
 use ion_model::{Payload, Reason, Symbol};
 use ion_tokens::{Body, FoundToken, Place, Rest};
@@ -84,8 +86,12 @@ impl TextReader<'_> {
         requires here { here ≡ place (reading_of self.old) }
         ensures { StridesBy self.old self.new octets.now result }
     {
+        if let Some((scalar, said)) = operator_at(here, octets) {
+            let payload = payload_of(self.alloc, &said)?;
+            return self.take_whole(here, rest, octets, scalar.token, payload);
+        }
         if !may_be_rare(octets) {
-            return Ok(0);
+            return self.take_long(here, rest, octets);
         }
         let Some(token) = self.beside.token(here, rest, octets) else {
             return Ok(0);

@@ -1,9 +1,9 @@
 //! Tokens at the front of octets that are a value or a field's name, with what they say. Of a token
 //! that isn't whole, isn't plain or may be a symbol's id nothing is found.
-ghost use Rattle.std.specs.Prelude.{◌≡◌, ◌<◌, false, true, length, IfSome, Ok, Some};
-ghost use Rattle.ion_tokens.specs.Bodies.{content};
+ghost use Rattle.std.specs.Prelude.{◌≡◌, ◌<◌, false, true, length, take, IfSome, Ok, Some};
+ghost use Rattle.ion_tokens.specs.Bodies.{content, Number'};
+ghost use Rattle.ion_tokens.specs.machine.Said.{said};
 ghost use Rattle.ion_tokens.specs.Places.{is_name};
-ghost use Rattle.ion_tokens.specs.declared.mode.Place.{Place};
 ghost use Rattle.ion_tokens.specs.declared.plain_tokens.Rest.{Rest};
 ghost use Rattle.ion_text.specs.machine.FrontTokens.{BeginsName, IsValue};
 ghost use Rattle.ion_text.specs.machine.EachToken.{held_word, held_payload};
@@ -15,7 +15,9 @@ use super::symbols::plain_text;
 use crate::words::{is_keyword, may_be_keyword};
 use ion_model::Kind;
 use ion_scalar::{Number, number_of};
-use ion_tokens::{Body, FoundToken, TokenKind, number, quoted_symbol, short_string, word};
+use ion_tokens::{
+    Body, FoundToken, Place, TokenKind, number, operator, quoted_symbol, short_string, word,
+};
 use ion_visiting::Part;
 
 /// A token that is a value without others in it.
@@ -142,6 +144,8 @@ pub(super) fn number_kind(number: Number) -> Kind
 pub(super) fn number_at(octets: &[u8]) -> Option<(FoundToken, Number)>
     ensures found { IfSome result (λ found. (here : Place) (rest : Rest) → is_name here ≡ false →
         FoundNumber here rest octets.now found.0 found.1) }
+    ensures says { IfSome result (λ found. said TokenKind.Number (take found.0.count octets.now)
+        ≡ Ok (Number' found.1)) }
     ensures left { IfSome result (λ found. found.0.left ≡ true) }
     ensures within { IfSome result (λ found. found.0.count < length octets.now) }
 {
@@ -177,6 +181,35 @@ pub(super) fn rare_part<'b>(body: &'b Body<'_>) -> Option<(Kind, bool, Part<'b>)
     }
 }
 
+/// The operator there, where an s-expression is open.
+pub(super) fn operator_at(here: Place, octets: &[u8]) -> Option<(Scalar, Part<'_>)>
+    ensures found { IfSome result (λ found. (rest : Rest) →
+        FoundPart here rest octets.now found.0 (payload_of found.1)) }
+    ensures waits { IfSome result (λ found. found.0.waits ≡ false) }
+{
+    if !matches!(here, Place::Sexp) {
+        return None;
+    }
+    let count = operator(octets)?;
+    if count >= octets.len() {
+        return None;
+    }
+    let token = FoundToken {
+        kind: TokenKind::Operator,
+        count,
+        left: true,
+    };
+    let scalar = Scalar {
+        token,
+        kind: Kind::Symbol,
+        waits: false,
+    };
+    Some((
+        scalar,
+        Part::Symbol(unsafe { str::from_utf8_unchecked(&octets[..count]) }),
+    ))
+}
+
 /// The word or the quoted symbol there, as a value.
 pub(super) fn symbol_at(octets: &[u8]) -> Option<(Scalar, Part<'_>)>
     ensures { IfSome result (λ found. (here : Place) (rest : Rest) →
@@ -202,6 +235,11 @@ pub(super) fn plain_at(octets: &[u8]) -> Option<(Scalar, Part<'_>)>
 /// Whether a number may begin there.
 pub(super) fn begins_number(octets: &[u8]) -> bool {
     matches!(octets.first(), Some(b'-' | b'0'..=b'9'))
+}
+
+/// Whether a symbol may begin there that is an annotation if `::` follows.
+pub(super) fn begins_symbol(octets: &[u8]) -> bool {
+    matches!(octets.first(), Some(b'a'..=b'z' | b'A'..=b'Z' | b'_' | b'\''))
 }
 
 // The text in quotes there that is a field's name, if its characters stand as they are.
@@ -239,6 +277,7 @@ fn word_name(octets: &[u8]) -> Option<(FoundToken, &str)>
 }
 
 /// The field's name there, if it is a word or its characters stand as they are.
+#[inline(always)]
 pub(super) fn plain_name(octets: &[u8]) -> Option<(FoundToken, &str)>
     ensures { IfSome result (λ found. (here : Place) (rest : Rest) →
         BeginsName here rest octets.now found.0 (Some found.1.now)) }

@@ -1,18 +1,17 @@
 //! Values of the top level that lie whole in a piece and are passed over.
-ghost use Rattle.std.specs.Prelude.{◌≡◌, ◌+◌, ◌<◌, ◌^◌, [], length, take, min, false, IfSome, IsNone, None, Ok, Some};
+ghost use Rattle.std.specs.Prelude.{◌≡◌, ◌+◌, ◌<◌, ◌^◌, [], length, take, min, false, IfSome, IsNone, None, Ok, Some, true};
 ghost use Rattle.std.specs.Option.{is_some};
 ghost use Rattle.ion_model.specs.declared.value.Value.{Value};
 ghost use Rattle.ion_model.specs.Outlines.{outline_of};
 ghost use Rattle.ion_tokens.specs.declared.token_reader.TokenReader.{TokenReader};
 ghost use Rattle.ion_tokens.specs.machine.Views.{scanned};
-ghost use Rattle.ion_text.specs.machine.Progress.{Advances, SameSettings, StaysSteady};
+ghost use Rattle.ion_text.specs.machine.Progress.{Advances, BeginsWith, SameSettings, StaysSteady};
 ghost use Rattle.ion_text.specs.machine.Views.{state_of, with_beside, IsFine};
-ghost use Rattle.ion_text.specs.machine.Walked.{IsFresh, WalkedLeft};
+ghost use Rattle.ion_text.specs.machine.Walked.{IsFresh};
 ghost use Rattle.ion_text.specs.visiting.Walks.{ItemAhead};
 
 use super::TextReader;
-use super::finders::{begins_number, number_at, number_kind, symbol_at};
-use super::symbols::behind_symbol;
+use super::left_values::left_at;
 use super::top_values::walk_top;
 use super::walks::Tally;
 use crate::state::Now;
@@ -42,47 +41,6 @@ fn flat(kind: Kind) -> Outline
     }
 }
 
-// The number there, where the octet behind it shows its end: how many octets it has, where a
-// scanner rests behind them, and its outline.
-fn number_left(octets: &[u8], rest: Rest) -> Option<(usize, Rest, Outline)>
-    requires room { rest.used + length octets.now < 2 ^ 63 }
-    ensures { IfSome result (λ left. (v : Value) × (outline_of v ≡ left.2)
-        × WalkedLeft octets.now left.0 rest left.1 v) }
-{
-    let (token, number) = number_at(octets)?;
-    let behind = rest.past_token(Place::Top, token.kind, token.count);
-    Some((token.count, behind, flat(number_kind(number))))
-}
-
-// The symbol there and the blank behind it, where the octet behind that shows that no `::` follows.
-fn symbol_left(octets: &[u8], rest: Rest) -> Option<(usize, Rest, Outline)>
-    requires room { rest.used + length octets.now < 2 ^ 63 }
-    ensures { IfSome result (λ left. (v : Value) × (outline_of v ≡ left.2)
-        × WalkedLeft octets.now left.0 rest left.1 v) }
-{
-    let (scalar, _) = symbol_at(octets)?;
-    let between = behind_symbol(octets, scalar.token.count)?;
-    if between == 0 {
-        return None;
-    }
-    let behind = rest
-        .past_token(Place::Top, scalar.token.kind, scalar.token.count)
-        .past_blank(between);
-    Some((scalar.token.count + between, behind, flat(scalar.kind)))
-}
-
-// What ends there before the octet behind it, as these say.
-fn left_at(octets: &[u8], rest: Rest) -> Option<(usize, Rest, Outline)>
-    requires room { rest.used + length octets.now < 2 ^ 63 }
-    ensures { IfSome result (λ left. (v : Value) × (outline_of v ≡ left.2)
-        × WalkedLeft octets.now left.0 rest left.1 v) }
-{
-    if begins_number(octets) {
-        return number_left(octets, rest);
-    }
-    symbol_left(octets, rest)
-}
-
 impl TextReader<'_> {
     /// Where the scanner rests, if no item is open.
     pub(super) fn fresh_rest(&self) -> Option<Rest>
@@ -98,13 +56,14 @@ impl TextReader<'_> {
         self.scanner.rest()
     }
 
-    /// Whether an octet is awaited.
-    pub(super) fn is_awaiting(&self) -> bool
-        ensures { result ≡ false → self.now.awaited ≡ None }
+    /// Whether a piece begins with the octet that is awaited, if one is.
+    pub(super) fn goes_on_with(&self, piece: &[u8]) -> bool
+        ensures { result ≡ true → BeginsWith self.now.awaited piece.now }
     {
-        match self.awaited {
-            None => false,
-            Some(_) => true,
+        match (self.awaited, piece.first()) {
+            (None, _) => true,
+            (Some(awaited), Some(first)) => awaited == *first,
+            (Some(_), None) => false,
         }
     }
 
@@ -141,11 +100,11 @@ impl TextReader<'_> {
         ensures setting { SameSettings self.old self.new }
     {
         let (before, item, begun) = self.item_ahead(piece)?;
-        if let Some((count, rest, outline)) = left_at(item, begun.rest) {
+        if let Some((count, rest, kind)) = left_at(item, begun.rest) {
             self.scanner.move_to(rest);
             self.start = 0;
             self.awaited = Some(item[count]);
-            return Some((before + count, outline));
+            return Some((before + count, flat(kind)));
         }
         let mut tally = begun;
         let depth = self.limits.depth;

@@ -17,7 +17,7 @@ use ion_tokens::{FoundToken, Mark, Place, Rest, TokenKind, blanks, quoted_symbol
 
 // Whether an octet shows that no `::` follows a symbol: it is no blank, and begins no colon and no
 // comment.
-fn ends_symbol(octet: u8) -> bool
+pub(super) fn ends_symbol(octet: u8) -> bool
     ensures { result ≡ ends_symbol octet }
 {
     b' ' < octet && !(octet == b':' || octet == b'/')

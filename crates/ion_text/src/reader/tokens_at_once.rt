@@ -30,8 +30,8 @@ fn may_be_value(place: Place) -> bool
     !matches!(place, Place::Name)
 }
 
-// The value of such a part.
-fn payload_of(alloc: Global, said: &Part<'_>) -> Result<Payload, Reason>
+/// The value of such a part.
+pub(super) fn payload_of(alloc: Global, said: &Part<'_>) -> Result<Payload, Reason>
     ensures pays { IfOk result (λ payload. payload ≡ payload_of said.now) }
     ensures memory { IfErr result (λ reason. reason ≡ Memory) }
 {

@@ -7,7 +7,6 @@ ghost use Rattle.ion_visiting.specs.Parts.{payload_of};
 ghost use Rattle.ion_text.specs.visiting.Walks.{FoundPart, VisitedBare, VisitedTop};
 
 use super::annotations::walk_notes;
-use super::escaped_tokens::may_be_rare;
 use super::finders::{Scalar, rare_part, string_at};
 use super::nested_containers::bracket_at;
 use super::walks::{Tally, walk_container};
@@ -38,6 +37,14 @@ fn walk_given<T: TextVisitor>(
     Some(tally.pass_scalar(Place::Top, scalar, 0))
 }
 
+// Whether a clob, a blob or a short string may begin there.
+fn may_be_given(octets: &[u8]) -> bool {
+    match octets.first() {
+        Some(b'{') => octets.strip_prefix(b"{{").is_some(),
+        first => matches!(first, Some(b'"')),
+    }
+}
+
 // Goes over a clob, a blob or a short string with escapes there.
 #[inline(never)]
 fn walk_rare_given<T: TextVisitor>(
@@ -52,7 +59,7 @@ fn walk_rare_given<T: TextVisitor>(
     ensures { IfSome result (λ count. VisitedBare T.visits level octets.now count
         tally.old tally.new visitor.old visitor.new) }
 {
-    if !may_be_rare(octets) {
+    if !may_be_given(octets) {
         return None;
     }
     let token = beside.token(Place::Top, tally.rest, octets)?;
@@ -68,7 +75,7 @@ fn walk_rare_given<T: TextVisitor>(
 }
 
 // Goes over a short string, a clob or a blob there.
-fn walk_scalar<T: TextVisitor>(
+fn walk_bare_scalar<T: TextVisitor>(
     beside: &mut TokenReader,
     octets: &[u8],
     level: u32,
@@ -103,7 +110,7 @@ fn walk_bare<T: TextVisitor>(
         return None;
     }
     match bracket_at(octets) {
-        None => walk_scalar(beside, octets, level, tally, visitor),
+        None => walk_bare_scalar(beside, octets, level, tally, visitor),
         Some(bracket) => {
             walk_container(beside, Place::Top, bracket, octets, level, tally, visitor)
         }

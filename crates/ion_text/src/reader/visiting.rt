@@ -1,15 +1,16 @@
 //! Values of the top level that lie whole in a piece, and whose parts are told to a visitor.
-ghost use Rattle.std.specs.Prelude.{◌≡◌, ◌+◌, ◌≤◌, ◌<◌, ◌^◌, length, false, IfSome, IsNone, None, Ok, Some};
+ghost use Rattle.std.specs.Prelude.{◌≡◌, ◌+◌, ◌≤◌, ◌<◌, ◌^◌, length, drop, false, IfSome, IsNone, None, Ok, Some};
 ghost use Rattle.std.specs.Option.{is_some};
 ghost use Rattle.ion_model.specs.declared.value.Value.{Value};
 ghost use Rattle.ion_model.specs.Kinds.{is_table};
 ghost use Rattle.ion_model.specs.Measures.{depth};
 ghost use Rattle.ion_tokens.specs.machine.Views.{scanned};
 ghost use Rattle.ion_visiting.specs.Visits.{Visited};
-ghost use Rattle.ion_text.specs.machine.Progress.{Advances, SameSettings, StaysSteady};
+ghost use Rattle.ion_text.specs.machine.Progress.{Advances, BeginsWith, SameSettings, StaysSteady};
 ghost use Rattle.ion_text.specs.machine.Views.{state_of, IsFine};
 
 use super::TextReader;
+use super::left_values::tell_left;
 use super::top_values::walk_top;
 use super::walks::Tally;
 use ion_symtab::Items;
@@ -34,17 +35,25 @@ impl TextReader<'_> {
             (Ok (record { used = used; value = Some v })) self.new.awaited (state_of self.new)) }
         ensures used { IfSome result (λ used.
             (scanned self.new.scanner).used ≡ (scanned self.old.scanner).used + used) }
-        ensures awaits { IfSome result (λ _. (self.old.awaited ≡ None)
-            × (self.new.awaited ≡ None)) }
+        ensures begins { IfSome result (λ _. BeginsWith self.old.awaited piece.now) }
+        ensures awaits { IfSome result (λ used.
+            BeginsWith self.new.awaited (drop used piece.now)) }
         ensures stays { IsNone result → self.new ≡ self.old }
         ensures fine { IsFine self.old → IsFine self.new }
         ensures steady { StaysSteady self.old self.new }
         ensures setting { SameSettings self.old self.new }
     {
-        if self.is_awaiting() {
+        if !self.goes_on_with(piece) {
             return None;
         }
         let (before, item, begun) = self.item_ahead(piece)?;
+        let found = tell_left(item, begun.rest, visitor)?;
+        if let Some((left, rest)) = found {
+            self.scanner.move_to(rest);
+            self.start = 0;
+            self.awaited = Some(item[left]);
+            return Some(before + left);
+        }
         let most = level.min(self.limits.depth);
         let mut tally = Tally::new(most, begun.rest);
         // The reader's own would keep another token where nothing is taken up.
@@ -52,6 +61,7 @@ impl TextReader<'_> {
         let count = walk_top(&mut tokens, item, most, &mut tally, visitor)?;
         self.scanner.move_to(tally.rest);
         self.start = 0;
+        self.awaited = None;
         Some(before + count)
     }
 }

@@ -19,8 +19,10 @@ ghost use Rattle.ion_text.specs.visiting.Walks.{FoundPart, FoundNumber, VisitedV
 use super::annotations::walk_notes;
 use super::escaped_tokens::may_be_rare;
 use super::finders::{
-    Scalar, begins_number, number_at, number_kind, plain_at, plain_name, rare_part, symbol_at,
+    Scalar, begins_number, begins_symbol, number_at, number_kind, operator_at, plain_at,
+    plain_name, rare_part, symbol_at,
 };
+use super::long_strings::walk_long;
 use super::nested_containers::{bracket_at, close_mark, open_mark};
 use super::symbols::{behind_name, behind_symbol};
 use ion_model::{Kind, Outline};
@@ -128,6 +130,20 @@ impl Tally {
         scalar.token.count + blank
     }
 
+    /// Notes a long string, behind whose octets it rests.
+    #[inline(always)]
+    pub(super) fn pass_long(&mut self, behind: Rest)
+        ensures { self.new ≡ record {
+          kind = kinds.Str;
+          level = self.old.level;
+          nodes = min (self.old.nodes + 1) (2 ^ 64 - 1);
+          rest = behind;
+        } }
+    {
+        self.rest = behind;
+        self.count_node(Kind::Str);
+    }
+
     /// Notes a field's name, and rests behind its token, a blank and a colon: how many octets they
     /// have.
     #[inline(always)]
@@ -191,8 +207,11 @@ fn walk_rare<T: TextVisitor>(
     ensures { IfSome result (λ count. VisitedValue T.visits here level octets.now count
         tally.old tally.new visitor.old visitor.new) }
 {
+    if let Some((scalar, said)) = operator_at(here, octets) {
+        return walk_part(here, octets, scalar, &said, level, tally, visitor);
+    }
     if !may_be_rare(octets) {
-        return None;
+        return walk_long(beside, here, octets, level, tally, visitor);
     }
     let token = beside.token(here, tally.rest, octets)?;
     let Ok(body) = beside.body(token.kind) else {
@@ -389,11 +408,6 @@ fn begins_with(octets: &[u8], octet: u8) -> bool
     }
 }
 
-// Whether a symbol may begin there that is an annotation if `::` follows.
-fn begins_symbol(octets: &[u8]) -> bool {
-    matches!(octets.first(), Some(b'a'..=b'z' | b'A'..=b'Z' | b'_' | b'\''))
-}
-
 // Goes over a blank there.
 pub(super) fn walk_blank(octets: &[u8], tally: &mut Tally) -> usize
     requires room { tally.old.rest.used + length octets.now < 2 ^ 63 }
@@ -488,6 +502,7 @@ fn walk_annotated_value<T: TextVisitor>(
 
 /// Goes over the value at the front of octets with its annotations, as `walk_value` does.
 #[cycle(walk)]
+#[inline(always)]
 fn walk_item<T: TextVisitor>(
     beside: &mut TokenReader,
     here: Place,

@@ -28,7 +28,7 @@ returns-clause-carries g c =
         limits = refl;
         counts = refl;
         progress = omega (arith, c.if-count-eq0.false);
-        awaited = refl;
+        awaited = tt;
         stands = step_stands r (record r { used = r.used + n; start = r.used + n }) c.args.piece.now (Ok (record { used = n; value = Some v })) gives refl
             setting;
       },

@@ -24,7 +24,7 @@ returns-clause-alike c =
         limits = up.setting.limits;
         counts = up.counts;
         progress = omega (arith, up.some);
-        awaited = refl;
+        awaited = tt;
         stands = up.stands;
       },
       record {
@@ -35,7 +35,7 @@ returns-clause-alike c =
         limits = other_up.setting.limits;
         counts = other_up.counts;
         progress = omega (arith, other_up.some);
-        awaited = refl;
+        awaited = tt;
         stands = other_up.stands;
       },
     ))

@@ -42,7 +42,7 @@ returns-clause-alike g c =
         limits = refl;
         counts = refl;
         progress = omega (arith, some);
-        awaited = refl;
+        awaited = tt;
         stands = step_stands r (record r { used = r.used + n; start = r.used + n }) w (Ok (record { used = n; value = Some v })) gives refl setting;
       },
       found.1,

@@ -13,7 +13,6 @@ returns c =
     record {
       before = c.in_ok-rest.rest;
       fresh = c.in_ok-rest.ensures;
-      awaited = c.is_awaiting.ensures c.if-is_awaiting.false;
       within = omega arith;
       few = omega arith;
       passed = passed_of piece front n (min (length piece) most) c.up_to.ensures (omega arith) c.blanks-blank.ensures.passed;

@@ -1,5 +1,6 @@
 use Rattle.std.proofs.Common.{◌<◌, ◌^◌, refl, sym, ◌∙◌, arith}
-use Rattle.ion_text.proofs.TopLeft.{left_advances}
+use Rattle.ion_model.specs.Measures.{bare}
+use Rattle.ion_text.proofs.TopLeft.{flat_outline, left_advances}
 use Rattle.ion_text.proofs.Tops.{outlined, top_advances}
 use Rattle.ion_text.proofs.reader.TextReader.walk.Goals as goal
 
@@ -25,10 +26,10 @@ pub returns-in-Some-clause-gives : goal.returns-in-Some-clause-gives
 returns-in-Some-clause-gives c =
     let old = c.args.self.now in
     let left = c.in-Some.ensures in (
-      left.0,
-      left.1,
+      bare left.0,
+      flat_outline left.0 c.in-Some.kind left.1 ∙ sym c.flat.ensures,
       left_advances old c.move_to.new.self c.args.piece.now c.in_ok-before.item.now c.in_ok-before.before c.in-Some.count c.in_ok-before.begun c.in-Some.rest
-          left.0 c.in_ok-before.ensures left.2 c.move_to.ensures.rests,
+          (bare left.0) c.in_ok-before.ensures left.2.leaves c.move_to.ensures.rests,
     )
 
 pub returns-in_err-before-clause-none : goal.returns-in_err-before-clause-none

@@ -4,8 +4,8 @@ use Rattle.ion_tokens.specs.machine.Views.{octets_in}
 use Rattle.ion_visiting.specs.Parts.{payload_of}
 use Rattle.ion_text.proofs.reader.walks.walk_rare.Goals as goal
 
-pub walk_part-requires-clause-found : goal.walk_part-requires-clause-found
-walk_part-requires-clause-found g c = record {
+pub walk_part-requires-2-clause-found : goal.walk_part-requires-2-clause-found
+walk_part-requires-2-clause-found g c = record {
   token = record {
     kept = octets_in c.token.new.self;
     content = content c.in-Ok.body;
@@ -17,3 +17,7 @@ walk_part-requires-clause-found g c = record {
   };
   is = refl;
 }
+
+-- an operator
+pub walk_part-requires-clause-found : goal.walk_part-requires-clause-found
+walk_part-requires-clause-found g c = c.in-Some.ensures.found c.args.tally.now.rest

@@ -27,7 +27,7 @@ returns-clause-value g c =
         limits = up.setting.limits;
         counts = up.counts;
         progress = omega (arith, up.some);
-        awaited = refl;
+        awaited = tt;
         stands = up.stands;
       },
       one.1.0,

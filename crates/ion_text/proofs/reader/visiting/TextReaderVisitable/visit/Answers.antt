@@ -14,7 +14,7 @@ returns-clause-value g c =
     let fine : failed r ≡ None = search rules in
     let all = visited_up r found.new.self c.args.piece.now fine found.ensures.fine found.ensures.steady found.ensures.setting
     (λ v. (depth v ≤ c.args.level) × (is_table v ≡ false) × Visited g.T.TextVisitor.visits v c.args.visitor found.new.visitor) found.result found.ensures.gives found.ensures.used
-    found.ensures.awaits in
+    found.ensures.begins found.ensures.awaits in
     IfSome_then found.result all (λ used one.
     let up = one.2 in (
       one.0,

@@ -1,0 +1,493 @@
+-- Long strings of segments that lie whole in a piece, where a container is open.
+use Rattle.std.proofs.Common.{◌≡◌, ℕ, ◌+◌, ◌-◌, ◌<◌, ◌≤◌, Bool, true, false, List, [], ◌∷◌, ◌++◌, length, take, drop, get_or, Ok, refl, ap, sym, ◌∙◌, subst, arith, length-drop, inl, inr, min}
+use Rattle.std.specs.Prelude.{◌&&◌, ◌||◌, not, nat_le, if◌then◌else◌, ◌==◌, cond}
+use Rattle.std.proofs.lemmas.Bool.Decides.{nat_tests}
+use Rattle.std.proofs.lemmas.List.{length-take-le}
+use Rattle.ion_symtab.specs.declared.limits.Limits.{Limits}
+use Rattle.ion_symtab.specs.declared.catalog.Catalog.{Catalog}
+use Rattle.ion_tokens.specs.declared.mode.Place.{Place}
+use Rattle.ion_tokens.specs.machine.Scanning.{Known, Outcome, Next, Given, Left, Refused, feed, acts}
+use Rattle.ion_tokens.proofs.runs.Runs.{feed_used, next_used}
+use Rattle.ion_tokens.specs.machine.Bounds.{is_idle}
+use Rattle.ion_tokens.specs.Bodies.{Long}
+use Rattle.ion_tokens.specs.machine.Said.{said}
+use Rattle.ion_tokens.specs.machine.Ahead.{OnNext, is_sane, is_quoting, long_waits}
+use Rattle.ion_text.specs.declared.state.Frame.{Frame}
+use Rattle.ion_text.specs.machine.EachToken.{Reading, Symbols, goes, place, settle, turn, Setting, under, spot_at, place_in, turn_now, ended, at}
+use Rattle.ion_text.specs.machine.Run.{State, Effect, uses, fails, is_top, shut, reaches, noticed, waits, waits_now, in_segment, unsettled, with_scan, eats, takes, on_scan, on_said, on_settled, behind_given, token_of}
+use Rattle.ion_text.specs.machine.Pieces.{followed, Quiet, Waiting, drive, go_on}
+use Rattle.ion_text.specs.laws.reading.complete.Meets.{follows_as}
+use Rattle.ion_text.specs.machine.Views.{setting_of, spot_of, reading_of, open_frames, SameSetting}
+use Rattle.ion_text.specs.machine.AtOnce.{Passes, Strides, TokenAhead}
+use Rattle.ion_model.specs.declared.value.Value.{Value}
+use Rattle.ion_tokens.specs.declared.scanner.Scanner.{Scanner}
+use Rattle.ion_tokens.specs.declared.plain_tokens.Rest.{Rest}
+use Rattle.ion_tokens.specs.Octets.{is_digit, is_white, begins_word, is_operator_octet}
+use Rattle.ion_tokens.specs.machine.Rests.{resting, past_blank, past_token, lexeme_at, IsFound}
+use Rattle.ion_text.specs.declared.reader.TextReader.{TextReader}
+use Rattle.ion_text.proofs.Passing.{calm_quiet, passes_none, passes_on, passes_same, passes_one, passes_led}
+use Rattle.ion_text.proofs.Striding.{still_settles}
+use Rattle.ion_model.specs.Measures.{annotated}
+use Rattle.ion_symtab.specs.Slots.{Slot}
+use Rattle.ion_tokens.specs.Places.{is_name, is_sexp}
+use Rattle.ion_text.specs.declared.reader.walks.Tally.{Tally}
+use Rattle.ion_text.specs.machine.FrontTokens.{ends_symbol}
+use Rattle.ion_text.specs.machine.Walked.{most, rested, LeadsBehind, Walked}
+use Rattle.ion_text.proofs.Arms.{ready_turns, ended_stays, at_drop, blank_used, Moved, with_scanner, given_leads, ended_place, moved_strides, room}
+use Rattle.ion_tokens.specs.declared.mode.Mode.{Mode}
+use Rattle.ion_tokens.specs.declared.mode.Action.{Action}
+use Rattle.ion_tokens.specs.machine.Table.{begins_value, in_blank}
+use Rattle.ion_text.specs.machine.LongStrings.{ends_long, PassedSegment, LongSoFar, LongThere}
+use Rattle.ion_text.proofs.Walks.{flat_text}
+use Rattle.ion_tokens.specs.machine.Scanning as scanning
+use Rattle.ion_atoms.specs.declared.refusal.Reason.TheVariants as reasons
+use Rattle.ion_text.specs.declared.state.Now.TheVariants as nows
+use Rattle.ion_tokens.specs.declared.mode.TokenKind.TheVariants as kinds
+use Rattle.ion_text.specs.declared.state.Frame.TheVariants as frames
+use Rattle.ion_model.specs.declared.value.Payload.TheVariants as payloads
+use Rattle.ion_atoms.specs.declared.kind.Kind.TheVariants as sorts
+
+-- the mode of a blank, or of what may be a segment of a long string
+abbrev pub may_be_long : Mode → Bool
+may_be_long m = is_idle m || is_quoting m
+
+neither : (a b : Bool) → (a || b) ≡ false → (a ≡ false) × (b ≡ false)
+neither false b e = (refl, e)
+neither true b e = cc
+
+both_false : (a b : Bool) → a ≡ false → b ≡ false → (a || b) ≡ false
+both_false a b e f = ap (λ a. a || b) e ∙ f
+
+next_is : (s t : Known) → Next s ≡ Next t → s ≡ t
+next_is s t e = ap (λ x. known_in x s) e
+  where
+    known_in : Outcome → Known → Known
+    known_in (Next y) d = y
+    known_in _ d = d
+
+-- what surely is neither stays so
+stays_other : (p : Place) (os : List ℕ) (s t : Known) → is_sane s.mode ≡ true → may_be_long s.mode ≡ false → scanning.run p os s ≡ Next t
+    → may_be_long t.mode ≡ false
+stays_other p [] s t sane h e = subst (λ (k : Known). may_be_long k.mode ≡ false) (next_is s t e) h
+stays_other p (o ∷ os) s t sane h e =
+    let f = followed (feed p s o) (λ k. scanning.run p os k) t e in
+    let x = follows_as p s o (Next f.0) sane f.1 in
+    let i = neither (is_idle s.mode) (is_quoting s.mode) h in
+    stays_other p os f.0 t x.0 (both_false (is_idle f.0.mode) (is_quoting f.0.mode) (x.1 i.0) (x.2 i.0 i.1)) f.2
+
+-- so what is one of them was so before
+long_first : (p : Place) (os : List ℕ) (s t : Known) → is_sane s.mode ≡ true → may_be_long t.mode ≡ true → scanning.run p os s ≡ Next t
+    → may_be_long s.mode ≡ true
+long_first p os s t sane long e = by (may_be_long s.mode) refl
+  where
+    by : (b : Bool) → may_be_long s.mode ≡ b → may_be_long s.mode ≡ true
+    by true h = h
+    by false h = absurd (let n : true ≡ false = sym long ∙ stays_other p os s t sane h e in cc)
+
+run_sane : (p : Place) (os : List ℕ) (s t : Known) → is_sane s.mode ≡ true → scanning.run p os s ≡ Next t → is_sane t.mode ≡ true
+run_sane p [] s t sane e = subst (λ (k : Known). is_sane k.mode ≡ true) (next_is s t e) sane
+run_sane p (o ∷ os) s t sane e =
+    let f = followed (feed p s o) (λ k. scanning.run p os k) t e in
+    let x = follows_as p s o (Next f.0) sane f.1 in
+    run_sane p os f.0 t x.0 f.2
+
+le_true : (x y : ℕ) → x ≤ y → nat_le x y ≡ true
+le_true x y h = grind (arith, nat_tests)
+
+reaches_inner : (fs : List Frame) (r : Reading) (s : Known) → is_top fs ≡ false → reaches fs r s ≡ s.used - r.start
+reaches_inner [] r s h = absurd cc
+reaches_inner (f ∷ fs) r s h = refl
+
+module _ (g : Catalog) (l : Limits) (r : Reading) (w : List ℕ) (end : ℕ) (now : r.now ≡ nows.Long w end) (inner : is_top r.frames ≡ false) where
+  -- behind a long string that waits nothing is refused but what is too long
+  long_noticed : (s : Known) → s.used ≤ l.item + r.start → noticed l r s ≡ uses (with_scan s r)
+  long_noticed s room =
+      let reach = reaches_inner r.frames r s inner in
+      ap (λ n. if shut n && not (is_idle s.mode) then fails reasons.Unexpected
+      else (if nat_le (reaches r.frames r s) l.item then uses (with_scan s r) else fails reasons.ItemTooLong)) now
+      ∙ ap (λ b. if b then uses (with_scan s r) else fails reasons.ItemTooLong) (le_true (reaches r.frames r s) l.item (omega arith))
+
+  long_quiet : (p : Place) (os : List ℕ) (s t : Known) → scanning.run p os s ≡ Next t → s.used + length os ≤ l.item + r.start → Quiet g l r p s os
+  long_quiet p [] s t e room = tt
+  long_quiet p (o ∷ os) s t e room =
+      let f = followed (feed p s o) (λ k. scanning.run p os k) t e in
+      let used = feed_used p s f.0 o f.1 in
+      subst (λ x. OnNext x (λ t. (noticed l r t ≡ uses (with_scan t r)) × Quiet g l r p t os)) (sym f.1)
+      (long_noticed f.0 (omega (arith, used, used)), long_quiet p os f.0 t f.2 (omega (arith, used)))
+
+  long_waits_on : (p : Place) (os : List ℕ) (s t : Known) → is_sane s.mode ≡ true → may_be_long t.mode ≡ true → scanning.run p os s ≡ Next t
+      → Waiting g l r p s os
+  long_waits_on p [] s t sane long e = tt
+  long_waits_on p (o ∷ os) s t sane long e =
+      let f = followed (feed p s o) (λ k. scanning.run p os k) t e in
+      let x = follows_as p s o (Next f.0) sane f.1 in (
+        ap (λ y. waits r y) f.1 ∙ (ap (λ n. waits_now (is_top r.frames) n (Next f.0)) now ∙ long_first p os f.0 t x.0 long f.2),
+        subst (λ x. OnNext x (λ t. Waiting g l r p t os)) (sym f.1) (long_waits_on p os f.0 t x.0 long f.2),
+      )
+
+  -- a blank behind a segment
+  pub long_blank : (s t : Known) (octets : List ℕ) (n : ℕ) → n ≤ length octets → is_sane s.mode ≡ true → may_be_long t.mode ≡ true
+      → scanning.run (place r) (take n octets) s ≡ Next t → s.used + n ≤ l.item + r.start → Passes g l (with_scan s r) octets n (with_scan t r)
+  long_blank s t octets n within sane long e room =
+      let size = length-take-le n octets within in
+      let used = next_used (place r) (take n octets) s t (sym e) in
+      passes_led g l (with_scan s r) (with_scan t r) octets n within (omega arith)
+      (drive g l (take n octets) s.used r s t e (long_quiet (place r) (take n octets) s t e (omega arith))
+      (inr (long_waits_on (place r) (take n octets) s t sane long e)))
+
+  -- a further segment
+  module _ (rest : Rest) (octets kept : List ℕ) (n : ℕ) (found : IsFound (place r) rest octets kinds.LongString kept n false)
+      (more : List ℕ) (says : said kinds.LongString kept ≡ Ok (Long more)) (room : rest.used + length octets ≤ l.item + r.start) where
+    abbrev pub longer : Reading
+    longer = at r.start r.context r.frames r.notes (nows.Long (w ++ more) (rest.used + n))
+
+    abbrev behind : Known
+    behind = resting (past_token (place r) rest kinds.LongString n)
+
+    abbrev octet : ℕ
+    octet = get_or octets (n - 1) 0
+
+    is_long_mode : may_be_long found.known.mode ≡ true
+    is_long_mode = by (is_idle found.known.mode) (is_quoting found.known.mode) refl refl
+      where
+        by : (a b : Bool) → is_idle found.known.mode ≡ a → is_quoting found.known.mode ≡ b → may_be_long found.known.mode ≡ true
+        by true b e f = ap (λ a. a || is_quoting found.known.mode) e
+        by false true e f = ap (λ a. a || is_quoting found.known.mode) e ∙ f
+        by false false e f =
+            let x = follows_as (place r) found.known octet (Given (lexeme_at rest kinds.LongString kept n) behind) known_sane found.ends in
+            let never : true ≡ false = x.1 e f in absurd cc
+          where
+            known_sane : is_sane found.known.mode ≡ true
+            known_sane = run_sane (place r) (take (n - 1) octets) (resting rest) found.known refl found.ran
+
+    turns : turn g l r (token_of (lexeme_at rest kinds.LongString kept n) (Long more)) ≡ goes longer
+    turns = ap (turn_now (under g l) r (token_of (lexeme_at rest kinds.LongString kept n) (Long more))) now
+
+    known_used : found.known.used ≡ rest.used + (n - 1)
+    known_used =
+        let some = found.some in
+        let shown = found.shown in
+        let size = length-take-le (n - 1) octets (omega arith) in
+        let counted = next_used (place r) (take (n - 1) octets) (resting rest) found.known (sym found.ran) in
+        omega arith
+
+    up_to : Passes g l (with_scan (resting rest) r) octets (n - 1) (with_scan found.known r)
+    up_to =
+        let some = found.some in
+        let shown = found.shown in
+        long_blank (resting rest) found.known octets (n - 1) (omega arith) refl is_long_mode found.ran (omega arith)
+
+    ends_it : Passes g l (with_scan found.known r) (drop (n - 1) octets) 1 (with_scan behind longer)
+    ends_it =
+        let some = found.some in
+        let shown = found.shown in
+        let size = length-drop (n - 1) octets in
+        let counted = known_used in
+        passes_one g l (with_scan found.known r) (with_scan behind longer) (drop (n - 1) octets) (omega arith) (omega arith)
+        (ap (λ o. eats g l (with_scan found.known r) o) (at_drop (n - 1) octets)
+        ∙ (go_on g l (λ m. takes g l 2 m octet) r found.known (feed (place r) found.known octet) (unsettled found.known r (feed (place r) found.known octet))
+        (inl waits_on)
+        ∙ (ap (on_scan g l (λ m. takes g l 2 m octet) r) found.ends
+        ∙ (ap (λ a. on_said a (λ c. behind_given l behind (turn g l r (token_of (lexeme_at rest kinds.LongString kept n) c)))) says
+        ∙ (ap (behind_given l behind) turns ∙ longer_noticed)))))
+      where
+        waits_on : unsettled found.known r (feed (place r) found.known octet) ≡ true
+        waits_on = ap (λ y. unsettled found.known r y) found.ends
+            ∙ ap (λ k. waits_now (is_top r.frames) k (Given (lexeme_at rest kinds.LongString kept n) behind) || in_segment k found.known) now
+
+        longer_noticed : noticed l longer behind ≡ uses (with_scan behind longer)
+        longer_noticed =
+            let reach = reaches_inner r.frames longer behind inner in
+            let some = found.some in
+            let shown = found.shown in
+            ap (λ b. if b then uses (with_scan behind longer) else fails reasons.ItemTooLong) (le_true (reaches r.frames longer behind) l.item (omega arith))
+
+    -- behind a long string that waits another segment of it is joined to it
+    pub segment_joined : Passes g l (with_scan (resting rest) r) octets n (with_scan behind longer)
+    segment_joined =
+        let some = found.some in
+        let all : n - 1 + 1 ≡ n = omega arith in
+        subst (λ k. Passes g l (with_scan (resting rest) r) octets k (with_scan behind longer)) all
+        (passes_on g l (with_scan (resting rest) r) (with_scan found.known r) (with_scan behind longer) octets (n - 1) 1 up_to ends_it)
+
+-- The octet that shows that no segment follows.
+
+record ShowsNoSegment (p : Place) (r : Rest) (o : ℕ) (a : Action) : Type 0 where
+  is : long_waits false (acts p (resting r) o a) ≡ false
+
+module _ {p : Place} {r : Rest} {o : ℕ} where
+  yes : {a : Action} → long_waits false (acts p (resting r) o a) ≡ false → ShowsNoSegment p r o a
+  yes h = record { is = h }
+
+  both : {x y : Action} (b : Bool) → ShowsNoSegment p r o x → ShowsNoSegment p r o y → ShowsNoSegment p r o (cond b x y)
+  both true h k = h
+  both false h k = k
+
+  skip : {y : Action} (x : Action) (b : Bool) → b ≡ false → ShowsNoSegment p r o y → ShowsNoSegment p r o (cond b x y)
+  skip x true e h = absurd cc
+  skip x false e h = h
+
+value_shows : (p : Place) (r : Rest) (o : ℕ) → ShowsNoSegment p r o (begins_value p o)
+value_shows p r o =
+    both (is_digit o) (yes refl)
+    (both (o == 123) (yes refl)
+    (both (o == 91) (yes refl)
+    (both (o == 93) (yes refl)
+    (both (o == 40) (yes refl)
+    (both (o == 41) (yes refl)
+    (both (o == 45) (yes refl)
+    (both (o == 43) (yes refl)
+    (both (is_sexp p && is_operator_octet o) (yes refl) (yes refl)))))))))
+
+front_true : (a b : Bool) → (a && b) ≡ true → (a ≡ true) × (b ≡ true)
+front_true true b e = (refl, e)
+front_true false b e = absurd cc
+
+no_white : (o : ℕ) → ends_symbol o ≡ true → is_white o ≡ false
+no_white o h = grind (arith, nat_tests)
+
+no_slash : (o : ℕ) → ends_symbol o ≡ true → (o == 47) ≡ false
+no_slash o h = grind (arith, nat_tests)
+
+no_colon : (o : ℕ) → ends_symbol o ≡ true → (o == 58) ≡ false
+no_colon o h = grind (arith, nat_tests)
+
+not_true : (b : Bool) → not b ≡ true → b ≡ false
+not_true false e = refl
+not_true true e = absurd cc
+
+long_shows : (p : Place) (r : Rest) (o : ℕ) → ends_long o ≡ true → ShowsNoSegment p r o (in_blank p r.colon o)
+long_shows p r o h =
+    let f = front_true (ends_symbol o) (not (o == 39)) h in
+    skip _ (is_white o) (no_white o f.0)
+    (both (begins_word o) (yes refl)
+    (skip _ (o == 47) (no_slash o f.0)
+    (both (o == 34) (yes refl)
+    (skip _ (o == 39) (not_true (o == 39) f.1)
+    (both (o == 44) (yes refl)
+    (both (o == 125) (yes refl)
+    (skip _ (o == 58) (no_colon o f.0)
+    (both (is_name p) (yes refl) (value_shows p r o)))))))))
+
+-- the octet behind a long string that waits ends it
+pub long_ends : (p : Place) (r : Rest) (o : ℕ) → ends_long o ≡ true → long_waits false (feed p (resting r) o) ≡ false
+long_ends p r o h = (long_shows p r o h).is
+
+module _ (g : Catalog) (l : Limits) (r : Reading) (w : List ℕ) (end : ℕ) (now : r.now ≡ nows.Long w end) (inner : is_top r.frames ≡ false) where
+  pub long_settled : (rest : Rest) (octets : List ℕ) (q : Reading) → 0 < length octets → ends_long (get_or octets 0 0) ≡ true → settle g l r ≡ goes q
+      → settle g l q ≡ goes q → place q ≡ place r → Passes g l (with_scan (resting rest) r) octets 0 (with_scan (resting rest) q)
+  long_settled rest octets q some ends settles still same =
+      passes_same g l (with_scan (resting rest) r) (with_scan (resting rest) r) (with_scan (resting rest) q) octets 0 some refl (here ∙ sym there)
+      (passes_none g l (with_scan (resting rest) r) octets)
+    where
+      o : ℕ
+      o = get_or octets 0 0
+
+      x : Outcome
+      x = feed (place r) (resting rest) o
+
+      again : State → Effect
+      again m = takes g l 2 m o
+
+      none : unsettled (resting rest) r x ≡ false
+      none =
+          ap (λ n. waits_now (is_top r.frames) n x || in_segment n (resting rest)) now
+          ∙ (ap (λ b. long_waits b x || false) inner ∙ ap (λ b. b || false) (long_ends (place r) rest o ends))
+
+      here : eats g l (with_scan (resting rest) r) o ≡ on_scan g l again q x
+      here = ap (λ b. if b then on_scan g l again r x else on_settled g l again (resting rest) x (settle g l r)) none
+          ∙ ap (on_settled g l again (resting rest) x) settles
+
+      there : eats g l (with_scan (resting rest) q) o ≡ on_scan g l again q x
+      there =
+          go_on g l again q (resting rest) (feed (place q) (resting rest) o) (unsettled (resting rest) q (feed (place q) (resting rest) o)) (inr still)
+          ∙ ap (λ p. on_scan g l again q (feed p (resting rest) o)) same
+
+-- what waits stands in the place where the value may come
+long_place : (fs : List Frame) (w : List ℕ) (end : ℕ) → place_in fs (nows.Long w end) ≡ place_in fs nows.Ready
+long_place [] w end = refl
+long_place (frames.Items listing ss vs ∷ fs) w end = refl
+long_place (frames.Named ss ms name ∷ fs) w end = refl
+long_place (frames.Fields ss ms ∷ fs) w end = refl
+
+-- in a container it says nothing where a value ended
+ended_anywhere : (setting : Setting) (start : ℕ) (c : List Slot) (fs : List Frame) (v : Value) (i j : ℕ) → is_top fs ≡ false
+    → ended setting (spot_at i start c) fs v ≡ ended setting (spot_at j start c) fs v
+ended_anywhere setting start c [] v i j h = absurd cc
+ended_anywhere setting start c (frames.Items listing ss vs ∷ fs) v i j h = refl
+ended_anywhere setting start c (frames.Named ss ms name ∷ fs) v i j h = refl
+ended_anywhere setting start c (frames.Fields ss ms ∷ fs) v i j h = refl
+
+module _ (g : Catalog) (l : Limits) (start : ℕ) (c : List Slot) (ss : Symbols) (fs : List Frame) (inner : is_top fs ≡ false) where
+  -- a long string waits
+  abbrev waits_long : List ℕ → ℕ → Reading
+  waits_long w end = at start c fs ss (nows.Long w end)
+
+  module _ (p : Place) (before : Rest) (octets : List ℕ) (count : ℕ) (after : Rest) (old new : List ℕ)
+      (x : PassedSegment p before octets count after old new) (here : place_in fs nows.Ready ≡ p)
+      (room : before.used + length octets ≤ l.item + start) where
+    abbrev n : ℕ
+    n = x.size
+
+    abbrev text : List ℕ
+    text = old ++ x.segment.more
+
+    abbrev mid : Rest
+    mid = past_token p before kinds.LongString n
+
+    -- behind the segment the blank is passed
+    behind_it : (m : State) (end : ℕ) → Passes g l m octets n (with_scan (resting mid) (waits_long text end))
+        → Passes g l m octets count (rested after start c fs ss (nows.Long new end))
+    behind_it m end h =
+        let size = length-drop n octets in
+        let total = x.total in
+        let within = x.within in
+        let blank : Passes g l (with_scan (resting mid) (waits_long text end)) (drop n octets) x.blank
+        (with_scan (resting (past_blank mid x.blank)) (waits_long text end)) =
+        long_blank g l (waits_long text end) text end refl inner (resting mid) (resting (past_blank mid x.blank)) (drop n octets) x.blank (omega arith) refl
+        refl (x.passed (place (waits_long text end)) mid) (omega arith) in
+        subst (λ t. Passes g l m octets count (rested after start c fs ss (nows.Long t end))) (sym x.segment.joined)
+        (subst (λ r. Passes g l m octets count (rested r start c fs ss (nows.Long text end))) (sym x.rests)
+        (subst (λ k. Passes g l m octets k (rested (past_blank mid x.blank) start c fs ss (nows.Long text end))) (sym x.total)
+        (passes_on g l m (with_scan (resting mid) (waits_long text end)) (rested (past_blank mid x.blank) start c fs ss (nows.Long text end)) octets n x.blank h
+        blank)))
+
+    -- where a value may come, the first segment
+    first_on : old ≡ [] → Passes g l (rested before start c fs ss nows.Ready) octets count (rested after start c fs ss (nows.Long new (before.used + n)))
+    first_on none =
+        let r = at start c fs ss nows.Ready in
+        let f = x.segment in
+        let shown = f.found.shown in
+        let only : f.more ≡ text = ap (λ w. w ++ f.more) (sym none) in
+        let found : IsFound (place r) before octets kinds.LongString f.kept n false =
+        subst (λ p. IsFound p before octets kinds.LongString f.kept n false) (sym here) f.found in
+        let one = given_leads g l r inner (still_settles g l r tt) before octets kinds.LongString f.kept n (Long f.more) (waits_long f.more (before.used + n))
+        f.says (ready_turns g l r (lexeme_at before kinds.LongString f.kept n) (Long f.more) refl inner) room found
+        (calm_quiet g l r inner tt (resting before) refl octets (n - 1) (omega arith) (omega arith)) inner refl in
+        behind_it (rested before start c fs ss nows.Ready) (before.used + n)
+        (subst (λ w. Passes g l (rested before start c fs ss nows.Ready) octets n (with_scan (resting mid) (waits_long w (before.used + n)))) only
+        (subst (λ p. Passes g l (rested before start c fs ss nows.Ready) octets n
+        (with_scan (resting (past_token p before kinds.LongString n)) (waits_long f.more (before.used + n)))) here one))
+
+    -- where a long string waits, a further one
+    further_on : (end : ℕ) → Passes g l (rested before start c fs ss (nows.Long old end)) octets count
+        (rested after start c fs ss (nows.Long new (before.used + n)))
+    further_on end =
+        let r = waits_long old end in
+        let f = x.segment in
+        let there : place r ≡ p = long_place fs old end ∙ here in
+        let found : IsFound (place r) before octets kinds.LongString f.kept n false =
+        subst (λ p. IsFound p before octets kinds.LongString f.kept n false) (sym there) f.found in
+        behind_it (rested before start c fs ss (nows.Long old end)) (before.used + n)
+        (subst (λ p. Passes g l (rested before start c fs ss (nows.Long old end)) octets n
+        (with_scan (resting (past_token p before kinds.LongString n)) (waits_long text (before.used + n)))) there
+        (segment_joined g l r old end refl inner before octets f.kept n found f.more f.says room))
+
+  -- behind a long string the octet shows that it is whole
+  module _ (p : Place) (before : Rest) (octets : List ℕ) (count : ℕ) (after : Rest) (text : List ℕ) (x : LongThere p before octets count after text)
+      (here : place_in fs nows.Ready ≡ p) (room : before.used + length octets ≤ l.item + start) (end : ℕ) (q : Reading)
+      (does : ended (under g l) (spot_at end start c) fs (annotated ss (payloads.Str text)) ≡ goes q) where
+    pub settled_on : Passes g l (rested before start c fs ss nows.Ready) octets count (with_scan (resting after) q)
+    settled_on =
+        let s = x.segments.leads g l start c ss fs inner here room in
+        let r = waits_long text s.0 in
+        let more = x.more in
+        let size = length-drop count octets in
+        let stays = ended_stays (under g l) (spot_at end start c) q fs (annotated ss (payloads.Str text)) inner does in
+        let none : count + 0 ≡ count = omega arith in
+        let whole : Passes g l (rested after start c fs ss (nows.Long text s.0)) (drop count octets) 0 (with_scan (resting after) q) =
+        long_settled g l r text s.0 refl inner after (drop count octets) q (omega arith) (ap ends_long (at_drop count octets) ∙ x.ends)
+        (ended_anywhere (under g l) start c fs (annotated ss (payloads.Str text)) s.0 end inner ∙ does) (still_settles g l q stays.2)
+        (ended_place (under g l) (spot_at end start c) q fs (annotated ss (payloads.Str text)) inner does ∙ sym (long_place fs text s.0)) in
+        subst (λ k. Passes g l (rested before start c fs ss nows.Ready) octets k (with_scan (resting after) q)) none
+        (passes_on g l (rested before start c fs ss nows.Ready) (rested after start c fs ss (nows.Long text s.0)) (with_scan (resting after) q) octets count 0
+        s.1 whole)
+
+-- behind a segment and a blank so many octets are used
+segment_used : (p : Place) (before : Rest) (octets : List ℕ) (count : ℕ) (after : Rest) (old new : List ℕ) → PassedSegment p before octets count after old new
+    → after.used ≡ before.used + count
+segment_used p before octets count after old new x =
+    let blank = blank_used (past_token p before kinds.LongString x.size) x.blank in
+    let total = x.total in
+    let is : after.used ≡ (past_blank (past_token p before kinds.LongString x.size) x.blank).used = ap (λ (r : Rest). r.used) x.rests in
+    omega arith
+
+-- a segment is a long string so far
+pub first_segment : (p : Place) (before : Rest) (octets : List ℕ) (count : ℕ) (after : Rest) (old new : List ℕ) → old ≡ []
+    → PassedSegment p before octets count after old new → LongSoFar p before octets count after new
+first_segment p before octets count after old new none x = record {
+  leads = λ g l start c ss fs inner here room.
+      (before.used + x.size, first_on g l start c ss fs inner p before octets count after old new x here room none);
+  within = x.within;
+  used = segment_used p before octets count after old new x;
+}
+
+-- and with a further one
+pub more_segments : (p : Place) (before mid after : Rest) (octets behind : List ℕ) (i j : ℕ) (old new : List ℕ) → behind ≡ drop i octets
+    → LongSoFar p before octets i mid old → PassedSegment p mid behind j after old new → LongSoFar p before octets (i + j) after new
+more_segments p before mid after octets behind i j old new is s x =
+    let size : length behind ≡ length octets - i = ap (λ (w : List ℕ). length w) is ∙ length-drop i octets in
+    let first = s.within in
+    let more = x.within in
+    let used = s.used in
+    let further = segment_used p mid behind j after old new x in
+    record {
+      leads = λ g l start c ss fs inner here room.
+          let begun = s.leads g l start c ss fs inner here room in (
+            mid.used + x.size,
+            passes_on g l (rested before start c fs ss nows.Ready) (rested mid start c fs ss (nows.Long old begun.0))
+                (rested after start c fs ss (nows.Long new (mid.used + x.size))) octets i j begun.1
+                (subst (λ w. Passes g l (rested mid start c fs ss (nows.Long old begun.0)) w j
+                (rested after start c fs ss (nows.Long new (mid.used + x.size)))) is
+                (further_on g l start c ss fs inner p mid behind j after old new x here (omega arith) begun.0)),
+          );
+      within = omega arith;
+      used = omega arith;
+    }
+
+-- a long string leads behind its value
+pub long_leads : (p : Place) (level : ℕ) (before : Rest) (octets : List ℕ) (count : ℕ) (after : Rest) (text : List ℕ)
+    → LongThere p before octets count after text → LeadsBehind p level before octets count after (payloads.Str text)
+long_leads p level before octets count after text x = λ g l start c ss fs those n inner here deep room puts.
+    settled_on g l start c ss fs inner p before octets count after text x here room 0 (at start c those [] n) (puts (under g l) (spot_at 0 start c))
+
+-- with what is noted
+pub walked_long : (p : Place) (level : ℕ) (octets : List ℕ) (count : ℕ) (before after : Tally) (rest : Rest) (text : List ℕ) → before.level ≤ level
+    → LongThere p before.rest octets count rest text
+    → after ≡ record { kind = sorts.Str; level = before.level; nodes = min (before.nodes + 1) most; rest = rest }
+    → (w : Walked p level octets count before after) × (w.payload ≡ payloads.Str text)
+walked_long p level octets count before after rest text low x e =
+    let flat = flat_text text in
+    let deep = flat.deep in
+    let one = flat.counted in
+    let more = x.more in
+    rw e (
+      record {
+        payload = payloads.Str text;
+        leads = long_leads p level before.rest octets count rest text x;
+        within = omega arith;
+        used = x.segments.used;
+        deep = omega arith;
+        noted = record { kind = sym flat.sort; left = omega arith; counted = omega arith };
+      },
+      refl,
+    )
+
+-- a long string is taken up at once
+pub long_strides : (old new : TextReader) (moved : Scanner) (rest behind : Rest) (octets : List ℕ) (count end : ℕ) (text : List ℕ)
+    → TokenAhead nows.Ready old rest octets → Moved old.scanner moved behind → SameSetting (with_scanner old moved) new
+    → LongThere (place (reading_of old)) rest octets count behind text
+    → ended (setting_of old) (spot_of old end) (open_frames old) (annotated old.notes (payloads.Str text)) ≡ goes (reading_of new)
+    → Strides old new octets count
+long_strides old new moved rest behind octets count end text ahead move setting x does =
+    let inside = ahead.inside in
+    let g = old.catalog.now in
+    let l = old.limits in
+    let v = annotated old.notes (payloads.Str text) in
+    let there : place_in (open_frames old) nows.Ready ≡ place (reading_of old) = ap (place_in (open_frames old)) (sym ahead.stage) in
+    moved_strides old new moved rest behind octets inside ahead.rests move setting count x.more x.segments.used
+    (ended_stays (setting_of old) (spot_of old end) (reading_of new) (open_frames old) v inside.inner does)
+    (subst (λ n. Passes g l (with_scan (resting rest) (at old.start old.context (open_frames old) old.notes n)) octets count
+    (with_scan (resting behind) (reading_of new))) (sym ahead.stage)
+    (settled_on g l old.start old.context old.notes (open_frames old) inside.inner (place (reading_of old)) rest octets count behind text x there
+    (room old new moved rest behind octets inside ahead.rests move setting) end (reading_of new) does))

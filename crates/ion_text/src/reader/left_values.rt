@@ -1,0 +1,101 @@
+//! Numbers and symbols of the top level, which end before the octet behind them. That one shows
+//! their end, and comes again.
+ghost use Rattle.std.specs.Prelude.{◌≡◌, ◌+◌, ◌<◌, ◌^◌, length, IfSome, IsNone, take, Ok};
+ghost use Rattle.ion_model.specs.declared.value.Payload.{Payload};
+ghost use Rattle.ion_tokens.specs.Bodies.{Number'};
+ghost use Rattle.ion_tokens.specs.machine.Said.{said};
+ghost use Rattle.ion_visiting.specs.Parts.{number_payload, payload_of};
+ghost use Rattle.ion_text.specs.machine.Walked.{FoundLeft, IsFlat};
+ghost use Rattle.ion_text.specs.visiting.Walks.{VisitedLeft};
+
+use super::finders::{begins_number, begins_symbol, number_at, number_kind, symbol_at};
+use super::symbols::behind_symbol;
+use ion_model::Kind;
+use ion_scalar::Number;
+use ion_tokens::{Place, Rest, TokenKind};
+use ion_visiting::{Part, TextVisitor};
+
+/// The number there, where the octet behind it shows its end: how many octets it has, and where a
+/// scanner rests behind them.
+pub(super) fn number_left(octets: &[u8], rest: Rest) -> Option<(usize, Rest, Number)>
+    requires room { rest.used + length octets.now < 2 ^ 63 }
+    ensures found { IfSome result (λ left.
+        FoundLeft octets.now left.0 rest left.1 (number_payload left.2)) }
+    ensures says { IfSome result (λ left. said TokenKind.Number (take left.0 octets.now)
+        ≡ Ok (Number' left.2)) }
+{
+    let (token, number) = number_at(octets)?;
+    let behind = rest.past_token(Place::Top, token.kind, token.count);
+    Some((token.count, behind, number))
+}
+
+/// The same of the symbol there and the blank behind it, where the octet behind that shows that no
+/// `::` follows.
+pub(super) fn symbol_left(octets: &[u8], rest: Rest) -> Option<(usize, Rest, Kind, Part<'_>)>
+    requires room { rest.used + length octets.now < 2 ^ 63 }
+    ensures found { IfSome result (λ left.
+        FoundLeft octets.now left.0 rest left.1 (payload_of left.3)) }
+    ensures flat { IfSome result (λ left. IsFlat (payload_of left.3) left.2) }
+{
+    let (scalar, said) = symbol_at(octets)?;
+    let between = behind_symbol(octets, scalar.token.count)?;
+    if between == 0 {
+        return None;
+    }
+    let behind = rest
+        .past_token(Place::Top, scalar.token.kind, scalar.token.count)
+        .past_blank(between);
+    Some((scalar.token.count + between, behind, scalar.kind, said))
+}
+
+/// The number or the symbol there: how many octets it has, with the blank behind a symbol, where a
+/// scanner rests behind them, and of which kind it is.
+pub(super) fn left_at(octets: &[u8], rest: Rest) -> Option<(usize, Rest, Kind)>
+    requires room { rest.used + length octets.now < 2 ^ 63 }
+    ensures { IfSome result (λ left. (payload : Payload) × IsFlat payload left.2
+        × FoundLeft octets.now left.0 rest left.1 payload) }
+{
+    if begins_number(octets) {
+        let (count, behind, number) = number_left(octets, rest)?;
+        return Some((count, behind, number_kind(number)));
+    }
+    if begins_symbol(octets) {
+        let (count, behind, kind, _) = symbol_left(octets, rest)?;
+        return Some((count, behind, kind));
+    }
+    None
+}
+
+/// Tells a visitor the number or the symbol there: how many octets it has, with the blank behind a
+/// symbol, and where a scanner rests behind them. `None` in place of these, with nothing told,
+/// where none is found, and `None` for all where the visitor can't go on.
+pub(super) fn tell_left<T: TextVisitor>(
+    octets: &[u8],
+    rest: Rest,
+    visitor: &mut T,
+) -> Option<Option<(usize, Rest)>>
+    requires room { rest.used + length octets.now < 2 ^ 63 }
+    ensures told { IfSome result (λ found. IfSome found (λ left.
+        VisitedLeft T.visits octets.now left.0 rest left.1 visitor.old visitor.new)) }
+    ensures none { IfSome result (λ found. IsNone found → visitor.new ≡ visitor.old) }
+{
+    if begins_number(octets) {
+        let Some((count, behind, number)) = number_left(octets, rest) else {
+            return Some(None);
+        };
+        if !visitor.number(&number) {
+            return None;
+        }
+        return Some(Some((count, behind)));
+    }
+    if !begins_symbol(octets) {
+        return Some(None);
+    }
+    let Some((count, behind, _, said)) = symbol_left(octets, rest) else {
+        return Some(None);
+    };
+    if !visitor.part(&said) {
+        return None;
+    }
+    Some(Some((count, behind)))
+}

@@ -1,0 +1,201 @@
+//! Long strings that lie whole in a piece, with all their segments, where a container is open. One
+//! with a comment between or behind its segments is left to the octets.
+ghost use Rattle.std.specs.Prelude.{◌≡◌, ◌+◌, ◌<◌, ◌≤◌, ◌^◌, [], false, length, string_bytes, IfSome};
+ghost use Rattle.ion_text.specs.declared.state.Now.TheVariants as nows;
+ghost use Rattle.ion_text.specs.machine.AtOnce.{StridesBy, TokenAhead};
+ghost use Rattle.ion_text.specs.machine.EachToken.{place};
+ghost use Rattle.ion_text.specs.machine.LongStrings.{ends_long, JoinedSegment, PassedSegment, LongThere};
+ghost use Rattle.ion_text.specs.machine.Views.{reading_of};
+ghost use Rattle.ion_text.specs.visiting.Walks.{VisitedValue};
+
+use super::TextReader;
+use super::symbols::ends_symbol;
+use super::walks::Tally;
+use crate::state::Effect;
+use ion_model::{Payload, Reason, Text};
+use ion_tokens::{Body, Place, Rest, TokenKind, TokenReader, blanks, long_segment};
+use ion_visiting::{Part, TextVisitor};
+
+// Whether an octet shows that no segment of a long string follows: it is no blank and no quote, and
+// begins no colon and no comment.
+fn ends_long(octet: u8) -> bool
+    ensures { result ≡ ends_long octet }
+{
+    ends_symbol(octet) && !(octet == b'\'')
+}
+
+// Joins to a text what the segment there says, whose characters may be escaped: how many octets it
+// has.
+#[inline(never)]
+fn join_escaped(
+    beside: &mut TokenReader,
+    here: Place,
+    rest: Rest,
+    octets: &[u8],
+    text: &mut String,
+) -> Option<usize>
+    requires room { rest.used + length octets.now < 2 ^ 63 }
+    ensures { IfSome result (λ size.
+        JoinedSegment here rest octets.now size (string_bytes text.old) (string_bytes text.new)) }
+{
+    if octets.strip_prefix(b"'''").is_none() {
+        return None;
+    }
+    let token = beside.token(here, rest, octets)?;
+    if token.left || !matches!(token.kind, TokenKind::LongString) {
+        return None;
+    }
+    let Ok(Body::Long(more)) = beside.body(TokenKind::LongString) else {
+        return None;
+    };
+    if text.push_str(more.as_str()).is_err() {
+        return None;
+    }
+    Some(token.count)
+}
+
+// Joins to a text what the segment there says: how many octets it has.
+fn join_segment(
+    beside: &mut TokenReader,
+    here: Place,
+    rest: Rest,
+    octets: &[u8],
+    text: &mut String,
+) -> Option<usize>
+    requires room { rest.used + length octets.now < 2 ^ 63 }
+    ensures { IfSome result (λ size.
+        JoinedSegment here rest octets.now size (string_bytes text.old) (string_bytes text.new)) }
+{
+    let Some(size) = long_segment(octets) else {
+        return join_escaped(beside, here, rest, octets, text);
+    };
+    let content = &octets[3..][..size - 6];
+    if text
+        .push_str(unsafe { str::from_utf8_unchecked(content) })
+        .is_err()
+    {
+        return None;
+    }
+    Some(size)
+}
+
+// Joins to a text the segment there, and goes over the blank behind it: how many octets they have,
+// and where a scanner rests behind them.
+fn pass_segment(
+    beside: &mut TokenReader,
+    here: Place,
+    rest: Rest,
+    octets: &[u8],
+    text: &mut String,
+) -> Option<(usize, Rest)>
+    requires room { rest.used + length octets.now < 2 ^ 63 }
+    ensures { IfSome result (λ passed. PassedSegment here rest octets.now passed.0 passed.1
+        (string_bytes text.old) (string_bytes text.new)) }
+{
+    let size = join_segment(beside, here, rest, octets, text)?;
+    if size > octets.len() {
+        return None;
+    }
+    let between = blanks(&octets[size..]);
+    let behind = rest
+        .past_token(here, TokenKind::LongString, size)
+        .past_blank(between);
+    Some((size + between, behind))
+}
+
+// Joins to an empty text the segments of the long string there, where the octet behind them and a
+// blank shows that they are all: how many octets they have, and where a scanner rests behind them.
+fn join_segments(
+    beside: &mut TokenReader,
+    here: Place,
+    rest: Rest,
+    octets: &[u8],
+    text: &mut String,
+) -> Option<(usize, Rest)>
+    requires room { rest.used + length octets.now < 2 ^ 63 }
+    requires none { string_bytes text.old ≡ [] }
+    ensures { IfSome result (λ joined.
+        LongThere here rest octets.now joined.0 joined.1 (string_bytes text.new)) }
+{
+    let (mut at, mut behind) = pass_segment(beside, here, rest, octets, text)?;
+    for _ in 0..octets.len() {
+        if at >= octets.len() {
+            return None;
+        }
+        if ends_long(octets[at]) {
+            return Some((at, behind));
+        }
+        let (count, further) = pass_segment(beside, here, behind, &octets[at..], text)?;
+        at += count;
+        behind = further;
+    }
+    None
+}
+
+/// Goes over the long string there.
+#[inline(never)]
+pub(super) fn walk_long<T: TextVisitor>(
+    beside: &mut TokenReader,
+    here: Place,
+    octets: &[u8],
+    level: u32,
+    tally: &mut Tally,
+    visitor: &mut T,
+) -> Option<usize>
+    requires low { tally.old.level ≤ level }
+    requires room { tally.old.rest.used + length octets.now < 2 ^ 63 }
+    ensures { IfSome result (λ count. VisitedValue T.visits here level octets.now count
+        tally.old tally.new visitor.old visitor.new) }
+{
+    let mut text = String::new(beside.alloc());
+    let (count, behind) = join_segments(beside, here, tally.rest, octets, &mut text)?;
+    if !visitor.part(&Part::Str(text.as_str())) {
+        return None;
+    }
+    tally.pass_long(behind);
+    Some(count)
+}
+
+impl TextReader<'_> {
+    /// Takes up a long string.
+    #[inline(never)]
+    pub(super) fn take_long(
+        &mut self,
+        here: Place,
+        rest: Rest,
+        octets: &[u8],
+    ) -> Result<usize, Reason>
+        requires ahead { TokenAhead nows.Ready self.old rest octets.now }
+        requires here { here ≡ place (reading_of self.old) }
+        ensures { StridesBy self.old self.new octets.now result }
+    {
+        let mut text = String::new(self.alloc);
+        let joined = join_segments(&mut self.beside, here, rest, octets, &mut text);
+        let Some((count, behind)) = joined else {
+            return Ok(0);
+        };
+        self.take_joined(here, rest, octets, count, behind, text)
+    }
+
+    /// Takes up this long string.
+    fn take_joined(
+        &mut self,
+        here: Place,
+        rest: Rest,
+        octets: &[u8],
+        count: usize,
+        behind: Rest,
+        text: String,
+    ) -> Result<usize, Reason>
+        requires ahead { TokenAhead nows.Ready self.old rest octets.now }
+        requires here { here ≡ place (reading_of self.old) }
+        requires long { LongThere here rest octets.now count behind (string_bytes text) }
+        ensures { StridesBy self.old self.new octets.now result }
+    {
+        self.scanner.move_to(behind);
+        match self.whole(Payload::Str(Text::from_string(text)), behind.used) {
+            Ok(Effect::Goes) => Ok(count),
+            _ => Err(Reason::Memory),
+        }
+    }
+}
