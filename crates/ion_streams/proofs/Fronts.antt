@@ -1,5 +1,5 @@
 -- What a writer took, one line after another.
-use Rattle.std.proofs.Common.{◌≡◌, ℕ, ◌+◌, List, [], ◌∷◌, ◌++◌, length, false, ap, sym, subst, ◌∙◌, arith, append-nil, append_assoc}
+use Rattle.std.proofs.Common.{◌≡◌, ℕ, ◌+◌, List, [], ◌∷◌, ◌++◌, length, false, ap, sym, ◌∙◌, arith, append-nil, append_assoc}
 use Rattle.ion_model.specs.declared.value.Value.{Value}
 use Rattle.ion_model.specs.Outlines.{outline_of}
 use Rattle.ion_model.specs.declared.outline.Outline.{Outline}

@@ -1,7 +1,6 @@
-use Rattle.std.proofs.Common.{◌≡◌, ◌+◌, ◌≤◌, ℕ, List, [], ◌∷◌, ◌++◌, arith, Ok, Err, ◌∙◌, subst}
+use Rattle.std.proofs.Common.{◌≡◌, ℕ, List, [], ◌∷◌, ◌++◌, arith, Ok, Err, ◌∙◌}
 use Rattle.ion_model.specs.declared.value.Value.{Value}
 use Rattle.ion_streams.specs.Loaded.{catalog_of}
-use Rattle.ion_streams.specs.reading.Standing.{StoodEach}
 use Rattle.ion_streams.proofs.Loads.{catalog_ok, value_refused}
 use Rattle.ion_streams.proofs.Driven.{driven_on}
 use Rattle.ion_streams.proofs.Passes.{gave_itself}

@@ -1,4 +1,4 @@
-use Rattle.std.proofs.Common.{rules, ◌⊎◌, ◌++◌, [], ◌∷◌, Some, inl, inr, arith, refl, ap, sym, subst, option_to_list, None}
+use Rattle.std.proofs.Common.{rules, ◌⊎◌, ◌++◌, [], ◌∷◌, Some, inl, inr, arith, refl, ap, sym, subst, option_to_list}
 use Rattle.ion_streams.specs.declared.source.Standing.{Standing}
 use Rattle.ion_streams.specs.reading.Courses.{count_of}
 use Rattle.ion_streams.specs.reading.Read.{IsWithin}

@@ -1,11 +1,9 @@
-use Rattle.std.proofs.Common.{◌≡◌, ◌+◌, ◌++◌, ◌∷◌, [], refl, length-append, ◌≤◌, arith, ap, sym, subst, ◌∙◌, ℕ, List}
+use Rattle.std.proofs.Common.{◌+◌, ◌++◌, ◌∷◌, [], refl, length-append, arith, ap, sym, subst, ◌∙◌, ℕ, List}
 use Rattle.ion_model.specs.Outlines.{outline_of}
-use Rattle.ion_model.specs.declared.value.Value.{Value}
 use Rattle.ion_symtab.specs.Took.{Took, TookFront}
 use Rattle.ion_symtab.specs.Trace.{plain}
 use Rattle.ion_symtab.specs.laws.Took.{Took-nil, Took-trans, Took-kept, Front-all, Front-behind}
-use Rattle.ion_streams.specs.Listing.{lines_of, accepted_line, in_reading}
-use Rattle.ion_streams.specs.reading.Standing.{StoodEach}
+use Rattle.ion_streams.specs.Listing.{lines_of, in_reading}
 use Rattle.ion_streams.proofs.Steps.{stood_plain, on_err}
 use Rattle.ion_streams.proofs.Fronts.{line_next, so_far}
 use Rattle.ion_streams.proofs.Driven.{driven_on}

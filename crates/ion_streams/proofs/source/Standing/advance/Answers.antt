@@ -1,5 +1,4 @@
-use Rattle.std.proofs.Common.{ℕ, List, true, subst}
-use Rattle.ion_model.specs.declared.value.Value.{Value}
+use Rattle.std.proofs.Common.{true, subst}
 use Rattle.ion_streams.specs.reading.Read.{left_of, Reads, ReadsEach}
 use Rattle.ion_streams.specs.reading.Standing.{GaveNext}
 use Rattle.ion_streams.proofs.Steps.{gave_so_far, last_gives, last_refused, on_err}
