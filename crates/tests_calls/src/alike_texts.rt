@@ -1,4 +1,5 @@
-//! Items at the fronts of two texts, taken up at once where they have the same octets.
+//! Items at the fronts of two texts, taken up at once where they have the same octets or are the
+//! same symbol.
 ghost use Rattle.std.specs.Prelude.{◌≡◌};
 
 use crate::answers::same;
@@ -48,19 +49,23 @@ fn taken_up(alloc: Global, catalog: &Catalog, other_limits: Limits, row: &Row) -
     taken
 }
 
-static ROWS: [Row; 13] = [
+static ROWS: [Row; 15] = [
     // containers and short strings of equal octets, behind any blank
     (b"[1,true]", b"[1,true]", Some((8, 8))),
     (b" {a:1} 2", b"{a:1}", Some((6, 5))),
     (b"\n(+ b)", b"  \t(+ b)", Some((6, 8))),
     (b"\"ab\"", b"\"ab\"\"ab\"", Some((4, 4))),
     (b"a::'b c'::[d]", b"a::'b c'::[d]", Some((13, 13))),
+    // numbers of equal octets and equal symbols, with the blank behind a symbol; the next octet
+    // shows their end
+    (b"1 ", b"1 ", Some((1, 1))),
+    (b"a b", b"'a' b", Some((2, 4))),
     // other octets, also where the values are the same
     (b"\"ab\"", b"\"ac\"", None),
     (b"[1]", b"[1 ]", None),
     (b"{a:1,b:2}", b"{b:2,a:1}", None),
-    // what ends before the octet behind it, isn't whole, or goes by symbol tables
-    (b"1 ", b"1 ", None),
+    (b"1 ", b"2 ", None),
+    // what isn't whole, or goes by symbol tables
     (b"a ", b"a ", None),
     (b"[1", b"[1", None),
     (b"[$4]", b"[$4]", None),
