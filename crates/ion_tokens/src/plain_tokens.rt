@@ -151,7 +151,8 @@ pub fn quoted_symbol(octets: &[u8]) -> Option<usize>
     Some(count + 2)
 }
 
-/// The same of a segment of a long string, without carriage returns and quotes, too.
+/// How many octets the segment of a long string at the front has, quotes and all, if its characters
+/// stand as they are, without escapes, single quotes and carriage returns.
 pub fn long_segment(octets: &[u8]) -> Option<usize>
     ensures found { IfSome result (λ count. (place : Place) (rest : Rest) →
         IsFound place rest octets.now TokenKind.LongString

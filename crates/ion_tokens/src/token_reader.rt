@@ -50,7 +50,7 @@ impl TokenReader {
         }
     }
 
-    /// What it takes its memory of.
+    /// What it takes its memory from.
     pub fn alloc(&self) -> Global
         ensures { result ≡ self.now.machine.alloc }
     {
