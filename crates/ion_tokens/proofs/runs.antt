@@ -10,4 +10,5 @@ pub mod Moved
 pub mod Runs
 pub mod Scans
 pub mod Splits
+pub mod WholeComments
 pub mod WholeTokens

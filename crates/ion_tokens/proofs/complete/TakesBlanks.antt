@@ -128,14 +128,22 @@ block_moves p (o ∷ os) star h = ⊎_elim (λ i. starred i (block_moves p os tr
         (block_one p star true 42 (λ c. block_star p star c))
         (f (goes_star star os (subst (λ (x : ℕ). GoesOn star (x ∷ os)) i h))))
 
+-- a line comment leads from its first slash back to a blank
+pub line_opens : (p : Place) (colon : Bool) (os : List ℕ) (last : ℕ) → HasNoLineEnd os → is_line_end last ≡ true
+    → Opens p colon (codes "//" ++ os ++ last ∷ []) modes.Blank []
+line_opens p colon os last h e = opens_then p colon (codes "//" ++ os) (last ∷ []) modes.LineComment modes.Blank [] []
+    (opens_then p colon (codes "//") os modes.LineComment modes.LineComment [] [] (opens_line p colon) (line_moves p os h))
+    (moves_one p modes.LineComment last [] modes.Blank keeps.Nothing (λ s u. refl) (λ c. line_ends last e c p))
+
+-- a block comment, too
+pub block_opens : (p : Place) (colon : Bool) (os : List ℕ) → HasNoClose os → Opens p colon (codes "/*" ++ os ++ codes "*/") modes.Blank []
+block_opens p colon os h = opens_then p colon (codes "/*") (os ++ codes "*/") modes.BlockComment modes.Blank [] [] (opens_block p colon)
+    (block_moves p os false h)
+
 passes_piece : (p : Place) (colon : Bool) (b : BlankPiece) → IsBlankPiece b → PassesBlank p colon (blank_spelling b)
 passes_piece p colon (White o) h = passes_white p colon o h
-passes_piece p colon (LineComment os last) h = passes_opened p colon (codes "//" ++ os ++ last ∷ [])
-    (opens_then p colon (codes "//" ++ os) (last ∷ []) modes.LineComment modes.Blank [] []
-    (opens_then p colon (codes "//") os modes.LineComment modes.LineComment [] [] (opens_line p colon) (line_moves p os h.0))
-    (moves_one p modes.LineComment last [] modes.Blank keeps.Nothing (λ s u. refl) (λ c. line_ends last h.1 c p)))
-passes_piece p colon (BlockComment os) h = passes_opened p colon (codes "/*" ++ os ++ codes "*/")
-    (opens_then p colon (codes "/*") (os ++ codes "*/") modes.BlockComment modes.Blank [] [] (opens_block p colon) (block_moves p os false h))
+passes_piece p colon (LineComment os last) h = passes_opened p colon (codes "//" ++ os ++ last ∷ []) (line_opens p colon os last h.0 h.1)
+passes_piece p colon (BlockComment os) h = passes_opened p colon (codes "/*" ++ os ++ codes "*/") (block_opens p colon os h)
 
 passes_pieces : (p : Place) (colon : Bool) (bs : List BlankPiece) → AllByRecursion IsBlankPiece bs → PassesBlank p colon (flat_map blank_spelling bs)
 passes_pieces p colon [] h = passes_none p colon

@@ -114,7 +114,8 @@ front_within class octets n e = let is = front_length class octets n e in let l 
 pub front_each : (class : ℕ → Bool) (octets : List ℕ) (n : ℕ) → n ≡ length (take_while class octets) → Each class (take n octets)
 front_each class octets n e = subst (λ l. Each class l) (sym (front_all class octets n e)) (each_front class octets)
 
-front_stops : (class : ℕ → Bool) (octets : List ℕ) (n : ℕ) → n ≡ length (take_while class octets) → n < length octets → class (slice_index octets n) ≡ false
+-- the octet behind those that were counted is none of the class
+pub front_stops : (class : ℕ → Bool) (octets : List ℕ) (n : ℕ) → n ≡ length (take_while class octets) → n < length octets → class (slice_index octets n) ≡ false
 front_stops class octets n e more =
     let is = front_length class octets n e in
     subst (λ (i : ℕ). class (slice_index octets i) ≡ false) (sym is) (prefix_len_stops class octets 0 (omega arith))

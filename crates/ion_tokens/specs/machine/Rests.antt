@@ -1,5 +1,5 @@
 -- Blanks and tokens that lie whole in memory, read where a scanner rests.
-use Rattle.std.specs.Prelude.{◌≡◌, ℕ, ◌+◌, ◌-◌, ◌<◌, ◌==◌, Bool, true, false, if◌then◌else◌, List, [], ◌∷◌, length, take, slice_index}
+use Rattle.std.specs.Prelude.{◌≡◌, ℕ, ◌+◌, ◌-◌, ◌≤◌, ◌<◌, ◌==◌, Bool, true, false, if◌then◌else◌, List, [], ◌∷◌, length, take, slice_index}
 use Rattle.ion_tokens.specs.declared.mode.Place.{Place}
 use Rattle.ion_tokens.specs.declared.mode.Mode.TheVariants as modes
 use Rattle.ion_tokens.specs.declared.mode.TokenKind.{TokenKind}
@@ -41,6 +41,16 @@ left_after false n octets = []
 -- Octets begin with so many of a blank.
 abbrev pub IsPassed : List ℕ → ℕ → Type 0
 IsPassed octets n = (p : Place) (r : Rest) → run p (take n octets) (resting r) ≡ Next (resting (past_blank r n))
+
+-- Octets begin with so many of a blank, comments among them: where a scanner rested before it, and where it rests behind it.
+pub record RestsBehind (octets : List ℕ) (n : ℕ) (before after : Rest) : Type 0 where
+  pub ran : (p : Place) → run p (take n octets) (resting before) ≡ Next (resting after)
+  pub within : n ≤ length octets
+  pub used : after.used ≡ before.used + n
+
+-- behind a comment of so many octets
+abbrev pub past_comment : Rest → ℕ → Rest
+past_comment r n = record { start = r.used; used = r.used + n; colon = r.colon }
 
 -- In this place, where the scanner rests, octets begin with a token of n octets, of which these are kept, and its end shows in them:
 -- by the octet behind it, which is left, or by its last.

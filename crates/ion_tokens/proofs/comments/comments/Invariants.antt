@@ -1,0 +1,7 @@
+use Rattle.std.proofs.Common.{◌+◌}
+use Rattle.ion_tokens.specs.machine.Rests.{RestsBehind}
+use Rattle.ion_tokens.proofs.comments.comments.Given as goal
+
+-- behind the octets before `at` the scanner rests there
+abbrev pub invariant-loop : goal.invariant-loop
+invariant-loop l = RestsBehind l.octets l.at l.fn.rest l.behind
