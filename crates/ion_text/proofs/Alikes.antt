@@ -9,7 +9,7 @@ use Rattle.ion_symtab.specs.declared.catalog.Catalog.{Catalog}
 use Rattle.ion_tokens.specs.declared.mode.Mode.TheVariants as modes
 use Rattle.ion_tokens.specs.declared.scanner.Scanner.{Scanner}
 use Rattle.ion_tokens.specs.declared.plain_tokens.Rest.{Rest}
-use Rattle.ion_tokens.specs.machine.Rests.{resting}
+use Rattle.ion_tokens.specs.machine.Rests.{resting, RestsBehind}
 use Rattle.ion_tokens.specs.machine.Views.{scanned, failure}
 use Rattle.ion_text.specs.declared.reader.TextReader.{TextReader}
 use Rattle.ion_text.specs.declared.state.Now.TheVariants as nows
@@ -82,7 +82,7 @@ module _ (old : TextReader) (piece item : List ℕ) (blank count : ℕ) (rest be
       (Ok (record { used = blank + count; value = Some x })) None (state_of (gone_on old moved old.beside))) t.gives
       (top_advances old moved old.beside old.limits.depth item count t.first t.last t.walked f.before piece blank (min (length piece - blank) old.limits.item)
       f.fresh (there ∙ ap resting (sym t.ends))
-      is f.within f.few (omega arith) (omega arith) f.passed (t.begins ∙ f.rests) (omega arith))
+      is f.within f.few (omega arith) (omega arith) (subst (λ r. RestsBehind piece blank f.before r) (sym t.begins) f.rests) (omega arith))
 
 -- behind a number or a symbol the octet comes again
 module _ (old : TextReader) (piece item : List ℕ) (blank count : ℕ) (rest behind : Rest) (q : Payload) (f : IsFront old piece blank rest)
@@ -103,8 +103,7 @@ module _ (old : TextReader) (piece item : List ℕ) (blank count : ℕ) (rest be
         inside = f.within;
         before = f.few;
         few = omega arith;
-        passed = f.passed;
-        begins = f.rests;
+        rests = f.rests;
         level = refl;
         none = refl;
       }

@@ -114,7 +114,7 @@ left_advances old moved piece item n count begun after v a w there =
     let known = state_there old (scanned old.scanner) rest old.start a.fresh.rests a.fresh.top a.fresh.bare a.fresh.ready in
     let behind = state_there old (scanned moved) after 0 there a.fresh.top a.fresh.bare a.fresh.ready in
     let used : (scanned old.scanner).used ≡ rest.used = ap (λ (s : Known). s.used) a.fresh.rests in
-    let begins : begun.rest.used ≡ rest.used + n = ap (λ (r : Rest). r.used) a.begins ∙ blank_used rest n in
+    let begins = a.rests.used in
     let some = w.some in
     let more = w.within in
     let inside = a.inside in
@@ -123,9 +123,7 @@ left_advances old moved piece item n count begun after v a w there =
     let drops = length-drop n piece in
     let short : count < a.most = omega arith in
     let x = w.leaves g l old.start old.context a.few in
-    let up_to : Passes g l first piece n mid =
-    subst (λ r. Passes g l first piece n (rested r old.start old.context [] [] nows.Ready)) (sym a.begins)
-    (top_blank g l old.start old.context [] rest piece n inside (omega arith) a.passed) in
+    let up_to : Passes g l first piece n mid = top_blank g l old.start old.context [] rest begun.rest piece n (omega arith) a.rests in
     let to_item : take count (drop n piece) ≡ take count item = sym (front count a.most (drop n piece) (omega arith)) ∙ ap (take count) (sym a.is) in
     let ran : run g l rest.used first (take (n + count) piece) ≡ led x.0 =
     passes_then g l first mid piece n count some up_to ∙ (ap (run g l begun.rest.used mid) to_item ∙ x.1) in

@@ -29,7 +29,7 @@ use Rattle.ion_tokens.specs.declared.token_reader.TokenReader.{TokenReader}
 use Rattle.ion_tokens.specs.declared.scanner.Scanner.{Scanner}
 use Rattle.ion_tokens.specs.declared.plain_tokens.Rest.{Rest}
 use Rattle.ion_tokens.specs.Bodies.{Content, Mark'}
-use Rattle.ion_tokens.specs.machine.Rests.{resting, past_blank, past_token, lexeme_at, IsPassed, IsFound}
+use Rattle.ion_tokens.specs.machine.Rests.{resting, past_token, lexeme_at, IsPassed, IsFound, RestsBehind}
 use Rattle.ion_tokens.specs.machine.Said.{said}
 use Rattle.ion_tokens.specs.machine.Scanning.{Known, feed}
 use Rattle.ion_tokens.specs.machine.Scanning as scanning
@@ -49,7 +49,7 @@ use Rattle.ion_text.specs.machine.Pieces.{led, drive, go_on, Quiet}
 use Rattle.ion_text.specs.machine.Progress.{Advances, Stands, resumed}
 use Rattle.ion_text.specs.machine.Run.{State, Effect, Run, uses, fails, tells, leaves, eats, takes, once_more, on_scan, on_said, behind_given, unsettled, reaches, longest_top, is_long_begun, token_of, run, run_on, with_scan}
 use Rattle.ion_text.specs.machine.Views.{state_of, open_frames, with_beside, base}
-use Rattle.ion_text.specs.machine.Walked.{behind_note, IsFresh, most, rested, FoundNote, FoundScalar, GivesTop, LeadsPast, Walked, WalkedBare, WalkedContainer, WalkedItem, WalkedNote, WalkedNotes, WalkedTop}
+use Rattle.ion_text.specs.machine.Walked.{behind_note, IsFresh, OnlyRests, most, rested, FoundNote, FoundScalar, GivesTop, LeadsPast, Walked, WalkedBare, WalkedContainer, WalkedItem, WalkedNote, WalkedNotes, WalkedTop}
 use Rattle.ion_text.specs.machine.FrontTokens.{held_of, EndsAtOnce, IsValue}
 use Rattle.ion_text.proofs.Arms.{left_found, given_found, mark_says, at_drop, blank_used}
 use Rattle.ion_text.proofs.Nested.{is_open_left, open_found, close_found, closing}
@@ -59,9 +59,14 @@ use Rattle.ion_text.proofs.Striding.{still_settles}
 use Rattle.ion_text.proofs.Symbols.{held_in, symbol_held, note_passes, noted_passes, waits_so}
 use Rattle.ion_text.proofs.Walking.{found_within, open_goes, up_to_close, container_noted}
 
--- a blank at the front of octets
-pub passed_of : (piece front : List ℕ) (n k : ℕ) → front ≡ take k piece → n ≤ k → IsPassed front n → IsPassed piece n
-passed_of piece front n k is few passed = λ p r. ap (λ w. scanning.run p w (resting r)) (same ∙ ap (take n) (sym is)) ∙ passed p r
+-- a blank at the front of octets, of which more follow
+pub rests_of : (piece front : List ℕ) (n k : ℕ) (before after : Rest) → front ≡ take k piece → n ≤ k → n ≤ length piece → RestsBehind front n before after
+    → RestsBehind piece n before after
+rests_of piece front n k before after is few within h = record {
+  ran = λ p. ap (λ w. scanning.run p w (resting before)) (same ∙ ap (take n) (sym is)) ∙ h.ran p;
+  within = within;
+  used = h.used;
+}
   where
     same : take n piece ≡ take n (take k piece)
     same = grind (arith, common_steps)
@@ -162,12 +167,12 @@ module _ (g : Catalog) (l : Limits) (start : ℕ) (c : List Slot) (ss : Symbols)
       let is = base_begun start rest.used ss in
       quiet_within g l on_top rest.used tt places.Top (take n octets) (resting rest) (omega arith) (omega arith) (omega arith)
 
-  pub top_blank : (rest : Rest) (piece : List ℕ) (n : ℕ) → n ≤ length piece → rest.used + n ≤ l.item + begin rest.used → IsPassed piece n
-      → Passes g l (rested rest start c [] ss nows.Ready) piece n (rested (past_blank rest n) start c [] ss nows.Ready)
-  top_blank rest piece n within room passed =
-      passes_led g l (rested rest start c [] ss nows.Ready) (rested (past_blank rest n) start c [] ss nows.Ready) piece n within (blank_used rest n)
-      (drive g l (take n piece) rest.used on_top (resting rest) (resting (past_blank rest n)) (passed places.Top rest) (top_quiet rest piece n within room)
-      (inl refl))
+  pub top_blank : (rest behind : Rest) (piece : List ℕ) (n : ℕ) → rest.used + n ≤ l.item + begin rest.used → RestsBehind piece n rest behind
+      → Passes g l (rested rest start c [] ss nows.Ready) piece n (rested behind start c [] ss nows.Ready)
+  top_blank rest behind piece n room h =
+      let within = h.within in
+      passes_led g l (rested rest start c [] ss nows.Ready) (rested behind start c [] ss nows.Ready) piece n within h.used
+      (drive g l (take n piece) rest.used on_top (resting rest) (resting behind) (h.ran places.Top) (top_quiet rest piece n within room) (inl refl))
 
   -- a container opens
   abbrev behind_open : Rest → Bracket → Reading
@@ -303,13 +308,13 @@ noted_notices l start c ss x s idle few =
     reach (y ∷ ss) = ap (λ b. longest_top start s.used nows.Ready (y ∷ (ss ++ x ∷ [])) b (is_long_begun b)) none
 
 -- a blank, wherever a value may come
-any_blank : (g : Catalog) (l : Limits) (start : ℕ) (c : List Slot) (fs : List Frame) (ss : Symbols) (rest : Rest) (piece : List ℕ) (n : ℕ)
-    → n ≤ length piece → rest.used + n ≤ l.item + begun_at start rest.used fs ss → IsPassed piece n
-    → Passes g l (rested rest start c fs ss nows.Ready) piece n (rested (past_blank rest n) start c fs ss nows.Ready)
-any_blank g l start c [] ss rest piece n within room passed = top_blank g l start c ss rest piece n within room passed
-any_blank g l start c (f ∷ fs) ss rest piece n within room passed =
+any_blank : (g : Catalog) (l : Limits) (start : ℕ) (c : List Slot) (fs : List Frame) (ss : Symbols) (rest behind : Rest) (piece : List ℕ) (n : ℕ)
+    → rest.used + n ≤ l.item + begun_at start rest.used fs ss → RestsBehind piece n rest behind
+    → Passes g l (rested rest start c fs ss nows.Ready) piece n (rested behind start c fs ss nows.Ready)
+any_blank g l start c [] ss rest behind piece n room h = top_blank g l start c ss rest behind piece n room h
+any_blank g l start c (f ∷ fs) ss rest behind piece n room h =
     let r = at start c (f ∷ fs) ss nows.Ready in
-    passes_blank g l r (l.item + start) (inner_notices l r refl) (resting rest) (resting (past_blank rest n)) piece n within refl refl (passed (place r) rest)
+    passes_blank g l r (l.item + start) (inner_notices l r refl) (resting rest) (resting behind) piece n h.within refl refl (h.ran (place r))
     (omega arith) (still_settles g l r tt)
 
 -- an annotation, wherever a value may come
@@ -342,32 +347,36 @@ module _ (octets : List ℕ) (token : FoundToken) (f : FoundNote octets token) (
 
   -- with a blank behind it, and what is noted
   pub walked_note : (p : Place) (before mid after : Tally) (n : ℕ) (known_behind : List ℕ) → known_behind ≡ drop (token.count + m + 2) octets
-      → n ≤ length known_behind → IsPassed known_behind n
       → mid ≡ record { kind = before.kind; level = before.level; nodes = min (before.nodes + 1) most; rest = behind_note p before.rest token m }
-      → after ≡ record { kind = mid.kind; level = mid.level; nodes = mid.nodes; rest = past_blank mid.rest n }
+      → RestsBehind known_behind n mid.rest after.rest → OnlyRests mid after
       → (w : WalkedNote p octets (token.count + m + 2 + n) before after) × (w.name ≡ f.name)
-  walked_note p before mid after n known_behind is few blank em ea =
+  walked_note p before mid after n known_behind is em blank ea =
+      let there = behind_note p before.rest token m in
       let size : length known_behind ≡ length octets - (token.count + m + 2) = ap (λ (w : List ℕ). length w) is ∙ length-drop (token.count + m + 2) octets in
       let counted = note_used p before.rest in
-      let last = blank_used (behind_note p before.rest token m) n in
-      rw (ea, em) (
+      let few = blank.within in
+      let begins : mid.rest ≡ there = ap (λ (t : Tally). t.rest) em in
+      let ends = blank.used in
+      let used : mid.rest.used ≡ there.used = ap (λ (r : Rest). r.used) begins in
+      let nodes_mid : mid.nodes ≡ min (before.nodes + 1) most = ap (λ (t : Tally). t.nodes) em in
+      let nodes_after : after.nodes ≡ mid.nodes = ap (λ (t : Tally). t.nodes) ea in (
         record {
           name = f.name;
           leads = λ g l start c fs ss here room.
               let start' = begun_at start before.rest.used fs ss in
-              let there = behind_note p before.rest token m in
               let same = begun_more start' there.used fs ss f.name in
               passes_on g l (rested before.rest start c fs ss nows.Ready) (rested there start' c fs (ss ++ f.name ∷ []) nows.Ready)
-              (rested (past_blank there n) start' c fs (ss ++ f.name ∷ []) nows.Ready) octets (token.count + m + 2) n
+              (rested after.rest start' c fs (ss ++ f.name ∷ []) nows.Ready) octets (token.count + m + 2) n
               (subst (λ p. Passes g l (rested before.rest start c fs ss nows.Ready) octets (token.count + m + 2)
               (rested (behind_note p before.rest token m) start' c fs (ss ++ f.name ∷ []) nows.Ready)) here (note_leads g l start c fs ss before.rest room))
               (subst (λ w. Passes g l (rested there start' c fs (ss ++ f.name ∷ []) nows.Ready) w n
-              (rested (past_blank there n) start' c fs (ss ++ f.name ∷ []) nows.Ready)) is
-              (any_blank g l start' c fs (ss ++ f.name ∷ []) there known_behind n few (omega arith) blank));
+              (rested after.rest start' c fs (ss ++ f.name ∷ []) nows.Ready)) is
+              (any_blank g l start' c fs (ss ++ f.name ∷ []) there after.rest known_behind n (omega arith)
+              (subst (λ r. RestsBehind known_behind n r after.rest) begins blank)));
           within = omega arith;
           used = omega arith;
           free = f.free;
-          left = refl;
+          left = ap (λ (t : Tally). t.level) ea ∙ ap (λ (t : Tally). t.level) em;
           counted = omega arith;
         },
         refl,
@@ -591,20 +600,19 @@ outlined level item count before after w low none levels =
 -- with the blank before it
 module _ (g : Catalog) (l : Limits) (level : ℕ) (item : List ℕ) (count : ℕ) (before after : Tally) (w : WalkedTop level item count before after) (s : ℕ)
     (c : List Slot) (rest : Rest) (piece : List ℕ) (n k : ℕ) (is : item ≡ take k (drop n piece)) (inside : n ≤ length piece)
-    (blank : n ≤ l.item) (few : length item ≤ l.item) (size : length item ≡ min k (length piece - n)) (passed : IsPassed piece n)
-    (begins : before.rest ≡ past_blank rest n) (deep : level ≤ l.depth) where
+    (blank : n ≤ l.item) (few : length item ≤ l.item) (size : length item ≡ min k (length piece - n)) (rests : RestsBehind piece n rest before.rest)
+    (deep : level ≤ l.depth) where
   pub top_runs : (n + count ≤ length piece) × ((0 < n + count)
       × (run g l rest.used (rested rest s c [] [] nows.Ready) (take (n + count) piece)
       ≡ record { given = (w.value, rest.used + (n + count)) ∷ []; now = Ok (rested after.rest 0 c [] [] nows.Ready) }))
   top_runs =
       let some = w.some in
       let fits = w.within in
-      let used : before.rest.used ≡ rest.used + n = ap (λ (r : Rest). r.used) begins ∙ blank_used rest n in
+      let used = rests.used in
       let total : before.rest.used + count ≡ rest.used + (n + count) = omega arith in
       let to_item : take count (drop n piece) ≡ take count item = sym (front (drop n piece) (omega (arith, size))) ∙ ap (take count) (sym is) in
       let up_to : Passes g l (rested rest s c [] [] nows.Ready) piece n (rested before.rest s c [] [] nows.Ready) =
-      subst (λ r. Passes g l (rested rest s c [] [] nows.Ready) piece n (rested r s c [] [] nows.Ready)) (sym begins)
-      (top_blank g l s c [] rest piece n inside (omega arith) passed) in (
+      top_blank g l s c [] rest before.rest piece n (omega arith) rests in (
         omega (arith, size),
         (
           omega arith,
@@ -671,12 +679,11 @@ state_there r s rest begin e1 e2 e3 e4 = states s (resting rest) begin (open_fra
 pub top_advances : (old : TextReader) (moved : Scanner) (b : TokenReader) (level : ℕ) (item : List ℕ) (count : ℕ) (before after : Tally)
     (w : WalkedTop level item count before after) (rest : Rest) (piece : List ℕ) (n k : ℕ)
     → IsFresh old rest → scanned moved ≡ resting after.rest → item ≡ take k (drop n piece) → n ≤ length piece → n ≤ old.limits.item
-    → length item ≤ old.limits.item → length item ≡ min k (length piece - n) → IsPassed piece n → before.rest ≡ past_blank rest n → level ≤ old.limits.depth
+    → length item ≤ old.limits.item → length item ≡ min k (length piece - n) → RestsBehind piece n rest before.rest → level ≤ old.limits.depth
     → Advances old.catalog.now old.limits (is_some old.awaited) (scanned old.scanner).used (state_of old) piece
     (Ok (record { used = n + count; value = Some w.value })) None (state_of (gone_on old moved b))
-top_advances old moved b level item count before after w rest piece n k h there is within blank few size passed from deep =
-    let x = top_runs old.catalog.now old.limits level item count before after w old.start old.context rest piece n k is within blank few size passed from
-    deep in
+top_advances old moved b level item count before after w rest piece n k h there is within blank few size rests deep =
+    let x = top_runs old.catalog.now old.limits level item count before after w old.start old.context rest piece n k is within blank few size rests deep in
     let a : state_of old ≡ rested rest old.start old.context [] [] nows.Ready =
     state_there old (scanned old.scanner) rest old.start h.rests h.top h.bare h.ready in
     let e : state_of (gone_on old moved b) ≡ rested after.rest 0 old.context [] [] nows.Ready =

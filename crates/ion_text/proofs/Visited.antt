@@ -112,29 +112,29 @@ module _ {S M : Type 0} (h : Visits S M) where
       record { walked = walked_bare level octets n before after bracket w.walked more opens low; visited = w.visited }
 
   -- up to the close
-  module _ (level : ℕ) (octets rest : List ℕ) (at : ℕ) (before now : Tally) (is : rest ≡ drop at octets) (some : 0 < length rest) (a b : S) where
+  module _ (level : ℕ) (octets : List ℕ) (at : ℕ) (before now : Tally) (inside : at < length octets) (a b : S) where
     -- up to the `]` the elements that were visited are those of the list
-    pub list_visited : (vs : List Value) (behind : Bool) → ListGone level octets at before now vs behind → get_or rest 0 0 ≡ 93 → VisitedItems h vs a b
+    pub list_visited : (vs : List Value) (behind : Bool) → ListGone level octets at before now vs behind → get_or octets at 0 ≡ 93 → VisitedItems h vs a b
         → VisitedInside h brackets.List level octets at before now a b
     unfolding list_inside inside_by
     list_visited vs behind x e v = record {
-      walked = list_inside level octets rest at before now is some vs behind x e;
+      walked = list_inside level octets at before now inside vs behind x e;
       visited =
           λ k x y o c. in_list vs k x a b y o v c;
     }
 
     -- up to the `)` the elements that were visited are those of the s-expression
-    pub sexp_visited : (vs : List Value) → SexpGone level octets at before now vs → get_or rest 0 0 ≡ 41 → VisitedItems h vs a b
+    pub sexp_visited : (vs : List Value) → SexpGone level octets at before now vs → get_or octets at 0 ≡ 41 → VisitedItems h vs a b
         → VisitedInside h brackets.Sexp level octets at before now a b
     unfolding sexp_inside inside_by
-    sexp_visited vs x e v = record { walked = sexp_inside level octets rest at before now is some vs x e; visited = λ k x y o c. in_sexp vs k x a b y o v c }
+    sexp_visited vs x e v = record { walked = sexp_inside level octets at before now inside vs x e; visited = λ k x y o c. in_sexp vs k x a b y o v c }
 
     -- up to the `}` the fields that were visited are those of the struct
-    pub fields_visited : (ms : List Field) (behind : Bool) → FieldsGone level octets at before now ms behind → get_or rest 0 0 ≡ 125 → VisitedFields h ms a b
+    pub fields_visited : (ms : List Field) (behind : Bool) → FieldsGone level octets at before now ms behind → get_or octets at 0 ≡ 125 → VisitedFields h ms a b
         → VisitedInside h brackets.Fields level octets at before now a b
     unfolding fields_inside inside_by
     fields_visited ms behind x e v = record {
-      walked = fields_inside level octets rest at before now is some ms behind x e;
+      walked = fields_inside level octets at before now inside ms behind x e;
       visited =
           λ k x y o c. in_struct ms k x a b y o v c;
     }

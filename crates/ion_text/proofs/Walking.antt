@@ -1,5 +1,5 @@
 -- The machine over octets of values that are gone over.
-use Rattle.std.proofs.Common.{◌≡◌, ◌≢◌, ℕ, suc, min, max, map, sum, ◌+◌, ◌-◌, ◌<◌, ◌≤◌, Bool, true, false, List, [], ◌∷◌, ◌++◌, length, take, drop, get_or, Option, Ok, refl, ap, sym, ◌∙◌, subst, arith, length-drop, ◌⊎◌, inl, inr}
+use Rattle.std.proofs.Common.{◌≡◌, ◌≢◌, ℕ, suc, min, max, map, sum, ◌+◌, ◌-◌, ◌<◌, ◌≤◌, Bool, true, false, List, [], ◌∷◌, ◌++◌, length, take, drop, get_or, Option, Ok, refl, ap, sym, ◌∙◌, subst, arith, length-drop, get_or-drop, ◌⊎◌, inl, inr}
 use Rattle.std.specs.Prelude.{if◌then◌else◌, nat_lt}
 use Rattle.std.specs.List.{sum_by}
 use Rattle.std.proofs.lemmas.List.Sums.{sum-map, sum_by-append, sum_by-cons}
@@ -25,7 +25,7 @@ use Rattle.ion_tokens.specs.declared.mode.TokenKind.TheVariants as kinds
 use Rattle.ion_tokens.specs.declared.plain_tokens.Rest.{Rest}
 use Rattle.ion_tokens.specs.Bodies.{Content, Mark'}
 use Rattle.ion_tokens.specs.Places.{is_name}
-use Rattle.ion_tokens.specs.machine.Rests.{resting, past_blank, past_token, lexeme_at, before_end, IsPassed, IsFound}
+use Rattle.ion_tokens.specs.machine.Rests.{resting, past_blank, past_token, lexeme_at, before_end, IsPassed, IsFound, RestsBehind}
 use Rattle.ion_tokens.specs.machine.Said.{said}
 use Rattle.ion_tokens.proofs.runs.WholeTokens.{comma_found}
 use Rattle.ion_text.specs.declared.reader.finders.Scalar.{Scalar}
@@ -44,7 +44,7 @@ use Rattle.ion_text.specs.machine.Pieces.{Quiet}
 use Rattle.ion_text.specs.machine.Nested.{bracket_in, open_mark, close_mark, OpensAt, closes, close_octet}
 use Rattle.ion_text.specs.machine.Views.{IsCalm}
 use Rattle.ion_text.specs.machine.AtOnce.{Passes, IsStill}
-use Rattle.ion_text.specs.machine.Walked.{behind_key, most, FoundScalar, FoundName, rested, Leads, LeadsBehind, Noted, Walked, WalkedItem, WalkedContainer, WalkedInside, WalkedName, kind_in}
+use Rattle.ion_text.specs.machine.Walked.{behind_key, most, Contents, holding, has_commas, now_within, place_within, OnlyRests, WalkedBetween, FoundScalar, FoundName, rested, Leads, LeadsBehind, Noted, Walked, WalkedItem, WalkedContainer, WalkedInside, WalkedName, kind_in}
 use Rattle.ion_text.specs.laws.reading.Brackets.{open_turns}
 use Rattle.ion_text.proofs.Arms.{StaysIn, ready_turns, ended_stays, left_passes, given_passes, mark_says, at_drop, blank_used}
 use Rattle.ion_text.proofs.Nested.{is_open_left, open_found, opened_stays, close_found, closing}
@@ -143,11 +143,12 @@ leads_on level a b d octets i j f h k m n o within used x y = λ g l start c ss 
     (x g l start c ss fs deep room) (y g l start c ss fs deep (omega arith))
 
 -- a blank
-pub blank_leads : (level : ℕ) (r : Rest) (octets : List ℕ) (n : ℕ) (f : Symbols → Frame) (now : Now) → IsPassed octets n → n ≤ length octets → IsStill now
-    → Leads level r octets n (past_blank r n) f now f now
-blank_leads level r octets n f now passed within still = λ g l start c ss fs deep room.
+pub blank_leads : (level : ℕ) (r behind : Rest) (octets : List ℕ) (n : ℕ) (f : Symbols → Frame) (now : Now) → RestsBehind octets n r behind → IsStill now
+    → Leads level r octets n behind f now f now
+blank_leads level r behind octets n f now h still = λ g l start c ss fs deep room.
     let q = at start c (f ss ∷ fs) [] now in
-    passes_blank g l q (l.item + q.start) (inner_notices l q refl) (resting r) (resting (past_blank r n)) octets n within refl refl (passed (place q) r)
+    let within = h.within in
+    passes_blank g l q (l.item + q.start) (inner_notices l q refl) (resting r) (resting behind) octets n within refl refl (h.ran (place q))
     (omega arith) (still_settles g l q still)
 
 -- a field's name and its colon
@@ -165,60 +166,122 @@ module _ (rest : Rest) (octets : List ℕ) (token : FoundToken) (f : FoundName r
   key_used = let used = blank_used (past_token places.Name rest token.kind token.count) m in omega arith
 
   -- with a blank behind it, and what is noted
-  pub walked_name : (before mid after : Tally) (n : ℕ) (behind : List ℕ) → before.rest ≡ rest → behind ≡ drop (token.count + m + 1) octets → n ≤ length behind
-      → IsPassed behind n
+  pub walked_name : (before mid after : Tally) (n : ℕ) (behind : List ℕ) → before.rest ≡ rest → behind ≡ drop (token.count + m + 1) octets
       → mid ≡ record { kind = before.kind; level = before.level; nodes = min (before.nodes + 1) most; rest = (behind_key rest token m) }
-      → after ≡ record { kind = mid.kind; level = mid.level; nodes = mid.nodes; rest = past_blank mid.rest n }
+      → RestsBehind behind n mid.rest after.rest → OnlyRests mid after
       → (w : WalkedName octets (token.count + m + 1 + n) before after) × (w.name ≡ f.name)
-  walked_name before mid after n behind same is few blank em ea =
+  walked_name before mid after n behind same is em blank ea =
       let size : length behind ≡ length octets - (token.count + m + 1) = ap (λ (w : List ℕ). length w) is ∙ length-drop (token.count + m + 1) octets in
       let begun : before.rest.used ≡ rest.used = ap (λ (r : Rest). r.used) same in
       let counted = key_used in
-      let last = blank_used (behind_key rest token m) n in
-      rw (ea, em) (
+      let few = blank.within in
+      let ends = blank.used in
+      let begins : mid.rest ≡ behind_key rest token m = ap (λ (t : Tally). t.rest) em in
+      let used : mid.rest.used ≡ (behind_key rest token m).used = ap (λ (r : Rest). r.used) begins in
+      let nodes_mid : mid.nodes ≡ min (before.nodes + 1) most = ap (λ (t : Tally). t.nodes) em in
+      let nodes_after : after.nodes ≡ mid.nodes = ap (λ (t : Tally). t.nodes) ea in (
         record {
           name = f.name;
           leads = λ level ms.
-              subst (λ r. Leads level r octets (token.count + m + 1 + n) (past_blank (behind_key rest token m) n) (λ ss. frames.Fields ss ms) nows.Name
+              subst (λ r. Leads level r octets (token.count + m + 1 + n) after.rest (λ ss. frames.Fields ss ms) nows.Name
               (λ ss. frames.Named ss ms f.name) nows.Ready) (sym same)
-              (leads_on level rest (behind_key rest token m) (past_blank (behind_key rest token m) n) octets (token.count + m + 1) n (λ ss. frames.Fields ss ms)
+              (leads_on level rest (behind_key rest token m) after.rest octets (token.count + m + 1) n (λ ss. frames.Fields ss ms)
               (λ ss. frames.Named ss ms f.name) (λ ss. frames.Named ss ms f.name) nows.Name nows.Ready nows.Ready (omega arith) counted
               (key_leads level ms)
-              (subst (λ w. Leads level (behind_key rest token m) w n (past_blank (behind_key rest token m) n) (λ ss. frames.Named ss ms f.name) nows.Ready
+              (subst (λ w. Leads level (behind_key rest token m) w n after.rest (λ ss. frames.Named ss ms f.name) nows.Ready
               (λ ss. frames.Named ss ms f.name) nows.Ready) is
-              (blank_leads level (behind_key rest token m) behind n (λ ss. frames.Named ss ms f.name) nows.Ready blank few tt)));
+              (blank_leads level (behind_key rest token m) after.rest behind n (λ ss. frames.Named ss ms f.name) nows.Ready
+              (subst (λ r. RestsBehind behind n r after.rest) begins blank) tt)));
           within = omega arith;
           used = omega arith;
-          left = refl;
+          left = ap (λ (t : Tally). t.level) ea ∙ ap (λ (t : Tally). t.level) em;
           counted = omega arith;
         },
         refl,
       )
 
--- commas
+-- what stands between the items of a container
 
-pub list_comma : (level : ℕ) (r : Rest) (octets : List ℕ) (vs : List Value) → 0 < length octets → get_or octets 0 0 ≡ 44
-    → Leads level r octets 1 (past_token places.List r (kinds.Mark marks.Comma) 1) (λ ss. frames.Items listings.List ss vs) nows.After
-    (λ ss. frames.Items listings.List ss vs) nows.Ready
-list_comma level r octets vs some first = λ g l start c ss fs deep room.
+-- there nothing waits
+still_within : (bracket : Bracket) (behind : Bool) → IsStill (now_within bracket behind)
+still_within brackets.List true = tt
+still_within brackets.List false = tt
+still_within brackets.Sexp behind = tt
+still_within brackets.Fields true = tt
+still_within brackets.Fields false = tt
+
+-- a comma
+comma_leads : (bracket : Bracket) → has_commas bracket ≡ true → (level : ℕ) (r : Rest) (octets : List ℕ) (x : Contents bracket) → 0 < length octets
+    → get_or octets 0 0 ≡ 44
+    → Leads level r octets 1 (past_token (place_within bracket) r (kinds.Mark marks.Comma) 1) (λ ss. holding bracket x ss) (now_within bracket true)
+    (λ ss. holding bracket x ss) (now_within bracket false)
+comma_leads brackets.List h level r octets vs some first = λ g l start c ss fs deep room.
     token_passes g l (at start c (frames.Items listings.List ss vs ∷ fs) [] nows.After) refl tt r octets (kinds.Mark marks.Comma) [] 1 (Mark' marks.Comma)
     (at start c (frames.Items listings.List ss vs ∷ fs) [] nows.Ready) (mark_says marks.Comma) refl room (refl, refl, tt)
     false (comma_found places.List r octets some first) (inr refl)
-
-pub field_comma : (level : ℕ) (r : Rest) (octets : List ℕ) (ms : List Field) → 0 < length octets → get_or octets 0 0 ≡ 44
-    → Leads level r octets 1 (past_token places.FieldValue r (kinds.Mark marks.Comma) 1) (λ ss. frames.Fields ss ms) nows.After (λ ss. frames.Fields ss ms)
-    nows.Name
-field_comma level r octets ms some first = λ g l start c ss fs deep room.
+comma_leads brackets.Sexp h level r octets vs some first = absurd cc
+comma_leads brackets.Fields h level r octets ms some first = λ g l start c ss fs deep room.
     token_passes g l (at start c (frames.Fields ss ms ∷ fs) [] nows.After) refl tt r octets (kinds.Mark marks.Comma) [] 1 (Mark' marks.Comma)
     (at start c (frames.Fields ss ms ∷ fs) [] nows.Name) (mark_says marks.Comma) refl room (refl, refl, tt)
     false (comma_found places.FieldValue r octets some first) (inr refl)
+
+-- a comma between items is gone over
+pub comma_between : (bracket : Bracket) (octets : List ℕ) (before after : Tally) → has_commas bracket ≡ true → 0 < length octets → get_or octets 0 0 ≡ 44
+    → after ≡ record {
+      kind = before.kind;
+      level = before.level;
+      nodes = before.nodes;
+      rest = past_token (place_within bracket) before.rest (kinds.Mark marks.Comma) 1;
+    } → WalkedBetween bracket true false octets 1 before after
+comma_between bracket octets before after commas some first e = rw e (
+    record {
+      leads = λ level x. comma_leads bracket commas level before.rest octets x some first;
+      within = omega arith;
+      used = refl;
+      noted = refl;
+    }
+    )
+
+-- a blank between items is gone over
+pub blank_between : (bracket : Bracket) (behind : Bool) (octets : List ℕ) (n : ℕ) (before after : Tally) → RestsBehind octets n before.rest after.rest
+    → OnlyRests before after → WalkedBetween bracket behind behind octets n before after
+blank_between bracket behind octets n before after h noted = record {
+  leads = λ level x. blank_leads level before.rest after.rest octets n (λ ss. holding bracket x ss) (now_within bracket behind) h (still_within bracket behind);
+  within = h.within;
+  used = h.used;
+  noted = noted;
+}
+
+-- one is gone over behind the other
+pub between_on : (bracket : Bracket) (a b d : Bool) (octets rest : List ℕ) (m n : ℕ) (before mid after : Tally) → rest ≡ drop m octets
+    → WalkedBetween bracket a b octets m before mid → WalkedBetween bracket b d rest n mid after → WalkedBetween bracket a d octets (m + n) before after
+between_on bracket a b d octets rest m n before mid after is x y =
+    let size : length rest ≡ length octets - m = ap (λ (w : List ℕ). length w) is ∙ length-drop m octets in
+    let within = x.within in
+    let within' = y.within in
+    let used = x.used in
+    let used' = y.used in
+    let both : OnlyRests before after = y.noted ∙ ap (λ (t : Tally). noted_at t after.rest) x.noted in
+    record {
+      leads = λ level c.
+          leads_on level before.rest mid.rest after.rest octets m n (λ ss. holding bracket c ss) (λ ss. holding bracket c ss) (λ ss. holding bracket c ss)
+          (now_within bracket a) (now_within bracket b) (now_within bracket d) within used (x.leads level c)
+          (subst (λ w. Leads level mid.rest w n after.rest (λ ss. holding bracket c ss) (now_within bracket b) (λ ss. holding bracket c ss)
+          (now_within bracket d)) is (y.leads level c));
+      within = omega arith;
+      used = omega arith;
+      noted = both;
+    }
+  where
+    noted_at : Tally → Rest → Tally
+    noted_at t r = record { kind = t.kind; level = t.level; nodes = t.nodes; rest = r }
 
 -- values in containers
 
 -- one without annotations
 unfoldable pub item_bare : (p : Place) (level : ℕ) (octets : List ℕ) (count : ℕ) (before after : Tally) → Walked p level octets count before after
     → WalkedItem p level octets count before after
-item_bare p level octets count before after w = record {
+item_bare p level octets n before after w = record {
   value = bare w.payload;
   leads = λ g l start c fs those n inner here deep room puts. w.leads g l start c [] fs those n inner here deep room puts;
   within = w.within;
@@ -412,44 +475,17 @@ module _ (bracket : Bracket) (level : ℕ) (octets rest : List ℕ) (at : ℕ) (
         counted = omega arith;
       }
 
-  -- over a blank
-  pub gone_blank : (next : Tally) (j : ℕ) → IsPassed rest j → j ≤ length rest → IsStill n
-      → next ≡ record { kind = now.kind; level = now.level; nodes = now.nodes; rest = past_blank now.rest j }
-      → Gone bracket level octets (at + j) before next h n deepest many
-  gone_blank next j passed within still e =
-      let low = gone_low in
-      let used = blank_used now.rest j in
-      rw e (gone_on (record { kind = now.kind; level = now.level; nodes = now.nodes; rest = past_blank now.rest j }) h n j 0 0 deepest many
-      (blank_leads level now.rest rest j h n passed within still) within used (omega arith) (omega arith) (omega arith) (omega arith) (omega arith))
-
 -- Elements of a list, and fields of a struct.
 
--- what may come in a list: behind an element a comma or the close, else an element or the close
-abbrev pub element_now : Bool → Now
-element_now true = nows.After
-element_now false = nows.Ready
-
--- what may come in a struct: behind a field a comma or the close, else a name or the close
-abbrev pub field_now : Bool → Now
-field_now true = nows.After
-field_now false = nows.Name
-
--- between the elements of a list nothing waits
-pub element_still : (b : Bool) → IsStill (element_now b)
-element_still true = tt
-element_still false = tt
-
--- between the fields of a struct nothing waits
-pub field_still : (b : Bool) → IsStill (field_now b)
-field_still true = tt
-field_still false = tt
-
+-- a list may close behind an element and behind a comma
 pub element_closes : (b : Bool) (ss : Symbols) (vs : List Value) (fs : List Frame) → closes brackets.List (frames.Items listings.List ss vs ∷ fs)
-    (element_now b) ≡ true
+    (now_within brackets.List b) ≡ true
 element_closes true ss vs fs = refl
 element_closes false ss vs fs = refl
 
-pub field_closes : (b : Bool) (ss : Symbols) (ms : List Field) (fs : List Frame) → closes brackets.Fields (frames.Fields ss ms ∷ fs) (field_now b) ≡ true
+-- so may a struct
+pub field_closes : (b : Bool) (ss : Symbols) (ms : List Field) (fs : List Frame) → closes brackets.Fields (frames.Fields ss ms ∷ fs) (now_within brackets.Fields b)
+    ≡ true
 field_closes true ss ms fs = refl
 field_closes false ss ms fs = refl
 
@@ -463,7 +499,7 @@ ItemsGone listing level octets at before now vs n = Gone (bracket_in listing) le
 
 -- so many octets behind the open of a list were gone over, and these are its elements so far
 abbrev pub ListGone : ℕ → List ℕ → ℕ → Tally → Tally → List Value → Bool → Type 0
-ListGone level octets at before now vs b = ItemsGone listings.List level octets at before now vs (element_now b)
+ListGone level octets at before now vs b = ItemsGone listings.List level octets at before now vs (now_within brackets.List b)
 
 -- so many octets behind the open of an s-expression were gone over, and these are its elements so far
 abbrev pub SexpGone : ℕ → List ℕ → ℕ → Tally → Tally → List Value → Type 0
@@ -471,7 +507,7 @@ SexpGone level octets at before now vs = ItemsGone listings.Sexp level octets at
 
 -- so many octets behind the open of a struct were gone over, and these are its fields so far
 abbrev pub FieldsGone : ℕ → List ℕ → ℕ → Tally → Tally → List Field → Bool → Type 0
-FieldsGone level octets at before now ms b = Gone brackets.Fields level octets at before now (λ ss. frames.Fields ss ms) (field_now b) (field_depths ms)
+FieldsGone level octets at before now ms b = Gone brackets.Fields level octets at before now (λ ss. frames.Fields ss ms) (now_within brackets.Fields b) (field_depths ms)
     (sum (map field_nodes ms))
 
 fields-more : (ms : List Field) (m : Field) → sum (map field_nodes (ms ++ m ∷ [])) ≡ sum (map field_nodes ms) + field_nodes m
@@ -494,35 +530,18 @@ module _ (level : ℕ) (octets rest : List ℕ) (at : ℕ) (before now next : Ta
       (item_value level rest j now next listing w vs) w.within w.used w.deep w.left w.counted (deepest-more vs w.value)
       (nodes-more vs w.value)
 
-  -- behind the comma in a list another element may come
-  pub list_comma_on : (vs : List Value) (x : ListGone level octets at before now vs true) → 0 < length rest → get_or rest 0 0 ≡ 44
-      → next ≡ record { kind = now.kind; level = now.level; nodes = now.nodes; rest = past_token places.List now.rest (kinds.Mark marks.Comma) 1 }
-      → ListGone level octets (at + 1) before next vs false
-  list_comma_on vs x some first e =
-      let low = gone_low brackets.List level octets rest at before now (λ ss. frames.Items listings.List ss vs) nows.After (depths vs) (sum (map nodes vs)) x
-      is in
-      let mid : Tally = record { kind = now.kind; level = now.level; nodes = now.nodes; rest = past_token places.List now.rest (kinds.Mark marks.Comma) 1 } in
-      rw e (gone_on brackets.List level octets rest at before now (λ ss. frames.Items listings.List ss vs) nows.After (depths vs) (sum (map nodes vs)) x is mid
-      (λ ss. frames.Items listings.List ss vs) nows.Ready 1 0 0 (depths vs) (sum (map nodes vs))
-      (list_comma level now.rest rest vs some first) (omega arith) refl (omega arith) (omega arith) (omega arith) (omega arith) (omega arith))
-
-  -- behind the comma in a struct another field may come
-  pub field_comma_on : (ms : List Field) (x : FieldsGone level octets at before now ms true) → 0 < length rest → get_or rest 0 0 ≡ 44
-      → next ≡ record { kind = now.kind; level = now.level; nodes = now.nodes; rest = past_token places.FieldValue now.rest (kinds.Mark marks.Comma) 1 }
-      → FieldsGone level octets (at + 1) before next ms false
-  field_comma_on ms x some first e =
-      let low = gone_low brackets.Fields level octets rest at before now (λ ss. frames.Fields ss ms) nows.After (field_depths ms) (sum (map field_nodes ms)) x
-      is in
-      let mid : Tally = record {
-        kind = now.kind;
-        level = now.level;
-        nodes = now.nodes;
-        rest =
-            past_token places.FieldValue now.rest (kinds.Mark marks.Comma) 1;
-      } in
-      rw e (gone_on brackets.Fields level octets rest at before now (λ ss. frames.Fields ss ms) nows.After (field_depths ms) (sum (map field_nodes ms)) x is
-      mid (λ ss. frames.Fields ss ms) nows.Name 1 0 0 (field_depths ms) (sum (map field_nodes ms))
-      (field_comma level now.rest rest ms some first) (omega arith) refl (omega arith) (omega arith) (omega arith) (omega arith) (omega arith))
+  -- what stands before the next item, or before the close
+  pub between_gone : (bracket : Bracket) (c : Contents bracket) (behind last : Bool) (deepest many : ℕ)
+      (x : Gone bracket level octets at before now (λ ss. holding bracket c ss) (now_within bracket behind) deepest many) (j : ℕ)
+      → WalkedBetween bracket behind last rest j now next
+      → Gone bracket level octets (at + j) before next (λ ss. holding bracket c ss) (now_within bracket last) deepest many
+  between_gone bracket c behind last deepest many x j w =
+      let low = gone_low bracket level octets rest at before now (λ ss. holding bracket c ss) (now_within bracket behind) deepest many x is in
+      let same : next.level ≡ now.level = ap (λ (t : Tally). t.level) w.noted in
+      let nodes_same : next.nodes ≡ now.nodes = ap (λ (t : Tally). t.nodes) w.noted in
+      gone_on bracket level octets rest at before now (λ ss. holding bracket c ss) (now_within bracket behind) deepest many x is next
+      (λ ss. holding bracket c ss) (now_within bracket last) j 0 0 deepest many (w.leads level c) w.within w.used (omega arith) (omega arith) (omega arith)
+      (omega arith) (omega arith)
 
   -- a field's name
   pub name_on : (ms : List Field) (x : FieldsGone level octets at before now ms false) (j : ℕ) (w : WalkedName rest j now next)
@@ -547,20 +566,22 @@ module _ (level : ℕ) (octets rest : List ℕ) (at : ℕ) (before now next : Ta
       (field_value level rest j now next w ms name) w.within w.used w.deep w.left w.counted (field_deepest-more ms (field_of name w.value))
       (omega arith)
 
+-- an octet behind so many
+pub octet_behind : (octets rest : List ℕ) (at j o : ℕ) → rest ≡ drop at octets → (j < length rest) × (get_or rest j 0 ≡ o)
+    → (at + j < length octets) × (get_or octets (at + j) 0 ≡ o)
+octet_behind octets rest at j o is x =
+    let size : length rest ≡ length octets - at = ap (λ (w : List ℕ). length w) is ∙ length-drop at octets in
+    let within = x.0 in
+    (omega arith, sym (get_or-drop at octets j 0) ∙ (ap (λ w. get_or w j 0) (sym is) ∙ x.1))
+
 -- up to the close
-module _ (level : ℕ) (octets rest : List ℕ) (at : ℕ) (before now : Tally) (is : rest ≡ drop at octets) (some : 0 < length rest) where
-  pub closer : (n : ℕ) → get_or rest 0 0 ≡ n → get_or octets at 0 ≡ n
-  closer n e = sym (at_drop at octets) ∙ (ap (λ w. get_or w 0 0) (sym is) ∙ e)
-
-  pub inside : at < length octets
-  inside = let size : length rest ≡ length octets - at = ap (λ (w : List ℕ). length w) is ∙ length-drop at octets in omega arith
-
+module _ (level : ℕ) (octets : List ℕ) (at : ℕ) (before now : Tally) (inside : at < length octets) where
   -- what has come of a container is this value with its close
   unfoldable pub inside_by : (bracket : Bracket) (payload : Payload) (whole : Symbols → Frame) (n : Now) (deepest many : ℕ)
       → Gone bracket level octets at before now whole n deepest many → depth (bare payload) ≡ suc deepest → nodes (bare payload) ≡ suc many
       → kind_of (bare payload) ≡ kind_in bracket → ((ss : Symbols) (fs : List Frame) → closes bracket (whole ss ∷ fs) n ≡ true)
       → ((setting : Setting) (spot : Spot) (ss : Symbols) (fs : List Frame)
-      → closed bracket setting spot (whole ss ∷ fs) ≡ ended setting spot fs (annotated ss payload)) → get_or rest 0 0 ≡ close_octet bracket
+      → closed bracket setting spot (whole ss ∷ fs) ≡ ended setting spot fs (annotated ss payload)) → get_or octets at 0 ≡ close_octet bracket
       → WalkedInside bracket level octets at before now
   inside_by bracket payload whole n deepest many x deep nodes_are kind may ends e =
       let few = x.few in
@@ -574,7 +595,7 @@ module _ (level : ℕ) (octets rest : List ℕ) (at : ℕ) (before now : Tally) 
         closes = may;
         closed = ends;
         within = inside;
-        close = closer (close_octet bracket) e;
+        close = e;
         used = x.used;
         some = omega arith;
         deep = omega arith;
@@ -583,15 +604,15 @@ module _ (level : ℕ) (octets rest : List ℕ) (at : ℕ) (before now : Tally) 
         counted = omega arith;
       }
 
-  unfoldable pub list_inside : (vs : List Value) (b : Bool) → ListGone level octets at before now vs b → get_or rest 0 0 ≡ 93
+  unfoldable pub list_inside : (vs : List Value) (b : Bool) → ListGone level octets at before now vs b → get_or octets at 0 ≡ 93
       → WalkedInside brackets.List level octets at before now
   list_inside vs b x e =
       let deep = depth-list [] vs in
       let many = nodes-bare (payloads.List vs) _ (views.outs-List vs) in
-      inside_by brackets.List (payloads.List vs) (λ ss. frames.Items listings.List ss vs) (element_now b) (depths vs) (sum (map nodes vs)) x (omega arith)
+      inside_by brackets.List (payloads.List vs) (λ ss. frames.Items listings.List ss vs) (now_within brackets.List b) (depths vs) (sum (map nodes vs)) x (omega arith)
       (omega arith) (ap layer_kind (views.outs-List vs)) (λ ss fs. element_closes b ss vs fs) (λ setting spot ss fs. refl) e
 
-  unfoldable pub sexp_inside : (vs : List Value) → SexpGone level octets at before now vs → get_or rest 0 0 ≡ 41
+  unfoldable pub sexp_inside : (vs : List Value) → SexpGone level octets at before now vs → get_or octets at 0 ≡ 41
       → WalkedInside brackets.Sexp level octets at before now
   sexp_inside vs x e =
       let deep = depth-sexp [] vs in
@@ -599,10 +620,10 @@ module _ (level : ℕ) (octets rest : List ℕ) (at : ℕ) (before now : Tally) 
       inside_by brackets.Sexp (payloads.Sexp vs) (λ ss. frames.Items listings.Sexp ss vs) nows.Ready (depths vs) (sum (map nodes vs)) x (omega arith)
       (omega arith) (ap layer_kind (views.outs-Sexp vs)) (λ ss fs. refl) (λ setting spot ss fs. refl) e
 
-  unfoldable pub fields_inside : (ms : List Field) (b : Bool) → FieldsGone level octets at before now ms b → get_or rest 0 0 ≡ 125
+  unfoldable pub fields_inside : (ms : List Field) (b : Bool) → FieldsGone level octets at before now ms b → get_or octets at 0 ≡ 125
       → WalkedInside brackets.Fields level octets at before now
   fields_inside ms b x e =
       let deep = depth-struct [] ms in
       let many = nodes-bare (payloads.Fields ms) _ (views.outs-Fields ms) in
-      inside_by brackets.Fields (payloads.Fields ms) (λ ss. frames.Fields ss ms) (field_now b) (field_depths ms) (sum (map field_nodes ms)) x (omega arith)
+      inside_by brackets.Fields (payloads.Fields ms) (λ ss. frames.Fields ss ms) (now_within brackets.Fields b) (field_depths ms) (sum (map field_nodes ms)) x (omega arith)
       (omega arith) (ap layer_kind (views.outs-Fields ms)) (λ ss fs. field_closes b ss ms fs) (λ setting spot ss fs. refl) e

@@ -2,7 +2,7 @@
 use Rattle.std.specs.Prelude.{◌≡◌, ◌≤◌, ℕ, List, length}
 use Rattle.ion_model.specs.declared.value.Value.{Value}
 use Rattle.ion_tokens.specs.declared.plain_tokens.Rest.{Rest}
-use Rattle.ion_tokens.specs.machine.Rests.{past_blank, IsPassed}
+use Rattle.ion_tokens.specs.machine.Rests.{RestsBehind}
 use Rattle.ion_text.specs.declared.reader.TextReader.{TextReader}
 use Rattle.ion_text.specs.declared.reader.walks.Tally.{Tally}
 use Rattle.ion_text.specs.machine.Walked.{IsFresh, WalkedTop}
@@ -13,8 +13,7 @@ pub record IsFront (r : TextReader) (piece : List ℕ) (blank : ℕ) (behind : R
   pub fresh : IsFresh r before
   pub within : blank ≤ length piece
   pub few : blank ≤ r.limits.item
-  pub passed : IsPassed piece blank
-  pub rests : behind ≡ past_blank before blank
+  pub rests : RestsBehind piece blank before behind
 
 -- octets at the top level begin with an item of at most so many levels, which gives this value with the last of so many
 pub record IsTop (level : ℕ) (octets : List ℕ) (count : ℕ) (before after : Rest) (v : Value) : Type 0 where

@@ -1,5 +1,5 @@
 -- What a walk over octets in memory finds of a value that it doesn't build.
-use Rattle.std.specs.Prelude.{◌≡◌, ◌+◌, ◌-◌, ◌^◌, ◌≤◌, ◌<◌, ℕ, suc, min, true, false, List, [], ◌∷◌, ◌++◌, length, take, drop, get_or, Option, Ok}
+use Rattle.std.specs.Prelude.{◌≡◌, ◌+◌, ◌-◌, ◌^◌, ◌≤◌, ◌<◌, ℕ, suc, min, Bool, true, false, List, [], ◌∷◌, ◌++◌, length, take, drop, get_or, Option, Ok}
 use Rattle.ion_atoms.specs.declared.kind.Kind.{Kind}
 use Rattle.ion_atoms.specs.declared.kind.Kind.TheVariants as kinds
 use Rattle.ion_model.specs.declared.value.Field.{Field}
@@ -28,6 +28,7 @@ use Rattle.ion_text.specs.declared.reader.finders.Scalar.{Scalar}
 use Rattle.ion_text.specs.declared.reader.walks.Tally.{Tally}
 use Rattle.ion_text.specs.declared.state.Frame.{Frame}
 use Rattle.ion_text.specs.declared.state.Frame.TheVariants as frames
+use Rattle.ion_text.specs.declared.state.Listing.TheVariants as listings
 use Rattle.ion_text.specs.declared.state.Now.{Now}
 use Rattle.ion_text.specs.declared.state.Now.TheVariants as nows
 use Rattle.ion_text.specs.machine.FrontTokens.{BeginsName, BeginsValue, IsValue}
@@ -144,6 +145,51 @@ behind_close p bracket t = record {
   nodes = min (t.nodes + 1) most;
   rest = past_token p t.rest (tokens.Mark (close_mark bracket)) 1;
 }
+
+-- what has come of a container: the elements of a list or an s-expression, the fields of a struct
+abbrev pub Contents : Bracket → Type 0
+Contents brackets.List = List Value
+Contents brackets.Sexp = List Value
+Contents brackets.Fields = List Field
+
+-- it stands open with them, and with these annotations
+abbrev pub holding : (bracket : Bracket) → Contents bracket → Symbols → Frame
+holding brackets.List vs ss = frames.Items listings.List ss vs
+holding brackets.Sexp vs ss = frames.Items listings.Sexp ss vs
+holding brackets.Fields ms ss = frames.Fields ss ms
+
+-- whether commas stand between its items
+abbrev pub has_commas : Bracket → Bool
+has_commas brackets.List = true
+has_commas brackets.Sexp = false
+has_commas brackets.Fields = true
+
+-- what may come in it, directly behind an item or not
+abbrev pub now_within : Bracket → Bool → Now
+now_within brackets.List true = nows.After
+now_within brackets.List false = nows.Ready
+now_within brackets.Sexp behind = nows.Ready
+now_within brackets.Fields true = nows.After
+now_within brackets.Fields false = nows.Name
+
+-- where the values in it stand
+abbrev pub place_within : Bracket → Place
+place_within brackets.List = places.List
+place_within brackets.Sexp = places.Sexp
+place_within brackets.Fields = places.FieldValue
+
+-- what is noted is the same, wherever it rests
+abbrev pub OnlyRests : Tally → Tally → Type 0
+OnlyRests before after = after ≡ record { kind = before.kind; level = before.level; nodes = before.nodes; rest = after.rest }
+
+-- Between the items of a container, directly behind one or not, octets lead to where its next item may come, or only the close or a comma.
+pub record WalkedBetween (bracket : Bracket) (behind last : Bool) (octets : List ℕ) (count : ℕ) (before after : Tally) : Type 0 where
+  pub leads : (level : ℕ) (x : Contents bracket)
+      → Leads level before.rest octets count after.rest (λ ss. holding bracket x ss) (now_within bracket behind) (λ ss. holding bracket x ss)
+      (now_within bracket last)
+  pub within : count ≤ length octets
+  pub used : after.rest.used ≡ before.rest.used + count
+  pub noted : OnlyRests before after
 
 -- octets begin with the open of such a container and end with its close, between which it is such a value
 pub record WalkedContainer (p : Place) (bracket : Bracket) (level : ℕ) (octets : List ℕ) (count : ℕ) (before after : Tally) : Type 0 where

@@ -7,7 +7,7 @@ use Rattle.ion_tokens.specs.declared.plain_tokens.Rest.{Rest}
 use Rattle.ion_scalar.specs.declared.number.Number.{Number}
 use Rattle.ion_tokens.specs.declared.token_reader.FoundToken.{FoundToken}
 use Rattle.ion_tokens.specs.Bodies.{Number'}
-use Rattle.ion_tokens.specs.machine.Rests.{past_blank, IsFound, IsPassed}
+use Rattle.ion_tokens.specs.machine.Rests.{IsFound, IsPassed, RestsBehind}
 use Rattle.ion_tokens.specs.machine.Said.{said}
 use Rattle.ion_visiting.specs.Visits.{Visits, name, Visited, VisitedPayload, VisitedAnnotations}
 use Rattle.ion_text.specs.declared.state.Held.{Held}
@@ -55,8 +55,7 @@ pub record ItemAhead (r : TextReader) (piece : List ℕ) (blank : ℕ) (item : L
   pub inside : blank ≤ length piece
   pub before : blank ≤ r.limits.item
   pub few : length item ≤ r.limits.item
-  pub passed : IsPassed piece blank
-  pub begins : begun.rest ≡ past_blank rest blank
+  pub rests : RestsBehind piece blank rest begun.rest
   pub level : begun.level ≡ r.limits.depth
   pub none : begun.nodes ≡ 0
 

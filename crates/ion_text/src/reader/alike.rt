@@ -22,7 +22,7 @@ use super::top_values::walk_top;
 use super::walks::Tally;
 use crate::visitor::Unheeding;
 use ion_symtab::Items;
-use ion_tokens::{Rest, TokenReader, blanks};
+use ion_tokens::{Rest, TokenReader, blank_with_comments};
 use ion_visiting::Part;
 use std::simd::prelude::*;
 
@@ -195,11 +195,8 @@ impl TextReader<'_> {
         ensures { IfSome result (λ front. IsFront self.now piece.now front.blank front.rest) }
     {
         let rest = self.fresh_rest()?;
-        let blank = blanks(up_to(piece, self.limits.item));
-        Some(Front {
-            blank,
-            rest: rest.past_blank(blank),
-        })
+        let (blank, rest) = blank_with_comments(up_to(piece, self.limits.item), rest);
+        Some(Front { blank, rest })
     }
 
     /// The octets behind the blank, as far as an item may go.

@@ -17,7 +17,7 @@ use super::walks::Tally;
 use crate::state::Now;
 use crate::visitor::Unheeding;
 use ion_model::{Kind, Outline};
-use ion_tokens::{Place, Rest, blanks};
+use ion_tokens::{Place, Rest, blank_with_comments};
 
 // Octets up to so many.
 pub(super) fn up_to(octets: &[u8], most: u64) -> &[u8]
@@ -67,8 +67,8 @@ impl TextReader<'_> {
         }
     }
 
-    /// What may be an item at the front of a piece: how many octets of a blank stand before it, its
-    /// octets up to the limit on items, and what is noted of it yet. `None` if an item is open.
+    /// What may be an item at the front of a piece: how many octets of a blank stand before it, with
+    /// the comments in it, its octets up to the limit on items, and what is noted of it yet. `None` if an item is open.
     #[inline(always)]
     pub(super) fn item_ahead<'p>(&self, piece: &'p [u8]) -> Option<(usize, &'p [u8], Tally)>
         requires room { (scanned self.now.scanner).used + length piece.now < 2 ^ 63 }
@@ -76,9 +76,9 @@ impl TextReader<'_> {
             ahead.2) }
     {
         let rest = self.fresh_rest()?;
-        let before = blanks(up_to(piece, self.limits.item));
+        let (before, behind) = blank_with_comments(up_to(piece, self.limits.item), rest);
         let item = up_to(&piece[before..], self.limits.item);
-        let tally = Tally::new(self.limits.depth, rest.past_blank(before));
+        let tally = Tally::new(self.limits.depth, behind);
         Some((before, item, tally))
     }
 

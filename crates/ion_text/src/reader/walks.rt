@@ -1,6 +1,6 @@
 //! Values that lie whole in a piece: they are judged and not built, and a visitor takes them. What
 //! is cut, refused or unusual isn't told here: the reader takes it up token by token.
-ghost use Rattle.std.specs.Prelude.{◌≡◌, ◌+◌, ◌-◌, ◌≤◌, ◌<◌, ◌^◌, min, true, false, length, get_or, drop, IfSome, Some};
+ghost use Rattle.std.specs.Prelude.{◌≡◌, ◌+◌, ◌-◌, ◌≤◌, ◌<◌, ◌^◌, min, Bool, true, false, length, get_or, drop, IfSome, Some};
 ghost use Rattle.ion_atoms.specs.declared.kind.Kind.TheVariants as kinds;
 ghost use Rattle.ion_tokens.specs.Places.{is_name};
 ghost use Rattle.ion_tokens.specs.declared.mode.Place.{Place};
@@ -8,10 +8,10 @@ ghost use Rattle.ion_tokens.specs.declared.plain_tokens.Rest.{Rest};
 ghost use Rattle.ion_tokens.specs.declared.mode.Mark.TheVariants as marks;
 ghost use Rattle.ion_tokens.specs.declared.mode.Place.TheVariants as places;
 ghost use Rattle.ion_tokens.specs.declared.mode.TokenKind.TheVariants as tokens;
-ghost use Rattle.ion_tokens.specs.machine.Rests.{past_blank, past_token, IsPassed};
+ghost use Rattle.ion_tokens.specs.machine.Rests.{past_blank, past_token, IsPassed, RestsBehind};
 ghost use Rattle.ion_text.specs.machine.FrontTokens.{ends_symbol, BeginsName};
-ghost use Rattle.ion_text.specs.machine.Nested.{OpensAt};
-ghost use Rattle.ion_text.specs.machine.Walked.{kind_in, behind_key};
+ghost use Rattle.ion_text.specs.machine.Nested.{close_octet, OpensAt};
+ghost use Rattle.ion_text.specs.machine.Walked.{kind_in, behind_key, has_commas, place_within, OnlyRests, WalkedBetween};
 ghost use Rattle.ion_visiting.specs.declared.bracket.Bracket.TheVariants as brackets;
 ghost use Rattle.ion_visiting.specs.Parts.{payload_of};
 ghost use Rattle.ion_text.specs.visiting.Walks.{FoundPart, FoundNumber, VisitedValue, VisitedItem, VisitedContainer, VisitedInside, VisitedName};
@@ -27,7 +27,9 @@ use super::nested_containers::{bracket_at, close_mark, open_mark};
 use super::symbols::{behind_name, behind_symbol};
 use ion_model::{Kind, Outline};
 use ion_scalar::Number;
-use ion_tokens::{Body, FoundToken, Mark, Place, Rest, TokenKind, TokenReader, blanks};
+use ion_tokens::{
+    Body, FoundToken, Mark, Place, Rest, TokenKind, TokenReader, blank_with_comments,
+};
 use ion_visiting::{Bracket, Part, TextVisitor};
 
 /// What a walk noted of the values that it went over, and where it rests.
@@ -408,41 +410,87 @@ fn begins_with(octets: &[u8], octet: u8) -> bool
     }
 }
 
-// Goes over a blank there.
+// Goes over a blank there, with the comments in it.
+#[inline(always)]
 pub(super) fn walk_blank(octets: &[u8], tally: &mut Tally) -> usize
     requires room { tally.old.rest.used + length octets.now < 2 ^ 63 }
-    ensures within { result ≤ length octets.now }
-    ensures passed { IsPassed octets.now result }
-    ensures noted { tally.new ≡ record {
-      kind = tally.old.kind;
-      level = tally.old.level;
-      nodes = tally.old.nodes;
-      rest = past_blank tally.old.rest result;
-    } }
+    ensures rests { RestsBehind octets.now result tally.old.rest tally.new.rest }
+    ensures noted { OnlyRests tally.old tally.new }
 {
-    let count = blanks(octets);
-    tally.pass_blank(count);
+    let (count, behind) = blank_with_comments(octets, tally.rest);
+    tally.rest = behind;
     count
 }
 
-// Goes over a comma there.
-fn walk_comma(here: Place, octets: &[u8], tally: &mut Tally) -> Option<usize>
+// The octet of a close.
+#[inline(always)]
+fn close_octet(bracket: Bracket) -> u8
+    ensures { result ≡ close_octet bracket }
+{
+    match bracket {
+        Bracket::List => b']',
+        Bracket::Sexp => b')',
+        Bracket::Fields => b'}',
+    }
+}
+
+// Where the values in such a container stand.
+#[inline(always)]
+fn place_within(bracket: Bracket) -> Place
+    ensures { result ≡ place_within bracket }
+{
+    match bracket {
+        Bracket::List => Place::List,
+        Bracket::Sexp => Place::Sexp,
+        Bracket::Fields => Place::FieldValue,
+    }
+}
+
+// Goes over a comma there, in a list or a struct.
+#[inline(always)]
+fn walk_comma(bracket: Bracket, octets: &[u8], tally: &mut Tally) -> Option<usize>
     requires room { tally.old.rest.used + length octets.now < 2 ^ 63 }
+    requires commas { has_commas bracket ≡ true }
     ensures one { IfSome result (λ count. count ≡ 1) }
-    ensures some { IfSome result (λ _. 0 < length octets.now) }
-    ensures comma { IfSome result (λ _. get_or octets.now 0 0 ≡ 44) }
-    ensures noted { IfSome result (λ _. tally.new ≡ record {
-      kind = tally.old.kind;
-      level = tally.old.level;
-      nodes = tally.old.nodes;
-      rest = past_token here tally.old.rest (tokens.Mark marks.Comma) 1;
-    }) }
+    ensures walked { IfSome result (λ count.
+        WalkedBetween bracket true false octets.now count tally.old tally.new) }
 {
     if !begins_with(octets, b',') {
         return None;
     }
-    tally.pass_token(here, TokenKind::Mark(Mark::Comma), 1);
+    tally.pass_token(place_within(bracket), TokenKind::Mark(Mark::Comma), 1);
     Some(1)
+}
+
+// Goes over what stands before an item of a container or before its close: a blank, and where an
+// item stands directly before it a comma and one more blank. Also says whether the close stands
+// there.
+#[inline(always)]
+fn walk_between(
+    bracket: Bracket,
+    behind: bool,
+    octets: &[u8],
+    tally: &mut Tally,
+) -> Option<(usize, bool)>
+    requires room { tally.old.rest.used + length octets.now < 2 ^ 63 }
+    requires commas { behind ≡ true → has_commas bracket ≡ true }
+    ensures walked { IfSome result (λ found. (last : Bool) × (found.1 ≡ false → last ≡ false)
+        × WalkedBetween bracket behind last octets.now found.0 tally.old tally.new) }
+    ensures close { IfSome result (λ found. found.1 ≡ true → (found.0 < length octets.now)
+        × (get_or octets.now found.0 0 ≡ close_octet bracket)) }
+{
+    let close = close_octet(bracket);
+    let blank = walk_blank(octets, tally);
+    if begins_with(&octets[blank..], close) {
+        return Some((blank, true));
+    }
+    if !behind {
+        return Some((blank, false));
+    }
+    let comma = walk_comma(bracket, &octets[blank..], tally)?;
+    let at = blank + comma;
+    let count = at + walk_blank(&octets[at..], tally);
+    Some((count, begins_with(&octets[count..], close)))
 }
 
 /// Goes over the value at the front of octets, of at most so many levels: how many octets it has,
@@ -603,15 +651,10 @@ fn walk_list<T: TextVisitor>(
     let mut at = 0;
     let mut behind = false;
     for _ in 0..octets.len() {
-        at += walk_blank(&octets[at..], tally);
-        if begins_with(&octets[at..], b']') {
+        let (between, closes) = walk_between(Bracket::List, behind, &octets[at..], tally)?;
+        at += between;
+        if closes {
             return Some(at);
-        }
-        if behind {
-            let comma = walk_comma(Place::List, &octets[at..], tally)?;
-            at += comma;
-            behind = false;
-            continue;
         }
         let value = walk_item(beside, Place::List, &octets[at..], level, tally, visitor)?;
         at += value;
@@ -637,8 +680,9 @@ fn walk_sexp<T: TextVisitor>(
 {
     let mut at = 0;
     for _ in 0..octets.len() {
-        at += walk_blank(&octets[at..], tally);
-        if begins_with(&octets[at..], b')') {
+        let (between, closes) = walk_between(Bracket::Sexp, false, &octets[at..], tally)?;
+        at += between;
+        if closes {
             return Some(at);
         }
         let value = walk_item(beside, Place::Sexp, &octets[at..], level, tally, visitor)?;
@@ -665,15 +709,10 @@ fn walk_struct<T: TextVisitor>(
     let mut at = 0;
     let mut behind = false;
     for _ in 0..octets.len() {
-        at += walk_blank(&octets[at..], tally);
-        if begins_with(&octets[at..], b'}') {
+        let (between, closes) = walk_between(Bracket::Fields, behind, &octets[at..], tally)?;
+        at += between;
+        if closes {
             return Some(at);
-        }
-        if behind {
-            let comma = walk_comma(Place::FieldValue, &octets[at..], tally)?;
-            at += comma;
-            behind = false;
-            continue;
         }
         let name = walk_name(beside, &octets[at..], tally, visitor)?;
         at += name;

@@ -99,11 +99,13 @@ still_open (o ∷ p ∷ os) (suc (suc n)) some within none last =
     let one : suc n + 1 ≡ suc (n + 1) = omega arith in
     let last_of : suc (suc n) - 1 ≡ suc n = omega arith in
     let last_is : suc n - 1 ≡ n = omega arith in
-    subst (λ k. HasNoClose (take k (o ∷ p ∷ os))) (sym more)
-    (none.0, subst (λ k. HasNoClose (take k (p ∷ os))) one
-    (still_open (p ∷ os) (suc n) (omega arith) (omega arith) none.1
-    (ap (λ k. (get_or (p ∷ os) k 0 == 42) && (get_or (p ∷ os) (suc n) 0 == 47)) last_is
-    ∙ (sym (ap (λ k. (get_or (o ∷ p ∷ os) k 0 == 42) && (get_or (o ∷ p ∷ os) (suc (suc n)) 0 == 47)) last_of) ∙ last))))
+    subst (λ k. HasNoClose (take k (o ∷ p ∷ os))) (sym more) (
+      none.0,
+      subst (λ k. HasNoClose (take k (p ∷ os))) one
+          (still_open (p ∷ os) (suc n) (omega arith) (omega arith) none.1
+          (ap (λ k. (get_or (p ∷ os) k 0 == 42) && (get_or (p ∷ os) (suc n) 0 == 47)) last_is
+          ∙ (sym (ap (λ k. (get_or (o ∷ p ∷ os) k 0 == 42) && (get_or (o ∷ p ∷ os) (suc (suc n)) 0 == 47)) last_of) ∙ last))),
+    )
 
 -- nor in fewer of them
 fewer_open : (octets : List ℕ) (n : ℕ) → HasNoClose (take (suc n) octets) → HasNoClose (take n octets)

@@ -1,4 +1,4 @@
-use Rattle.std.proofs.Common.{arith, sym, ◌-◌, length, take, drop}
+use Rattle.std.proofs.Common.{arith, ◌-◌, length, take, drop}
 use Rattle.std.proofs.lemmas.List.{take_rest}
 use Rattle.ion_tokens.proofs.runs.WholeComments.{line_rests, block_rests}
 use Rattle.ion_tokens.proofs.comments.comment.Goals as goal

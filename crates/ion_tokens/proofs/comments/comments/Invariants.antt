@@ -1,4 +1,3 @@
-use Rattle.std.proofs.Common.{◌+◌}
 use Rattle.ion_tokens.specs.machine.Rests.{RestsBehind}
 use Rattle.ion_tokens.proofs.comments.comments.Given as goal
 

@@ -1,7 +1,8 @@
-use Rattle.std.proofs.Common.{◌≡◌, ℕ, min, ◌-◌, ◌≤◌, length, length-take, length-drop, take, drop, ap, ◌∙◌, arith}
+use Rattle.std.proofs.Common.{◌≡◌, ℕ, min, ◌-◌, ◌≤◌, length, length-take, length-drop, take, drop, ap, sym, ◌∙◌, subst, arith}
 use Rattle.std.proofs.lemmas.List.{take_rest}
+use Rattle.ion_tokens.specs.machine.Rests.{RestsBehind}
 use Rattle.ion_text.specs.declared.reader.walks.Tally.{Tally}
-use Rattle.ion_text.proofs.Tops.{passed_of}
+use Rattle.ion_text.proofs.Tops.{rests_of}
 use Rattle.ion_text.proofs.reader.TextReader.item_ahead.Goals as goal
 
 pub returns : goal.returns
@@ -11,14 +12,14 @@ returns c =
     let most = old.limits.item in
     let front = c.up_to.result.now in
     let item = c.up_to-item.result.now in
-    let n = c.blanks-before.result in
+    let n = c.blank_with_comments-before.result.0 in
     let behind = take (length piece - n) (drop n piece) in
     let k = min (length behind) most in
     let rest_is : behind ≡ drop n piece = take_rest piece n in
     let is : item ≡ take k (drop n piece) = c.up_to-item.ensures ∙ ap (take k) rest_is in
     let front_size : length front ≡ min (length piece) most = ap (λ (w : _). length {A = ℕ} w) c.up_to.ensures ∙ omega (arith, length-take {A = ℕ}) in
     let size : length item ≡ min k (length piece - n) = ap (λ (w : _). length {A = ℕ} w) is ∙ omega (arith, length-take {A = ℕ}, length-drop {A = ℕ}) in
-    let inside = c.blanks-before.ensures.within in
+    let inside = c.blank_with_comments-before.ensures.within in
     let within : n ≤ length piece = omega arith in
     record {
       rest = c.in_ok-rest.rest;
@@ -29,8 +30,8 @@ returns c =
       inside = within;
       before = omega arith;
       few = omega arith;
-      passed = passed_of piece front n (min (length piece) most) c.up_to.ensures (omega arith) c.blanks-before.ensures.passed;
-      begins = ap (λ (t : Tally). t.rest) c.new-tally.ensures ∙ c.past_blank.ensures;
+      rests = rests_of piece front n (min (length piece) most) c.in_ok-rest.rest c.new-tally.result.rest c.up_to.ensures (omega arith) within
+          (subst (λ r. RestsBehind front n c.in_ok-rest.rest r) (sym (ap (λ (t : Tally). t.rest) c.new-tally.ensures)) c.blank_with_comments-before.ensures);
       level = ap (λ (t : Tally). t.level) c.new-tally.ensures;
       none = ap (λ (t : Tally). t.nodes) c.new-tally.ensures;
     }

@@ -17,7 +17,7 @@ returns-clause-gives c =
       w.value,
       told.1 ∙ sym c.outline.ensures,
       top_advances old c.move_to-2.new.self c.walk_top.new.beside depth item count c.in_ok-before.begun c.walk_top.new.tally w ahead.rest c.args.piece.now
-          c.in_ok-before.before ahead.most ahead.fresh c.move_to-2.ensures.rests ahead.is ahead.inside ahead.before ahead.few ahead.size ahead.passed ahead.begins
+          c.in_ok-before.before ahead.most ahead.fresh c.move_to-2.ensures.rests ahead.is ahead.inside ahead.before ahead.few ahead.size ahead.rests
           (omega arith),
     )
 

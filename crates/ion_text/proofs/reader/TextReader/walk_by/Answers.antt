@@ -1,5 +1,6 @@
-use Rattle.std.proofs.Common.{rules, ◌≡◌, ap, ◌∙◌, subst, arith}
+use Rattle.std.proofs.Common.{rules, ◌≡◌, ap, sym, subst, arith}
 use Rattle.ion_model.specs.Measures.{bare}
+use Rattle.ion_tokens.specs.machine.Rests.{RestsBehind}
 use Rattle.ion_text.specs.declared.reader.walks.Tally.{Tally}
 use Rattle.ion_text.proofs.TopLeft.{left_advances}
 use Rattle.ion_text.proofs.Tops.{top_advances}
@@ -24,7 +25,8 @@ returns-clause-gives g c =
       ),
       top_advances old c.move_to-2.new.self old.beside level c.in_ok-before.item.now count c.new-tally.result c.walk_top.new.tally found.walked
           ahead.rest c.args.piece.now c.in_ok-before.before ahead.most ahead.fresh c.move_to-2.ensures.rests ahead.is ahead.inside ahead.before ahead.few
-          ahead.size ahead.passed (ap (λ (t : Tally). t.rest) c.new-tally.ensures ∙ ahead.begins) (omega arith),
+          ahead.size (subst (λ r. RestsBehind c.args.piece.now c.in_ok-before.before ahead.rest r) (sym (ap (λ (t : Tally). t.rest) c.new-tally.ensures)) ahead.rests)
+          (omega arith),
     )
 
 -- a number or a symbol

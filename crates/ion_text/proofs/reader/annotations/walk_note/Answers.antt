@@ -14,8 +14,7 @@ returns-clause-walked g c =
     let total = c.pass_note-count.ensures.total in
     let rest = take (length octets - k) (drop k octets) in
     let w = walked_note octets c.args.note.token note.token m note.within note.passed note.one note.two c.args.here c.args.tally.now c.pass_note-count.new.self
-    c.walk_blank-blank.new.tally n rest
-    (take_rest octets k ∙ ap (λ k. drop k octets) total) c.walk_blank-blank.ensures.within c.walk_blank-blank.ensures.passed c.pass_note-count.ensures.noted
+    c.walk_blank-blank.new.tally n rest (take_rest octets k ∙ ap (λ k. drop k octets) total) c.pass_note-count.ensures.noted c.walk_blank-blank.ensures.rests
     c.walk_blank-blank.ensures.noted in
     note_visited g.T.TextVisitor.visits c.args.here octets k _ n _ c.args.tally.now c.walk_blank-blank.new.tally _ _ total (w.0, w.1 ∙ note.is)
     (c.annotation.ensures c.if-not-annotation.false)

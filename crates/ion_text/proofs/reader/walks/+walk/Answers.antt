@@ -1,13 +1,11 @@
-use Rattle.std.proofs.Common.{rules, ◌<◌, ◌+◌, ◌-◌, [], ◌∷◌, ◌++◌, length, take, drop, map, sum, false, sym, subst, arith}
+use Rattle.std.proofs.Common.{rules, ◌<◌, ◌+◌, ◌-◌, [], ◌∷◌, ◌++◌, length, take, drop, map, sum, false, subst, arith}
 use Rattle.std.proofs.lemmas.List.{take_rest}
 use Rattle.ion_model.specs.Measures.{nodes, field_of}
 use Rattle.ion_visiting.specs.Visits.{no_items, one_item, no_fields, one_field}
 use Rattle.ion_visiting.specs.declared.bracket.Bracket.TheVariants as brackets
-use Rattle.ion_text.specs.declared.state.Frame.TheVariants as frames
 use Rattle.ion_text.specs.declared.state.Listing.TheVariants as listings
-use Rattle.ion_text.specs.declared.state.Now.TheVariants as nows
 use Rattle.ion_text.specs.laws.reading.complete.Complete.{depths, field_depths}
-use Rattle.ion_text.proofs.Walking.{gone_none, gone_blank, element_now, element_still, field_now, field_still, field_nodes, ListGone, FieldsGone, item_value_on, list_comma_on, field_comma_on, name_on, field_value_on}
+use Rattle.ion_text.proofs.Walking.{gone_none, between_gone, octet_behind, field_nodes, ListGone, FieldsGone, item_value_on, name_on, field_value_on}
 use Rattle.ion_text.proofs.Visited.{containers_visited, item_annotated_visited, item_bare_visited, container_visited, list_visited, sexp_visited, fields_visited}
 use Rattle.ion_text.proofs.reader.walks.+walk.Goals as goal
 
@@ -56,19 +54,18 @@ walk_container-returns g t c =
     (search rules) (search rules)
     c.in_ok-kept.ensures (c.close.ensures c.if-not-close.false)
 
-pub walk_list-returns-then-begins_with : goal.walk_list-returns-then-begins_with
-walk_list-returns-then-begins_with g t c =
+pub walk_list-returns-then-closes : goal.walk_list-returns-then-closes
+walk_list-returns-then-closes g t c =
     let octets = c.args.octets.now in
     let at = c.loop.at in
-    let j = c.walk_blank-at.result in
+    let j = c.in_ok-between.between in
     let vs = c.loop.invariant.values in
-    let close = c.begins_with.ensures c.if-begins_with.true in
-    list_visited g.T.TextVisitor.visits c.args.level octets (take (length octets - (at + j)) (drop (at + j) octets)) (at + j) c.args.tally.now
-    c.walk_blank-at.new.tally (take_rest octets (at + j)) close.0 _ _ vs c.loop.behind
-    (gone_blank brackets.List c.args.level octets (take (length octets - at) (drop at octets)) at c.args.tally.now c.loop.tally
-    (λ ss. frames.Items listings.List ss vs)
-    (element_now c.loop.behind) (depths vs) (sum (map nodes vs)) c.loop.invariant.gone (take_rest octets at)
-    c.walk_blank-at.new.tally j c.walk_blank-at.ensures.passed c.walk_blank-at.ensures.within (element_still c.loop.behind) c.walk_blank-at.ensures.noted)
+    let between = c.in_ok-between.ensures.walked in
+    let rest = take (length octets - at) (drop at octets) in
+    let close = octet_behind octets rest at j 93 (take_rest octets at) (c.in_ok-between.ensures.close c.if-closes.true) in
+    list_visited g.T.TextVisitor.visits c.args.level octets (at + j) c.args.tally.now c.walk_between.new.tally close.0 _ _ vs between.0
+    (between_gone c.args.level octets rest at c.args.tally.now c.loop.tally c.walk_between.new.tally (take_rest octets at) brackets.List vs c.loop.behind
+    between.0 (depths vs) (sum (map nodes vs)) c.loop.invariant.gone j between.2)
     close.1 c.loop.invariant.visited
 
 pub walk_list-loop-init : goal.walk_list-loop-init
@@ -78,57 +75,38 @@ walk_list-loop-init g t c = record {
   visited = no_items c.args.visitor.now;
 }
 
-pub walk_list-loop-preserved-then-behind : goal.walk_list-loop-preserved-then-behind
-walk_list-loop-preserved-then-behind g t c =
-    let octets = c.args.octets.now in
-    let at = c.loop.at in
-    let j = c.walk_blank-at.result in
-    let vs = c.loop.invariant.values in
-    let gone = gone_blank brackets.List c.args.level octets (take (length octets - at) (drop at octets)) at c.args.tally.now c.loop.tally
-    (λ ss. frames.Items listings.List ss vs) (element_now c.loop.behind) (depths vs) (sum (map nodes vs)) c.loop.invariant.gone (take_rest octets at)
-    c.walk_blank-at.new.tally j c.walk_blank-at.ensures.passed c.walk_blank-at.ensures.within (element_still c.loop.behind) c.walk_blank-at.ensures.noted in
-    record {
-      values = vs;
-      gone = subst (λ k. ListGone c.args.level octets (at + j + k) c.args.tally.now c.walk_comma.new.tally vs false) (sym c.in_ok-comma.ensures.one)
-          (list_comma_on c.args.level octets (take (length octets - (at + j)) (drop (at + j) octets)) (at + j) c.args.tally.now c.walk_blank-at.new.tally
-          c.walk_comma.new.tally (take_rest octets (at + j)) vs
-          (subst (λ b. ListGone c.args.level octets (at + j) c.args.tally.now c.walk_blank-at.new.tally vs b) c.if-behind.true gone) c.in_ok-comma.ensures.some
-          c.in_ok-comma.ensures.comma c.in_ok-comma.ensures.noted);
-      visited = c.loop.invariant.visited;
-    }
-
 pub walk_list-loop-preserved : goal.walk_list-loop-preserved
 walk_list-loop-preserved g t c =
     let octets = c.args.octets.now in
     let at = c.loop.at in
-    let j = c.walk_blank-at.result in
+    let j = c.in_ok-between.between in
     let vs = c.loop.invariant.values in
-    let gone = gone_blank brackets.List c.args.level octets (take (length octets - at) (drop at octets)) at c.args.tally.now c.loop.tally
-    (λ ss. frames.Items listings.List ss vs) (element_now c.loop.behind) (depths vs) (sum (map nodes vs)) c.loop.invariant.gone (take_rest octets at)
-    c.walk_blank-at.new.tally j c.walk_blank-at.ensures.passed c.walk_blank-at.ensures.within (element_still c.loop.behind) c.walk_blank-at.ensures.noted in
+    let between = c.in_ok-between.ensures.walked in
+    let gone = between_gone c.args.level octets (take (length octets - at) (drop at octets)) at c.args.tally.now c.loop.tally c.walk_between.new.tally
+    (take_rest octets at) brackets.List vs c.loop.behind between.0 (depths vs) (sum (map nodes vs)) c.loop.invariant.gone j between.2 in
     record {
       values = vs ++ c.in_ok-value.ensures.walked.value ∷ [];
-      gone = item_value_on c.args.level octets (take (length octets - (at + j)) (drop (at + j) octets)) (at + j) c.args.tally.now c.walk_blank-at.new.tally
+      gone = item_value_on c.args.level octets (take (length octets - (at + j)) (drop (at + j) octets)) (at + j) c.args.tally.now c.walk_between.new.tally
           c.walk_item.new.tally (take_rest octets (at + j)) listings.List vs
-          (subst (λ b. ListGone c.args.level octets (at + j) c.args.tally.now c.walk_blank-at.new.tally vs b) c.if-behind.false gone) c.in_ok-value.value
-          c.in_ok-value.ensures.walked;
+          (subst (λ b. ListGone c.args.level octets (at + j) c.args.tally.now c.walk_between.new.tally vs b) (between.1 c.if-closes.false) gone)
+          c.in_ok-value.value c.in_ok-value.ensures.walked;
       visited = one_item vs c.in_ok-value.ensures.walked.value _ _ _ c.loop.invariant.visited
           c.in_ok-value.ensures.visited;
     }
 
-pub walk_sexp-returns-then-begins_with : goal.walk_sexp-returns-then-begins_with
-walk_sexp-returns-then-begins_with g t c =
+pub walk_sexp-returns-then-closes : goal.walk_sexp-returns-then-closes
+walk_sexp-returns-then-closes g t c =
     let octets = c.args.octets.now in
     let at = c.loop.at in
-    let j = c.walk_blank-at.result in
+    let j = c.in_ok-between.between in
     let vs = c.loop.invariant.values in
-    let close = c.begins_with.ensures c.if-begins_with.true in
-    sexp_visited g.T.TextVisitor.visits c.args.level octets (take (length octets - (at + j)) (drop (at + j) octets)) (at + j) c.args.tally.now
-    c.walk_blank-at.new.tally (take_rest octets (at + j)) close.0 _ _ vs
-    (gone_blank brackets.Sexp c.args.level octets (take (length octets - at) (drop at octets)) at c.args.tally.now c.loop.tally
-    (λ ss. frames.Items listings.Sexp ss vs)
-    nows.Ready (depths vs) (sum (map nodes vs)) c.loop.invariant.gone (take_rest octets at)
-    c.walk_blank-at.new.tally j c.walk_blank-at.ensures.passed c.walk_blank-at.ensures.within tt c.walk_blank-at.ensures.noted) close.1 c.loop.invariant.visited
+    let between = c.in_ok-between.ensures.walked in
+    let rest = take (length octets - at) (drop at octets) in
+    let close = octet_behind octets rest at j 41 (take_rest octets at) (c.in_ok-between.ensures.close c.if-closes.true) in
+    sexp_visited g.T.TextVisitor.visits c.args.level octets (at + j) c.args.tally.now c.walk_between.new.tally close.0 _ _ vs
+    (between_gone c.args.level octets rest at c.args.tally.now c.loop.tally c.walk_between.new.tally (take_rest octets at) brackets.Sexp vs false
+    between.0 (depths vs) (sum (map nodes vs)) c.loop.invariant.gone j between.2)
+    close.1 c.loop.invariant.visited
 
 pub walk_sexp-loop-init : goal.walk_sexp-loop-init
 walk_sexp-loop-init g t c = record {
@@ -141,32 +119,32 @@ pub walk_sexp-loop-preserved : goal.walk_sexp-loop-preserved
 walk_sexp-loop-preserved g t c =
     let octets = c.args.octets.now in
     let at = c.loop.at in
-    let j = c.walk_blank-at.result in
+    let j = c.in_ok-between.between in
     let vs = c.loop.invariant.values in
-    let gone = gone_blank brackets.Sexp c.args.level octets (take (length octets - at) (drop at octets)) at c.args.tally.now c.loop.tally
-    (λ ss. frames.Items listings.Sexp ss vs) nows.Ready (depths vs) (sum (map nodes vs)) c.loop.invariant.gone (take_rest octets at)
-    c.walk_blank-at.new.tally j c.walk_blank-at.ensures.passed c.walk_blank-at.ensures.within tt c.walk_blank-at.ensures.noted in
+    let between = c.in_ok-between.ensures.walked in
+    let gone = between_gone c.args.level octets (take (length octets - at) (drop at octets)) at c.args.tally.now c.loop.tally c.walk_between.new.tally
+    (take_rest octets at) brackets.Sexp vs false between.0 (depths vs) (sum (map nodes vs)) c.loop.invariant.gone j between.2 in
     record {
       values = vs ++ c.in_ok-value.ensures.walked.value ∷ [];
-      gone = item_value_on c.args.level octets (take (length octets - (at + j)) (drop (at + j) octets)) (at + j) c.args.tally.now c.walk_blank-at.new.tally
+      gone = item_value_on c.args.level octets (take (length octets - (at + j)) (drop (at + j) octets)) (at + j) c.args.tally.now c.walk_between.new.tally
           c.walk_item.new.tally (take_rest octets (at + j)) listings.Sexp vs gone c.in_ok-value.value c.in_ok-value.ensures.walked;
       visited = one_item vs c.in_ok-value.ensures.walked.value _ _ _ c.loop.invariant.visited
           c.in_ok-value.ensures.visited;
     }
 
-pub walk_struct-returns-then-begins_with : goal.walk_struct-returns-then-begins_with
-walk_struct-returns-then-begins_with g t c =
+pub walk_struct-returns-then-closes : goal.walk_struct-returns-then-closes
+walk_struct-returns-then-closes g t c =
     let octets = c.args.octets.now in
     let at = c.loop.at in
-    let j = c.walk_blank-at.result in
+    let j = c.in_ok-between.between in
     let ms = c.loop.invariant.fields in
-    let close = c.begins_with.ensures c.if-begins_with.true in
-    fields_visited g.T.TextVisitor.visits c.args.level octets (take (length octets - (at + j)) (drop (at + j) octets)) (at + j) c.args.tally.now
-    c.walk_blank-at.new.tally (take_rest octets (at + j)) close.0 _ _ ms c.loop.behind
-    (gone_blank brackets.Fields c.args.level octets (take (length octets - at) (drop at octets)) at c.args.tally.now c.loop.tally (λ ss. frames.Fields ss ms)
-    (field_now c.loop.behind) (field_depths ms) (sum (map field_nodes ms)) c.loop.invariant.gone (take_rest octets at)
-    c.walk_blank-at.new.tally j c.walk_blank-at.ensures.passed c.walk_blank-at.ensures.within (field_still c.loop.behind) c.walk_blank-at.ensures.noted) close.1
-    c.loop.invariant.visited
+    let between = c.in_ok-between.ensures.walked in
+    let rest = take (length octets - at) (drop at octets) in
+    let close = octet_behind octets rest at j 125 (take_rest octets at) (c.in_ok-between.ensures.close c.if-closes.true) in
+    fields_visited g.T.TextVisitor.visits c.args.level octets (at + j) c.args.tally.now c.walk_between.new.tally close.0 _ _ ms between.0
+    (between_gone c.args.level octets rest at c.args.tally.now c.loop.tally c.walk_between.new.tally (take_rest octets at) brackets.Fields ms c.loop.behind
+    between.0 (field_depths ms) (sum (map field_nodes ms)) c.loop.invariant.gone j between.2)
+    close.1 c.loop.invariant.visited
 
 pub walk_struct-loop-init : goal.walk_struct-loop-init
 walk_struct-loop-init g t c = record {
@@ -175,39 +153,20 @@ walk_struct-loop-init g t c = record {
   visited = no_fields c.args.visitor.now;
 }
 
-pub walk_struct-loop-preserved-then-behind : goal.walk_struct-loop-preserved-then-behind
-walk_struct-loop-preserved-then-behind g t c =
-    let octets = c.args.octets.now in
-    let at = c.loop.at in
-    let j = c.walk_blank-at.result in
-    let ms = c.loop.invariant.fields in
-    let gone = gone_blank brackets.Fields c.args.level octets (take (length octets - at) (drop at octets)) at c.args.tally.now c.loop.tally
-    (λ ss. frames.Fields ss ms) (field_now c.loop.behind) (field_depths ms) (sum (map field_nodes ms)) c.loop.invariant.gone (take_rest octets at)
-    c.walk_blank-at.new.tally j c.walk_blank-at.ensures.passed c.walk_blank-at.ensures.within (field_still c.loop.behind) c.walk_blank-at.ensures.noted in
-    record {
-      fields = ms;
-      gone = subst (λ k. FieldsGone c.args.level octets (at + j + k) c.args.tally.now c.walk_comma.new.tally ms false) (sym c.in_ok-comma.ensures.one)
-          (field_comma_on c.args.level octets (take (length octets - (at + j)) (drop (at + j) octets)) (at + j) c.args.tally.now c.walk_blank-at.new.tally
-          c.walk_comma.new.tally (take_rest octets (at + j)) ms
-          (subst (λ b. FieldsGone c.args.level octets (at + j) c.args.tally.now c.walk_blank-at.new.tally ms b) c.if-behind.true gone)
-          c.in_ok-comma.ensures.some c.in_ok-comma.ensures.comma c.in_ok-comma.ensures.noted);
-      visited = c.loop.invariant.visited;
-    }
-
 pub walk_struct-loop-preserved : goal.walk_struct-loop-preserved
 walk_struct-loop-preserved g t c =
     let octets = c.args.octets.now in
     let at = c.loop.at in
-    let j = c.walk_blank-at.result in
+    let j = c.in_ok-between.between in
     let i = c.in_ok-name.name in
     let name = c.in_ok-name.ensures.walked.name in
     let ms = c.loop.invariant.fields in
-    let gone = gone_blank brackets.Fields c.args.level octets (take (length octets - at) (drop at octets)) at c.args.tally.now c.loop.tally
-    (λ ss. frames.Fields ss ms) (field_now c.loop.behind) (field_depths ms) (sum (map field_nodes ms)) c.loop.invariant.gone (take_rest octets at)
-    c.walk_blank-at.new.tally j c.walk_blank-at.ensures.passed c.walk_blank-at.ensures.within (field_still c.loop.behind) c.walk_blank-at.ensures.noted in
-    let key = name_on c.args.level octets (take (length octets - (at + j)) (drop (at + j) octets)) (at + j) c.args.tally.now c.walk_blank-at.new.tally
+    let between = c.in_ok-between.ensures.walked in
+    let gone = between_gone c.args.level octets (take (length octets - at) (drop at octets)) at c.args.tally.now c.loop.tally c.walk_between.new.tally
+    (take_rest octets at) brackets.Fields ms c.loop.behind between.0 (field_depths ms) (sum (map field_nodes ms)) c.loop.invariant.gone j between.2 in
+    let key = name_on c.args.level octets (take (length octets - (at + j)) (drop (at + j) octets)) (at + j) c.args.tally.now c.walk_between.new.tally
     c.walk_name.new.tally (take_rest octets (at + j)) ms
-    (subst (λ b. FieldsGone c.args.level octets (at + j) c.args.tally.now c.walk_blank-at.new.tally ms b) c.if-behind.false gone) i
+    (subst (λ b. FieldsGone c.args.level octets (at + j) c.args.tally.now c.walk_between.new.tally ms b) (between.1 c.if-closes.false) gone) i
     c.in_ok-name.ensures.walked in
     record {
       fields = ms ++ field_of name c.in_ok-value.ensures.walked.value ∷ [];

@@ -16,5 +16,5 @@ returns g c =
     name_visited g.T.TextVisitor.visits octets key _ n _ c.args.tally.now c.walk_blank-blank.new.tally _ _ total
     (walked_name c.args.tally.now.rest octets c.args.token (record { name = Some c.args.text.now; begins = c.requires.name }) m behind.within behind.passed
     behind.colon behind.one c.args.tally.now c.pass_key-key.new.self c.walk_blank-blank.new.tally n rest refl
-    (take_rest octets key ∙ ap (λ k. drop k octets) total) c.walk_blank-blank.ensures.within c.walk_blank-blank.ensures.passed c.pass_key-key.ensures.noted
-    c.walk_blank-blank.ensures.noted) (c.name.ensures c.if-not-name.false)
+    (take_rest octets key ∙ ap (λ k. drop k octets) total) c.pass_key-key.ensures.noted c.walk_blank-blank.ensures.rests c.walk_blank-blank.ensures.noted)
+    (c.name.ensures c.if-not-name.false)
