@@ -3,6 +3,7 @@
 pub mod Answered
 pub mod Cutting
 pub mod EndsShown
+pub mod EscapedTexts
 pub mod GoesOn
 pub mod LastOctets
 pub mod Lendings

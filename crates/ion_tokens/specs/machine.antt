@@ -2,6 +2,7 @@
 pub mod Ahead
 pub mod Bounds
 pub mod AtOnce
+pub mod Contents
 pub mod Foreseen
 pub mod Lent
 pub mod Machines

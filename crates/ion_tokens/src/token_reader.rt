@@ -100,6 +100,9 @@ impl Machine {
         ensures { IfSome result (λ found. IsFound place rest octets.now found.kind
             self.new.ended.items found.count found.left) }
     {
+        if let Some(found) = self.found_at_once(octets) {
+            return Some(found);
+        }
         self.rest(rest);
         match self.run(place, octets) {
             Ok(Taken::Given(lexeme)) => self.found(place, rest, lexeme, false),

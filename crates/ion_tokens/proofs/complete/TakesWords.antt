@@ -69,10 +69,12 @@ dot_moves p colon start used r = refl
 kind_more : (o : ℕ) → is_word_octet o ≡ true → in_kind_name o ≡ actions.Go modes.KindName (keeps.One o)
 kind_more o h = ap (λ b. cond b (add modes.KindName o) (before kinds.KindName)) h
 
-kind_ends : (o : ℕ) → is_word_octet o ≡ false → in_kind_name o ≡ actions.Before kinds.KindName keeps.Nothing modes.Blank
+-- an octet of no word ends the name behind `null.`
+pub kind_ends : (o : ℕ) → is_word_octet o ≡ false → in_kind_name o ≡ actions.Before kinds.KindName keeps.Nothing modes.Blank
 kind_ends o h = ap (λ b. cond b (add modes.KindName o) (before kinds.KindName)) h
 
-opens_kind : (p : Place) (colon : Bool) (name : List ℕ) → Each is_word_octet name → Opens p colon (codes "null." ++ name) modes.KindName name
+-- from a blank `null.` and the octets of a name open a typed null, of which the name is kept
+pub opens_kind : (p : Place) (colon : Bool) (name : List ℕ) → Each is_word_octet name → Opens p colon (codes "null." ++ name) modes.KindName name
 opens_kind p colon name h = opens_then p colon (codes "null.") name modes.KindName modes.KindName [] name
     (opens_then p colon (codes "null") (46 ∷ []) modes.Word modes.KindName (codes "null") [] (opens_word p colon (codes "null") null_word) (dot_moves p))
     (moves_each p modes.KindName is_word_octet name [] (λ s u. refl) (λ x g c. kind_more x g) h)

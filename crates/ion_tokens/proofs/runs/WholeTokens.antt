@@ -27,6 +27,7 @@ use Rattle.ion_tokens.specs.machine.Table.{next, in_blank}
 use Rattle.ion_tokens.specs.machine.Scanning.{Known, Next, Given, Left, feed, run, acts, past, cut, go_to, kept_after}
 use Rattle.ion_tokens.specs.Lexemes.{Each, begins, begins_number, IsWord}
 use Rattle.ion_tokens.specs.machine.AtOnce.{is_raw, is_numeric, is_plain_operator, AreKept}
+use Rattle.ion_tokens.specs.machine.Contents.{LeadsOn}
 use Rattle.ion_tokens.specs.machine.Rests.{resting, past_blank, IsPassed, IsFound}
 use Rattle.ion_tokens.proofs.complete.Moves.{at, Opens, opens_one, opens_then, Moves, moves_one, moves_then, Stays}
 use Rattle.ion_tokens.proofs.texts.Characters.{ascii_each, kept_goes}
@@ -57,8 +58,8 @@ ran p r w n m kept f e = ap (λ l. run p l (resting r)) (sym (append-nil w)) ∙
     ∙ ap (λ (i : ℕ). Next (at m kept r.colon r.used (r.used + i))) e
 
 -- the octet behind it ends it
-opened_left : (p : Place) (r : Rest) (octets : List ℕ) (n : ℕ) (kind : TokenKind) (m : Mode) (kept : List ℕ) (k : Keep) → Opens p r.colon (take n octets) m kept
-    → Stays m → 0 < n → n < length octets
+pub opened_left : (p : Place) (r : Rest) (octets : List ℕ) (n : ℕ) (kind : TokenKind) (m : Mode) (kept : List ℕ) (k : Keep)
+    → Opens p r.colon (take n octets) m kept → Stays m → 0 < n → n < length octets
     → next p r.colon m (slice_index octets n) ≡ actions.Before kind k modes.Blank → IsFound p r octets kind (kept_after k kept) n true
 opened_left p r octets n kind m kept k f h some more e = record {
   some = some;
@@ -74,7 +75,7 @@ opened_left p r octets n kind m kept k f h some more e = record {
 }
 
 -- its last octet ends it
-opened_given : (p : Place) (r : Rest) (octets : List ℕ) (n : ℕ) (kind : TokenKind) (m : Mode) (kept : List ℕ) (k : Keep)
+pub opened_given : (p : Place) (r : Rest) (octets : List ℕ) (n : ℕ) (kind : TokenKind) (m : Mode) (kept : List ℕ) (k : Keep)
     → Opens p r.colon (take n octets) m kept → Stays m → n < length octets
     → next p r.colon m (slice_index octets n) ≡ actions.Give kind k → IsFound p r octets kind (kept_after k kept) (n + 1) false
 opened_given p r octets n kind m kept k f h more e =
@@ -313,29 +314,29 @@ quoted_found octets n some first kept one more last =
     quoted_stands octets n some first (subst (λ w. AreKept styles.QuotedSymbol (take n w)) tail kept) (omega arith)
     (subst (λ (w : List ℕ). n < length w) tail more) (subst (λ w. slice_index w n ≡ 39) tail last)
 
--- three quotes, characters that are kept as they are, and three quotes stand whole as a segment of a long string
-long_stands : (w us : List ℕ) → AreKept styles.LongString w
-    → (p : Place) (r : Rest) → IsFound p r (39 ∷ 39 ∷ 39 ∷ (w ++ 39 ∷ 39 ∷ 39 ∷ us)) kinds.LongString w (length w + 6) false
-long_stands w us kept p r =
+-- three quotes, octets that lead from between two characters to between two, and three quotes stand whole as a segment of a long string
+pub long_closes : (w us kept : List ℕ) → LeadsOn styles.LongString w [] kept
+    → (p : Place) (r : Rest) → IsFound p r (39 ∷ 39 ∷ 39 ∷ (w ++ 39 ∷ 39 ∷ 39 ∷ us)) kinds.LongString kept (length w + 6) false
+long_closes w us kept leads p r =
     let octets : List ℕ = 39 ∷ 39 ∷ 39 ∷ (w ++ 39 ∷ 39 ∷ 39 ∷ us) in
     let n : ℕ = length w + 5 in
-    let inside : List ℕ = (w ++ 39 ∷ []) ++ 39 ∷ [] in
+    let inside : List ℕ = (kept ++ 39 ∷ []) ++ 39 ∷ [] in
     let size : length octets ≡ length w + 6 + length us = omega (arith, length-append w (39 ∷ 39 ∷ 39 ∷ us)) in
     let opens : Opens p r.colon (take n octets) (modes.Text styles.LongString within.TwoQuotes) inside =
     subst (λ x. Opens p r.colon x (modes.Text styles.LongString within.TwoQuotes) inside) (sym (front w us))
     (opens_then p r.colon (39 ∷ 39 ∷ 39 ∷ []) (w ++ 39 ∷ 39 ∷ []) (modes.Text styles.LongString within.Plain) (modes.Text styles.LongString within.TwoQuotes) []
     inside (opens_long p r.colon)
     (moves_then p (modes.Text styles.LongString within.Plain) (modes.Text styles.LongString within.Plain) (modes.Text styles.LongString within.TwoQuotes) w
-    (39 ∷ 39 ∷ []) [] w inside (text_moves p styles.LongString w [] kept)
+    (39 ∷ 39 ∷ []) [] kept inside (leads p)
     (moves_then p (modes.Text styles.LongString within.Plain) (modes.Text styles.LongString within.OneQuote) (modes.Text styles.LongString within.TwoQuotes)
-    (39 ∷ []) (39 ∷ []) w (w ++ 39 ∷ []) inside
-    (moves_one p (modes.Text styles.LongString within.Plain) 39 w (modes.Text styles.LongString within.OneQuote) (keeps.One 39) (λ a b. refl) (λ b. refl))
-    (moves_one p (modes.Text styles.LongString within.OneQuote) 39 (w ++ 39 ∷ []) (modes.Text styles.LongString within.TwoQuotes) (keeps.One 39) (λ a b. refl)
-    (λ b. refl))))) in
+    (39 ∷ []) (39 ∷ []) kept (kept ++ 39 ∷ []) inside
+    (moves_one p (modes.Text styles.LongString within.Plain) 39 kept (modes.Text styles.LongString within.OneQuote) (keeps.One 39) (λ a b. refl) (λ b. refl))
+    (moves_one p (modes.Text styles.LongString within.OneQuote) 39 (kept ++ 39 ∷ []) (modes.Text styles.LongString within.TwoQuotes) (keeps.One 39)
+    (λ a b. refl) (λ b. refl))))) in
     let last : slice_index octets n ≡ 39 = third w us in
     let total : n + 1 ≡ length w + 6 = omega arith in
-    subst (λ (k : ℕ). IsFound p r octets kinds.LongString w k false) total
-    (subst (λ k. IsFound p r octets kinds.LongString k (n + 1) false) (drops_two w 39 39)
+    subst (λ (k : ℕ). IsFound p r octets kinds.LongString kept k false) total
+    (subst (λ k. IsFound p r octets kinds.LongString k (n + 1) false) (drops_two kept 39 39)
     (opened_given p r octets n kinds.LongString (modes.Text styles.LongString within.TwoQuotes) inside keeps.DropQuotes opens (λ s u. refl) (omega arith)
     (ap (λ (x : ℕ). next p r.colon (modes.Text styles.LongString within.TwoQuotes) x) last)))
   where
@@ -358,6 +359,11 @@ long_stands w us kept p r =
     third w us =
         let e : length w + 5 ≡ suc (suc (suc (length w + 2))) = omega arith in
         ap (slice_index (39 ∷ 39 ∷ 39 ∷ (w ++ 39 ∷ 39 ∷ 39 ∷ us))) e ∙ at_third w us (length w + 2) refl
+
+-- so do characters that are kept as they are
+long_stands : (w us : List ℕ) → AreKept styles.LongString w
+    → (p : Place) (r : Rest) → IsFound p r (39 ∷ 39 ∷ 39 ∷ (w ++ 39 ∷ 39 ∷ 39 ∷ us)) kinds.LongString w (length w + 6) false
+long_stands w us kept p r = long_closes w us w (λ p. text_moves p styles.LongString w [] kept) p r
 
 -- a segment of a long string stands whole where its characters are kept as they are
 pub long_found : (octets content behind us : List ℕ) (n : ℕ) → octets ≡ 39 ∷ 39 ∷ 39 ∷ behind → content ≡ drop 3 octets

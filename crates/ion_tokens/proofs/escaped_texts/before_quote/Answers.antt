@@ -1,0 +1,14 @@
+use Rattle.std.proofs.Common.{arith, length, length-drop, ap}
+use Rattle.std.proofs.lemmas.List.{take_rest}
+use Rattle.ion_tokens.proofs.runs.EscapedTexts.{leads_then}
+use Rattle.ion_tokens.proofs.escaped_texts.before_quote.Goals as goal
+
+pub loop-at-preserved : goal.loop-at-preserved
+loop-at-preserved c =
+    let octets = c.args.octets.now in
+    let at = c.loop-at.at in
+    let rest = take_rest octets at in
+    record {
+      within = let same = ap length rest in let l = length-drop at octets in let k = c.in_ok-at.ensures.within in omega arith;
+      leads = leads_then c.args.style octets _ _ _ _ at c.in_ok-at.field-0 rest c.loop-at.invariant.leads c.in_ok-at.ensures.leads;
+    }

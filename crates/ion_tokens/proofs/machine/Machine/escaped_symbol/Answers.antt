@@ -1,0 +1,15 @@
+use Rattle.std.proofs.Common.{subst, false, take, ◌+◌}
+use Rattle.ion_tokens.specs.declared.mode.Style.TheVariants as styles
+use Rattle.ion_tokens.specs.declared.mode.TokenKind.TheVariants as kinds
+use Rattle.ion_tokens.specs.machine.Contents.{LeadsOn}
+use Rattle.ion_tokens.proofs.runs.EscapedTexts.{stands_as, symbol_stands}
+use Rattle.ion_tokens.proofs.machine.Machine.escaped_symbol.Goals as goal
+
+pub returns : goal.returns
+returns c =
+    let behind = c.args.behind.now in
+    let n = c.in_ok-count.count in
+    let kept = c.before_quote.new.kept.items in
+    let leads = subst (λ old. LeadsOn styles.QuotedSymbol (take n behind) old kept) c.requires c.in_ok-count.ensures.leads in
+    stands_as _ kept _ c.whole.result kinds.QuotedSymbol (n + 2) false c.whole.ensures.token c.whole.ensures.ended
+    (symbol_stands behind kept n c.in_ok-count.ensures.within c.in_ok-count.ensures.quote c.if-behind-eq39.false leads)

@@ -1,0 +1,24 @@
+-- What stands between the quotes of a text that lies whole in memory, and the token that it is.
+use Rattle.std.specs.Prelude.{◌≡◌, ℕ, ◌+◌, Bool, List, ◌++◌, length}
+use Rattle.ion_tokens.specs.declared.mode.Place.{Place}
+use Rattle.ion_tokens.specs.declared.mode.Style.{Style}
+use Rattle.ion_tokens.specs.declared.mode.Within.TheVariants as within
+use Rattle.ion_tokens.specs.declared.mode.Mode.TheVariants as modes
+use Rattle.ion_tokens.specs.declared.plain_tokens.Rest.{Rest}
+use Rattle.ion_tokens.specs.declared.token_reader.FoundToken.{FoundToken}
+use Rattle.ion_tokens.specs.machine.Scanning.{Known, run}
+use Rattle.ion_tokens.specs.machine.Rests.{IsFound}
+
+-- between two characters of a text of this style, of which these octets are kept
+abbrev pub between : Style → List ℕ → Bool → ℕ → ℕ → Known
+between s kept colon start used = record { mode = modes.Text s within.Plain; kept = kept; colon = colon; start = start; used = used }
+
+-- Over these octets a text of this style comes from between two characters to between two, whatever follows. The one list was kept
+-- before, and the other is kept then.
+abbrev pub LeadsOn : Style → List ℕ → List ℕ → List ℕ → Type 0
+LeadsOn s octets kept kept' = (p : Place) (colon : Bool) (start used : ℕ) (behind : List ℕ)
+    → run p (octets ++ behind) (between s kept colon start used) ≡ run p behind (between s kept' colon start (used + length octets))
+
+-- Wherever a scanner rests, octets begin with this token, of which these are kept.
+abbrev pub StandsWhole : List ℕ → List ℕ → FoundToken → Type 0
+StandsWhole octets kept found = (p : Place) (r : Rest) → IsFound p r octets found.kind kept found.count found.left

@@ -1,0 +1,134 @@
+//! Quoted texts with escapes of two octets, and typed nulls, that lie whole in memory: what stands
+//! between two escapes is kept at once.
+ghost use Rattle.std.specs.Prelude.{◌≡◌, ◌<◌, ◌≤◌, [], ◌∷◌, length, slice_index, take, IfSome};
+ghost use Rattle.ion_tokens.specs.Styles.{quote_of};
+ghost use Rattle.ion_tokens.specs.machine.Contents.{LeadsOn, StandsWhole};
+
+use crate::front::{characters, of_word};
+use crate::machine::Machine;
+use crate::mode::{Style, TokenKind};
+use crate::octets::escaped;
+use crate::quoted::quote_of;
+use crate::token_reader::FoundToken;
+use std::mem;
+
+// Keeps what the escape or the run of characters at the front means, and counts its octets; `None`
+// where neither stands there, and where memory runs out.
+#[inline(always)]
+fn part(style: Style, octets: &[u8], kept: &mut Vec<u8>) -> Option<usize>
+    requires { 0 < length octets.now }
+    ensures some { IfSome result (λ count. 0 < count) }
+    ensures within { IfSome result (λ count. count ≤ length octets.now) }
+    ensures leads { IfSome result (λ count.
+        LeadsOn style (take count octets.now) kept.old.items kept.new.items) }
+{
+    if octets[0] == b'\\' {
+        if octets.len() < 2 {
+            return None;
+        }
+        let meant = escaped(octets[1])?;
+        kept.push(meant).ok()?;
+        return Some(2);
+    }
+    let count = characters(style, octets);
+    if count == 0 {
+        return None;
+    }
+    kept.extend_from_slice(&octets[..count]).ok()?;
+    Some(count)
+}
+
+// Keeps what stands before the first quote, and counts its octets.
+fn before_quote(style: Style, octets: &[u8], kept: &mut Vec<u8>) -> Option<usize>
+    ensures within { IfSome result (λ count. count < length octets.now) }
+    ensures quote { IfSome result (λ count. slice_index octets.now count ≡ quote_of style) }
+    ensures leads { IfSome result (λ count.
+        LeadsOn style (take count octets.now) kept.old.items kept.new.items) }
+{
+    let quote = quote_of(style);
+    let mut at = 0;
+    while at < octets.len() {
+        if octets[at] == quote {
+            return Some(at);
+        }
+        at += part(style, &octets[at..], kept)?;
+    }
+    None
+}
+
+impl Machine {
+    /// The token at the front of octets where the machine rests, if it is a typed null or a quoted
+    /// text whose characters stand as they are or are escapes of two octets. `None` also of the
+    /// empty symbol, of a segment of a long string with quotes in it, and where memory runs out.
+    pub fn found_at_once(&mut self, octets: &[u8]) -> Option<FoundToken>
+        ensures { IfSome result (λ found. StandsWhole octets.now self.new.ended.items found) }
+    {
+        self.kept.clear();
+        match octets.split_first() {
+            Some((b'"', behind)) => self.escaped_string(behind),
+            Some((b'\'', behind)) => self.escaped_symbol(behind),
+            Some((b'n', _)) => self.typed_null(octets),
+            _ => None,
+        }
+    }
+
+    // The same behind the quote of a short string.
+    fn escaped_string(&mut self, behind: &[u8]) -> Option<FoundToken>
+        requires { self.old.kept.items ≡ [] }
+        ensures { IfSome result (λ found.
+            StandsWhole (34 ∷ behind.now) self.new.ended.items found) }
+    {
+        let count = before_quote(Style::ShortString, behind, &mut self.kept)?;
+        Some(self.whole(TokenKind::ShortString, count + 2, false))
+    }
+
+    // The same behind a single quote.
+    fn escaped_symbol(&mut self, behind: &[u8]) -> Option<FoundToken>
+        requires { self.old.kept.items ≡ [] }
+        ensures { IfSome result (λ found.
+            StandsWhole (39 ∷ behind.now) self.new.ended.items found) }
+    {
+        if let Some(content) = behind.strip_prefix(b"''") {
+            return self.escaped_segment(content);
+        }
+        let count = before_quote(Style::QuotedSymbol, behind, &mut self.kept)?;
+        if behind[0] == b'\'' {
+            return None;
+        }
+        Some(self.whole(TokenKind::QuotedSymbol, count + 2, false))
+    }
+
+    // The same behind the three quotes of a segment of a long string.
+    fn escaped_segment(&mut self, behind: &[u8]) -> Option<FoundToken>
+        requires { self.old.kept.items ≡ [] }
+        ensures { IfSome result (λ found.
+            StandsWhole (39 ∷ 39 ∷ 39 ∷ behind.now) self.new.ended.items found) }
+    {
+        let count = before_quote(Style::LongString, behind, &mut self.kept)?;
+        behind[count..].strip_prefix(b"'''")?;
+        Some(self.whole(TokenKind::LongString, count + 6, false))
+    }
+
+    // The same of a typed null.
+    fn typed_null(&mut self, octets: &[u8]) -> Option<FoundToken>
+        requires { self.old.kept.items ≡ [] }
+        ensures { IfSome result (λ found. StandsWhole octets.now self.new.ended.items found) }
+    {
+        let name = octets.strip_prefix(b"null.")?;
+        let count = of_word(name);
+        if count >= name.len() {
+            return None;
+        }
+        self.kept.extend_from_slice(&name[..count]).ok()?;
+        Some(self.whole(TokenKind::KindName, count + 5, true))
+    }
+
+    // What was kept is that of a token.
+    fn whole(&mut self, kind: TokenKind, count: usize, left: bool) -> FoundToken
+        ensures token { result ≡ record { kind = kind; count = count; left = left } }
+        ensures ended { self.new.ended.items ≡ self.old.kept.items }
+    {
+        mem::swap(&mut self.kept, &mut self.ended);
+        FoundToken { kind, count, left }
+    }
+}
