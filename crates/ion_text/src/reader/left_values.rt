@@ -17,6 +17,7 @@ use ion_visiting::{Part, TextVisitor};
 
 /// The number there, where the octet behind it shows its end: how many octets it has, and where a
 /// scanner rests behind them.
+#[inline(always)]
 pub(super) fn number_left(octets: &[u8], rest: Rest) -> Option<(usize, Rest, Number)>
     requires room { rest.used + length octets.now < 2 ^ 63 }
     ensures found { IfSome result (λ left.
@@ -31,6 +32,7 @@ pub(super) fn number_left(octets: &[u8], rest: Rest) -> Option<(usize, Rest, Num
 
 /// The same of the symbol there and the blank behind it, where the octet behind that shows that no
 /// `::` follows.
+#[inline(always)]
 pub(super) fn symbol_left(octets: &[u8], rest: Rest) -> Option<(usize, Rest, Kind, Part<'_>)>
     requires room { rest.used + length octets.now < 2 ^ 63 }
     ensures found { IfSome result (λ left.
