@@ -1,4 +1,4 @@
-//! Whether two values are equivalent, by normal forms of structs.
+//! Whether two values are equivalent, by pairs of fields or by normal forms of structs.
 ghost use Rattle.std.specs.Prelude.{◌≡◌, ◌≤◌, true, false, Ok, Some, MatchResult, MatchOption, length, slice_get};
 ghost use Rattle.std.specs.declared.cmp.Ordering.TheVariants.{Equal};
 ghost use Rattle.std.specs.Ordering.{is_eq};
