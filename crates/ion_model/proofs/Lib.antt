@@ -12,3 +12,4 @@ pub mod PartingOne
 pub mod NormalSome
 pub mod PathSome
 pub mod PathEnds
+pub mod Pairing

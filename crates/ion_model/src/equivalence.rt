@@ -1,5 +1,5 @@
-//! Whether two values are equivalent, by normal forms of structs.
-ghost use Rattle.std.specs.Prelude.{◌≡◌, true, Ok, MatchResult};
+//! Whether two values are equivalent, by pairs of fields or by normal forms of structs.
+ghost use Rattle.std.specs.Prelude.{◌≡◌, ◌≤◌, true, false, Ok, Some, MatchResult, MatchOption, length, slice_get};
 ghost use Rattle.std.specs.declared.cmp.Ordering.TheVariants.{Equal};
 ghost use Rattle.std.specs.Ordering.{is_eq};
 ghost use Rattle.std.specs.Cmp.Lexicographic.{slice_cmp};
@@ -19,9 +19,14 @@ use crate::value::{Field, Payload, Value};
 use ion_atoms::Reason;
 use std::alloc::Global;
 
+// How many fields may be paired off, which compares some n² names.
+const MOST_PAIRED: usize = 64;
+
 /// Whether two values are equivalent, as `same_slow` says. The only refusal is `Memory`. Values
 /// that agree part by part, fields as they stand, take no memory. Others are compared as they stand
-/// down to their structs; two structs of n fields each are copied, their fields sorted, inner
+/// down to their structs. In two structs of 64 fields each at most, a field of the one is paired
+/// with the first of its name that the other has left; where all pairs agree as they stand, that
+/// takes no memory either. Other structs of n fields each are copied, their fields sorted, inner
 /// levels first, and then compared, which costs some n log n comparisons of fields. Calls itself
 /// once for each level.
 pub fn equivalent(alloc: Global, a: &Value, b: &Value) -> Result<bool, Reason>
@@ -88,9 +93,49 @@ fn equivalent_fields(
     if fs.len() != gs.len() {
         return Ok(false);
     }
+    if are_reordered(fs.as_slice(), gs.as_slice()) {
+        return Ok(true);
+    }
     let left = sorted(alloc, fs)?;
     let right = sorted(alloc, gs)?;
     Ok(tied(&left, &right))
+}
+
+// Whether these are few fields, and those of the other struct in some order, each value as it
+// stands there. Of the fields of one name only the first that is left is tried, so that each value
+// is compared once at most.
+fn are_reordered(fs: &[Field], gs: &[Field]) -> bool
+    requires { length fs.now ≡ length gs.now }
+    ensures { result ≡ true → fields_same same fs.now gs.now ≡ true }
+{
+    if gs.len() > MOST_PAIRED {
+        return false;
+    }
+    let mut paired = [false; MOST_PAIRED];
+    for field in fs {
+        match partner(field, gs, &paired) {
+            None => return false,
+            Some(at) => paired[at] = true,
+        }
+    }
+    true
+}
+
+// The place of the first field of this name that isn't paired yet, if its value is this one's.
+fn partner(field: &Field, gs: &[Field], paired: &[bool]) -> Option<usize>
+    requires { length gs.now ≤ length paired.now }
+    ensures { MatchOption result (Unit {0}) (λ at. (slice_get gs.now at ≡ Some field.now)
+        × (slice_get paired.now at ≡ Some false)) }
+{
+    for (at, other) in gs.iter().enumerate() {
+        if !paired[at] && field.name.same(&other.name) {
+            if order(&field.value, &other.value).is_eq() {
+                return Some(at);
+            }
+            return None;
+        }
+    }
+    None
 }
 
 // The fields in ascending order, their values in normal form.
