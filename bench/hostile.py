@@ -92,6 +92,27 @@ def one_comment(octets):
     return b"/*" + filled(b"* /", octets) + b"*/"
 
 
+def commented_lists(octets):
+    return filled(b"[" + b"/**/" * 500 + b"1]\n", octets)
+
+
+def comments_before_an_id(octets):
+    """Lists that are gone over up to the id of a symbol, and then built."""
+    return filled(b"[" + b"/*\n*/ " * 300 + b"$4]\n", octets)
+
+
+def escapes_before_a_number(octets):
+    """Strings whose escapes are taken two octets at a time up to one that goes on by a number."""
+    return filled(b'["' + b"\\n" * 1000 + b'\\x41"]\n', octets)
+
+
+def names_turned_around(count, turned=False):
+    """Structs of as many fields of one name as are paired off without copies."""
+    values = [str(value).encode() for value in range(64)]
+    one = b"{" + b",".join(b"a:" + value for value in (reversed(values) if turned else values)) + b"}\n"
+    return one * (count // 64)
+
+
 def binary_markers(octets):
     return MARKER * (octets // 4)
 
@@ -262,6 +283,10 @@ CASES = [
     ("blanks before a small item", "check A --item 6", [blanks_before_a_struct], STREAM, SMALL),
     ("comments", "check A", [line_comments], STREAM, SMALL),
     ("one comment", "check A", [one_comment], STREAM, SMALL),
+    ("lists of comments", "check A", [commented_lists], MILLION, SMALL),
+    ("comments before what isn't passed over", "check A", [comments_before_an_id], MILLION, SMALL),
+    ("escapes before what isn't taken at once", "check A", [escapes_before_a_number], MILLION, SMALL),
+    ("fields of one name turned around, compared", "compare A B", [names_turned_around, lambda count: names_turned_around(count, True)], MILLION, SMALL),
     ("version markers", "check A", [binary_markers], STREAM, SMALL),
     ("version markers in text", "check A", [text_markers], STREAM, SMALL),
     ("nulls", "check A", [nulls], ITEM, LARGE),
