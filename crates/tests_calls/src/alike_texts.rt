@@ -49,13 +49,16 @@ fn taken_up(alloc: Global, catalog: &Catalog, other_limits: Limits, row: &Row) -
     taken
 }
 
-static ROWS: [Row; 15] = [
+static ROWS: [Row; 17] = [
     // containers and short strings of equal octets, behind any blank
     (b"[1,true]", b"[1,true]", Some((8, 8))),
     (b" {a:1} 2", b"{a:1}", Some((6, 5))),
     (b"\n(+ b)", b"  \t(+ b)", Some((6, 8))),
     (b"\"ab\"", b"\"ab\"\"ab\"", Some((4, 4))),
     (b"a::'b c'::[d]", b"a::'b c'::[d]", Some((13, 13))),
+    // and behind any comment; one in the value has to be the same
+    (b"/* x */ [1]", b"// y\n[1]", Some((11, 8))),
+    (b"[1/**/]", b"[1/**/]", Some((7, 7))),
     // numbers of equal octets and equal symbols, with the blank behind a symbol; the next octet
     // shows their end
     (b"1 ", b"1 ", Some((1, 1))),
