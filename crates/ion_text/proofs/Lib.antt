@@ -28,6 +28,7 @@ pub mod Elsewhere
 pub mod Alikes
 pub mod Visited
 mod Transcribed
+pub mod Built
 mod Wrote
 pub mod Calls
 pub mod QuotedRuns

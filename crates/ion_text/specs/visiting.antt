@@ -2,3 +2,4 @@
 pub mod Parts
 pub mod Walks
 pub mod Transcribing
+pub mod Building

@@ -1,9 +1,11 @@
 //! Documents of Ion text (Ion 1.0, "Ion Text Encoding"): their reader and their writer.
 #![tactic(auto)]
 
+mod building;
 mod display;
 mod escape;
 pub mod laws;
+mod payloads;
 mod reader;
 mod scalar;
 mod spelled;

@@ -18,6 +18,7 @@ mod alike;
 mod annotation_or_value;
 mod annotations;
 mod blanks_while_waiting;
+mod built_values;
 mod containers;
 mod end_of_input;
 mod escaped_tokens;

@@ -11,7 +11,7 @@ ghost use Rattle.ion_text.specs.machine.Views.{reading_of};
 
 use super::TextReader;
 use super::finders::operator_at;
-use super::tokens_at_once::payload_of;
+use crate::payloads::payload_of;
 use crate::state::Effect;
 use ion_model::{Payload, Reason, Symbol};
 use ion_tokens::{Body, FoundToken, Place, Rest};

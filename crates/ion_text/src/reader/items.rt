@@ -1,11 +1,12 @@
 //! The reader as `Items`: steps over pieces, and the end.
-ghost use Rattle.std.specs.Prelude.{◌≡◌, ℕ, List, Err, IfOk, IfErr, IfSome, IsNone};
+ghost use Rattle.std.specs.Prelude.{◌≡◌, ◌+◌, ◌++◌, ◌<◌, ◌^◌, ℕ, List, length, take, Err, IfOk, IfErr, IfSome, IsNone};
 ghost use Rattle.ion_model.specs.declared.value.Value.{Value as AnyValue};
 ghost use Rattle.ion_atoms.specs.declared.refusal.Reason.TheVariants.{Memory};
-ghost use Rattle.ion_symtab.specs.Trace.{Finishes};
+ghost use Rattle.ion_symtab.specs.Trace.{Answers, Finishes, given_at};
+ghost use Rattle.ion_symtab.specs.Steps.{RefusesBy, StepsOver};
 ghost use Rattle.ion_symtab.specs.IsNew.{IsNew};
 ghost use Rattle.ion_text.specs.machine.Run.{trace};
-ghost use Rattle.ion_text.specs.machine.Progress.{Stands, failed, octets_used};
+ghost use Rattle.ion_text.specs.machine.Progress.{BeginsWith, Stands, failed, octets_used, pending};
 
 use super::TextReader;
 use crate::state::Now;
@@ -53,6 +54,30 @@ impl TextReader<'_> {
             Some(refusal) => Some(refusal),
             None => self.scanner.refusal(),
         }
+    }
+
+    /// A step that takes tokens one by one, where nothing was refused yet.
+    fn step_by_tokens(&mut self, piece: &[u8]) -> Result<Step, Refusal>
+        requires well { IsNone (failed self.old) }
+        requires room { octets_used self.old + length piece.now < 2 ^ 63 }
+        requires begins { BeginsWith self.old.awaited piece.now }
+        ensures setting { (self.new.catalog.now ≡ self.old.catalog.now)
+            × (self.new.limits ≡ self.old.limits) }
+        ensures leaves { IfOk result (λ step. StepsOver octets_used pending (λ r. r.awaited) failed
+            self.old self.new piece.now step.used step.value) }
+        ensures stands { IfOk result (λ step. (u : List ℕ) (s : List (AnyValue × ℕ)) →
+            Stands self.old u s → Stands self.new (u ++ take step.used piece.now)
+            (s ++ given_at step.value (length u + step.used))) }
+        ensures answers { (u : List ℕ) (s : List (AnyValue × ℕ)) → Stands self.old u s →
+            Answers (trace self.old.catalog.now self.old.limits) u s piece.now result }
+        ensures refuses { IfErr result (RefusesBy octets_used pending (λ r. r.awaited) failed
+            self.old self.new piece.now) }
+    {
+        let result = self.advance(piece);
+        if let Err(refusal) = &result {
+            self.failed = Some(*refusal);
+        }
+        result
     }
 
     /// What the end answers, where a step refused before too.
@@ -164,11 +189,10 @@ impl Items for TextReader<'_> {
             self.awaited = None;
             return Err(refusal);
         }
-        let result = self.advance(piece);
-        if let Err(refusal) = &result {
-            self.failed = Some(*refusal);
+        if let Some(step) = self.build(piece) {
+            return Ok(step);
         }
-        result
+        self.step_by_tokens(piece)
     }
 
     #[inline(never)]
@@ -183,7 +207,7 @@ impl Items for TextReader<'_> {
                 outline: Some(outline),
             });
         }
-        match self.step(piece) {
+        match self.step_by_tokens(piece) {
             Err(refusal) => Err(refusal),
             Ok(step) => Ok(step.passed()),
         }

@@ -3,28 +3,17 @@ ghost use Rattle.std.specs.Prelude.{◌≡◌, [], ◌∷◌, ◌++◌, Some, Ma
 ghost use Rattle.ion_atoms.specs.declared.refusal.Reason.TheVariants as reasons;
 ghost use Rattle.ion_text.specs.declared.state.Now.TheVariants as nows;
 ghost use Rattle.ion_text.specs.machine.EachToken.{at, goes, keyed, turn, on_ready, on_pending, on_long, on_name, on_long_name, on_after, on_keyed};
-ghost use Rattle.ion_visiting.specs.Parts.{number_payload};
 ghost use Rattle.ion_tokens.specs.Bodies.{content, Word, Mark'};
 ghost use Rattle.ion_text.specs.machine.Views.{setting_of, spot_of, open_frames, reading_of, token_in, Does, SameSetting};
 
 use super::TextReader;
+use crate::payloads::number_payload;
 use crate::state::{Effect, Held, Now};
 use crate::words::{held_word, is_keyword};
 use ion_model::{Payload, Reason, Symbol, Text};
-use ion_scalar::Number;
 use ion_tokens::{Body, Mark, Token};
 use ion_visiting::Bracket;
 use std::mem;
-
-pub(super) fn number_payload(number: Number) -> Payload
-    ensures { result ≡ number_payload number }
-{
-    match number {
-        Number::Int(whole) => Payload::Int(whole),
-        Number::Decimal(decimal) => Payload::Decimal(decimal),
-        Number::Timestamp(timestamp) => Payload::Timestamp(timestamp),
-    }
-}
 
 impl TextReader<'_> {
     /// What a token does.

@@ -1,14 +1,12 @@
 //! Tokens that lie whole in a piece, where a container is open. What is cut, refused or unusual is
 //! left to the octets. Where a container is open a value only goes on; another answer couldn't
 //! come, and is told as memory that ran out, which says nothing of the octets.
-ghost use Rattle.std.specs.Prelude.{◌≡◌, ◌+◌, ◌<◌, ◌≤◌, ◌^◌, [], length, true, false, not, IfOk, IfErr};
-ghost use Rattle.ion_atoms.specs.declared.refusal.Reason.TheVariants.{Memory};
+ghost use Rattle.std.specs.Prelude.{◌≡◌, ◌+◌, ◌<◌, ◌≤◌, ◌^◌, [], length, true, false, not, IfOk};
 ghost use Rattle.ion_tokens.specs.machine.Views.{scanned};
 ghost use Rattle.ion_tokens.specs.Places.{is_name};
 ghost use Rattle.ion_tokens.specs.machine.Rests.{resting, IsPassed};
 ghost use Rattle.ion_text.specs.declared.state.Now.TheVariants as nows;
 ghost use Rattle.ion_text.specs.machine.EachToken.{place};
-ghost use Rattle.ion_visiting.specs.Parts.{payload_of};
 ghost use Rattle.ion_text.specs.machine.Run.{is_top};
 ghost use Rattle.ion_text.specs.machine.Views.{open_frames, reading_of, state_of, IsFine, SameReader};
 ghost use Rattle.ion_text.specs.machine.Progress.{Took, StaysSteady};
@@ -16,33 +14,16 @@ ghost use Rattle.ion_text.specs.machine.AtOnce.{IsResting, Inside, Strides, Stri
 
 use super::TextReader;
 use super::finders::{number_at, plain_at};
-use super::on_token::number_payload;
+use crate::payloads::{number_payload, payload_of};
 use crate::state::{Effect, Now, Taken};
-use ion_model::{Bytes, Payload, Reason, Refusal, Symbol, Text};
+use ion_model::{Reason, Refusal};
 use ion_tokens::{Mark, Place, Rest, TokenKind, blanks};
-use ion_visiting::Part;
-use std::alloc::Global;
 
 // Whether a value may stand there, and no field's name.
 fn may_be_value(place: Place) -> bool
     ensures { result ≡ not (is_name place) }
 {
     !matches!(place, Place::Name)
-}
-
-/// The value of such a part.
-pub(super) fn payload_of(alloc: Global, said: &Part<'_>) -> Result<Payload, Reason>
-    ensures pays { IfOk result (λ payload. payload ≡ payload_of said.now) }
-    ensures memory { IfErr result (λ reason. reason ≡ Memory) }
-{
-    match said {
-        Part::Null(kind) => Ok(Payload::Null(*kind)),
-        Part::Truth(truth) => Ok(Payload::Truth(*truth)),
-        Part::Symbol(text) => Ok(Payload::Symbol(Symbol::known(alloc, text)?)),
-        Part::Str(text) => Ok(Payload::Str(Text::from_string(String::from_str(alloc, text)?))),
-        Part::Clob(octets) => Ok(Payload::Clob(Bytes::from_vec(Vec::from_slice(alloc, octets)?))),
-        Part::Blob(octets) => Ok(Payload::Blob(Bytes::from_vec(Vec::from_slice(alloc, octets)?))),
-    }
 }
 
 impl TextReader<'_> {

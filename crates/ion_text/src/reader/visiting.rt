@@ -20,7 +20,7 @@ use ion_visiting::{TextVisitor, Visitable};
 impl TextReader<'_> {
     /// Takes up a blank and the item behind it at the front of a piece, whose value has at most so
     /// many levels, and tells its parts to a visitor: how many octets they have.
-    fn walk_by<T: TextVisitor>(
+    pub(super) fn walk_by<T: TextVisitor>(
         &mut self,
         piece: &[u8],
         level: u32,

@@ -52,6 +52,6 @@ returns-in-Ok-clause-stands c = λ u s h.
     let used : c.in-Ok.step.used ≡ c.passed.result.used = sym (ap (λ (p : Passed). p.used) c.passed.ensures) in (
       value,
       sym (ap (λ (p : Passed). p.outline) c.passed.ensures),
-      subst (λ n. Stands c.step.new.self (u ++ take n c.args.piece.now) (s ++ given_at value (length u + n))) used
+      subst (λ n. Stands c.step_by_tokens.new.self (u ++ take n c.args.piece.now) (s ++ given_at value (length u + n))) used
           (c.in-Ok.ensures.stands u s (subst (λ r. Stands r u s) (sym same.1) (beside_stands old same.0 u s h))),
     )
