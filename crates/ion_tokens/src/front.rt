@@ -1,7 +1,7 @@
 //! Octets at the front of a piece with which the mode goes on as it is: they are taken up at once.
 ghost use Rattle.std.specs.Prelude.{◌≡◌, ◌+◌, ◌-◌, ◌^◌, ◌<◌, ◌≤◌, min, length, take, IfOk, IsUtf8};
 ghost use Rattle.std.specs.List.{take_while};
-ghost use Rattle.ion_tokens.specs.Octets.{is_white, is_word_octet};
+ghost use Rattle.ion_tokens.specs.Octets.{is_base64, is_white, is_word_octet};
 ghost use Rattle.ion_tokens.specs.Lexemes.{Each};
 ghost use Rattle.ion_tokens.specs.machine.AtOnce.{is_between, is_plain, is_raw, is_numeric, is_plain_operator, goes_on, keeps_them, gone_on, AreKept, GoesOver};
 ghost use Rattle.ion_tokens.specs.machine.Machines.{known};
@@ -218,6 +218,17 @@ pub fn of_operator(octets: &[u8]) -> usize
         .count()
 }
 
+/// How many octets of base64 there are at the front.
+pub fn of_base64(octets: &[u8]) -> usize
+    ensures { result ≡ length (take_while is_base64 octets.now) }
+{
+    octets
+        .iter()
+        .copied()
+        .take_while(|octet| is_base64(*octet))
+        .count()
+}
+
 // How many ASCII characters there are at the front that a quoted text keeps as they are.
 #[inline(always)]
 fn plain(style: Style, octets: &[u8]) -> usize
@@ -274,7 +285,7 @@ impl Machine {
             Mode::Word => of_word(piece),
             Mode::Number => of_number(piece),
             Mode::Text(style, Within::Plain) => plain(style, piece),
-            Mode::Lob(Lob::Base64) => octets.take_while(|octet| is_base64(*octet)).count(),
+            Mode::Lob(Lob::Base64) => of_base64(piece),
             _ => 0,
         }
     }

@@ -103,6 +103,9 @@ impl Machine {
         if let Some(found) = self.found_at_once(octets) {
             return Some(found);
         }
+        if let Some(found) = self.blob_at_once(place, octets) {
+            return Some(found);
+        }
         self.rest(rest);
         match self.run(place, octets) {
             Ok(Taken::Given(lexeme)) => self.found(place, rest, lexeme, false),

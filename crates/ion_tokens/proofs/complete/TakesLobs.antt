@@ -237,15 +237,21 @@ pub blob_known : (text octets : List ℕ) → IsBase64 text octets → blob_of t
 unfolding blob_of decoded_of
 blob_known text octets h = ap result_ok (ap (decode_of standard) h.spelled ∙ decode_of-encode_of standard octets refl (octet_at octets h.octets_are))
 
+-- two braces and a blob's content, up to the first brace of its close
+pub opens_blob : (p : Place) (colon : Bool) (content octets : List ℕ) → is_name p ≡ false → Each (λ o. is_white o || is_base64 o) content
+    → blob_of (filter (λ o. not (is_white o)) content) ≡ Some octets → Opens p colon (123 ∷ 123 ∷ (content ++ 125 ∷ [])) (lob lobs.BlobClose) octets
+unfolding solid
+opens_blob p colon content octets n h e =
+    let m = start_moves p content h in
+    opens_then p colon (123 ∷ 123 ∷ []) (content ++ 125 ∷ []) (lob lobs.Start) (lob lobs.BlobClose) [] octets (opens_lob p colon n)
+    (moves_then p (lob lobs.Start) (lob m.0) (lob lobs.BlobClose) content (125 ∷ []) [] (solid content) octets m.2
+    (blob_closes p m.0 (solid content) octets m.1 e))
+
 -- a blob is read as the octets for which its base64 stands
 pub takes_blob : (p : Place) (colon : Bool) (content octets r : List ℕ) → is_name p ≡ false → IsBlobContent content octets
     → Takes p colon (codes "{{" ++ content ++ codes "}}") r kinds.Blob octets
-unfolding solid
 takes_blob p colon content octets r n h =
-    let m = start_moves p content h.0 in
     subst (λ l. Takes p colon l r kinds.Blob octets) (lob_cut content)
     (takes_now p colon (123 ∷ 123 ∷ (content ++ 125 ∷ [])) 125 r kinds.Blob (lob lobs.BlobClose) octets keeps.Nothing (λ s u. refl)
-    (opens_then p colon (123 ∷ 123 ∷ []) (content ++ 125 ∷ []) (lob lobs.Start) (lob lobs.BlobClose) [] octets (opens_lob p colon n)
-    (moves_then p (lob lobs.Start) (lob m.0) (lob lobs.BlobClose) content (125 ∷ []) [] (solid content) octets m.2
-    (blob_closes p m.0 (solid content) octets m.1 (blob_known (solid content) octets h.1))))
+    (opens_blob p colon content octets n h.0 (blob_known (filter (λ o. not (is_white o)) content) octets h.1))
     (λ c. refl))

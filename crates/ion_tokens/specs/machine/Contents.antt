@@ -1,5 +1,8 @@
--- What stands between the quotes of a text that lies whole in memory, and the token that it is.
-use Rattle.std.specs.Prelude.{◌≡◌, ℕ, ◌+◌, Bool, List, ◌++◌, length}
+-- What stands between the quotes of a text or the braces of a blob that lies whole in memory, and the token that it is.
+use Rattle.std.specs.Prelude.{◌≡◌, ℕ, ◌+◌, Bool, List, ◌++◌, length, ◌||◌, not}
+use Rattle.std.specs.List.{filter}
+use Rattle.ion_tokens.specs.Octets.{is_white, is_base64}
+use Rattle.ion_tokens.specs.Lexemes.{Each}
 use Rattle.ion_tokens.specs.declared.mode.Place.{Place}
 use Rattle.ion_tokens.specs.declared.mode.Style.{Style}
 use Rattle.ion_tokens.specs.declared.mode.Within.TheVariants as within
@@ -22,3 +25,11 @@ LeadsOn s octets kept kept' = (p : Place) (colon : Bool) (start used : ℕ) (beh
 -- Wherever a scanner rests, octets begin with this token, of which these are kept.
 abbrev pub StandsWhole : List ℕ → List ℕ → FoundToken → Type 0
 StandsWhole octets kept found = (p : Place) (r : Rest) → IsFound p r octets found.kind kept found.count found.left
+
+-- The same where tokens stand in this place.
+abbrev pub StandsIn : Place → List ℕ → List ℕ → FoundToken → Type 0
+StandsIn p octets kept found = (r : Rest) → IsFound p r octets found.kind kept found.count found.left
+
+-- These octets are content of a blob. The one list was kept before, and the base64 among them is kept behind it in the other.
+abbrev pub AddsBase64 : List ℕ → List ℕ → List ℕ → Type 0
+AddsBase64 content kept kept' = Each (λ o. is_white o || is_base64 o) content × (kept' ≡ kept ++ filter (λ o. not (is_white o)) content)
