@@ -8,11 +8,26 @@ ghost use Rattle.ion_text.specs.machine.Views.{state_of, IsFine};
 use super::TextReader;
 use crate::building::Building;
 use ion_symtab::Step;
+use std::simd::prelude::*;
+
+/// Whether a line ends there. Where none does the item mostly goes on in the next piece, and isn't
+/// gone over in vain then.
+fn has_line_end(octets: &[u8]) -> bool {
+    let whole = octets.len() / 16;
+    for i in 0..whole {
+        let here = u8x16::from_slice(&octets[i * 16..]);
+        if here.simd_eq(u8x16::splat(b'\n')).any() {
+            return true;
+        }
+    }
+    octets[whole * 16..].contains(&b'\n')
+}
 
 impl TextReader<'_> {
     /// Takes up a blank and the item behind it at the front of a piece, and gives its value. With
     /// nothing taken up `None`, where an item is open, or the value isn't whole, may be a local
-    /// symbol table, may not stand here or is in any way unusual, and where memory runs out.
+    /// symbol table, may not stand here or is in any way unusual, where no line ends in the piece,
+    /// and where memory runs out.
     pub(super) fn build(&mut self, piece: &[u8]) -> Option<Step>
         requires room { (scanned self.old.scanner).used + length piece.now < 2 ^ 63 }
         ensures does { IfSome result (λ step.
@@ -26,6 +41,9 @@ impl TextReader<'_> {
         ensures steady { StaysSteady self.old self.new }
         ensures setting { SameSettings self.old self.new }
     {
+        if !has_line_end(piece) {
+            return None;
+        }
         let mut building = Building::new(self.alloc);
         let used = self.walk_by(piece, self.limits.depth, &mut building)?;
         Some(Step {
