@@ -10,24 +10,41 @@ use crate::building::Building;
 use ion_symtab::Step;
 use std::simd::prelude::*;
 
-/// Whether a line ends there. Where none does the item mostly goes on in the next piece, and isn't
-/// gone over in vain then.
-fn has_line_end(octets: &[u8]) -> bool {
-    let whole = octets.len() / 16;
+// An octet that an item of the top level may end with before the end of its line.
+fn may_end_an_item(octet: u8) -> bool {
+    matches!(octet, b']' | b'}' | b')' | b'\r')
+}
+
+/// Whether a line ends there behind the close of a container. Where none does the item mostly goes
+/// on in the next piece, and isn't gone over in vain then. Lines in long strings mostly end behind
+/// other octets.
+fn may_end_there(octets: &[u8]) -> bool {
+    let whole = octets.len().saturating_sub(1) / 16;
     for i in 0..whole {
-        let here = u8x16::from_slice(&octets[i * 16..]);
-        if here.simd_eq(u8x16::splat(b'\n')).any() {
+        let at = i * 16;
+        let before = u8x16::from_slice(&octets[at..]);
+        let ends = u8x16::from_slice(&octets[at + 1..]).simd_eq(u8x16::splat(b'\n'));
+        let closes = before.simd_eq(u8x16::splat(b']'))
+            | before.simd_eq(u8x16::splat(b'}'))
+            | before.simd_eq(u8x16::splat(b')'))
+            | before.simd_eq(u8x16::splat(b'\r'));
+        if (ends & closes).any() {
             return true;
         }
     }
-    octets[whole * 16..].contains(&b'\n')
+    for i in whole * 16 + 1..octets.len() {
+        if octets[i] == b'\n' && may_end_an_item(octets[i - 1]) {
+            return true;
+        }
+    }
+    false
 }
 
 impl TextReader<'_> {
     /// Takes up a blank and the item behind it at the front of a piece, and gives its value. With
     /// nothing taken up `None`, where an item is open, or the value isn't whole, may be a local
-    /// symbol table, may not stand here or is in any way unusual, where no line ends in the piece,
-    /// and where memory runs out.
+    /// symbol table, may not stand here or is in any way unusual, where it is likely to be cut, and
+    /// where memory runs out.
     pub(super) fn build(&mut self, piece: &[u8]) -> Option<Step>
         requires room { (scanned self.old.scanner).used + length piece.now < 2 ^ 63 }
         ensures does { IfSome result (λ step.
@@ -41,7 +58,7 @@ impl TextReader<'_> {
         ensures steady { StaysSteady self.old self.new }
         ensures setting { SameSettings self.old self.new }
     {
-        if !has_line_end(piece) {
+        if !may_end_there(piece) {
             return None;
         }
         let mut building = Building::new(self.alloc);
