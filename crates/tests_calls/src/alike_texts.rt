@@ -58,7 +58,7 @@ static ROWS: [Row; 17] = [
     (b"a::'b c'::[d]", b"a::'b c'::[d]", Some((13, 13))),
     // and behind any comment; one in the value has to be the same
     (b"/* x */ [1]", b"// y\n[1]", Some((11, 8))),
-    (b"[1/**/]", b"[1/**/]", Some((7, 7))),
+    (b"[1 /**/]", b"[1 /**/]", Some((8, 8))),
     // numbers of equal octets and equal symbols, with the blank behind a symbol; the next octet
     // shows their end
     (b"1 ", b"1 ", Some((1, 1))),
