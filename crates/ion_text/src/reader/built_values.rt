@@ -10,6 +10,10 @@ use crate::building::Building;
 use ion_symtab::Step;
 use std::simd::prelude::*;
 
+/// How many octets of a piece are looked at to see whether an item may end there: a piece may be
+/// long and its items small, and each item asks anew.
+const REACH: usize = 1024;
+
 // An octet that an item of the top level may end with before the end of its line.
 fn may_end_an_item(octet: u8) -> bool {
     matches!(octet, b']' | b'}' | b')' | b'\r')
@@ -58,7 +62,7 @@ impl TextReader<'_> {
         ensures steady { StaysSteady self.old self.new }
         ensures setting { SameSettings self.old self.new }
     {
-        if !may_end_there(piece) {
+        if !may_end_there(&piece[..piece.len().min(REACH)]) {
             return None;
         }
         let mut building = Building::new(self.alloc);

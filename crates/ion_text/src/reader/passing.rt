@@ -68,7 +68,8 @@ impl TextReader<'_> {
     }
 
     /// What may be an item at the front of a piece: how many octets of a blank stand before it, with
-    /// the comments in it, its octets up to the limit on items, and what is noted of it yet. `None` if an item is open.
+    /// the comments in it, its octets up to the limit on items, and what is noted of it yet. `None`
+    /// if an item is open.
     #[inline(always)]
     pub(super) fn item_ahead<'p>(&self, piece: &'p [u8]) -> Option<(usize, &'p [u8], Tally)>
         requires room { (scanned self.now.scanner).used + length piece.now < 2 ^ 63 }
