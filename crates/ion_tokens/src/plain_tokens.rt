@@ -13,7 +13,7 @@ use crate::octets::{begins_word, is_digit};
 /// Where a scanner rests: no token is open.
 #[derive(Clone, Copy, Debug, PartialEq, Eq)]
 pub struct Rest {
-    /// Where the last token ended, or the last octet of a blank stands.
+    /// Where the last token ended, the last octet of a blank stands, or the comment before began.
     pub start: u64,
     /// How many octets were used.
     pub used: u64,
