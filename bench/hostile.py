@@ -186,6 +186,18 @@ def two_lines(count, last=1):
     return value * (count * 10 // len(value))
 
 
+def longer_than_joined(octets):
+    """Values somewhat longer than the pieces that are joined, so that each is looked over and gone over in vain."""
+    value = b"[" + b"abc," * 17000 + b"1]\n"
+    return value * (octets // len(value))
+
+
+def texts_cut_again(octets):
+    """Values of one text that each piece cuts, so that it is looked over again with each."""
+    value = b'["' + b"a" * 60000 + b'"]\n'
+    return value * (octets // len(value))
+
+
 def ending_in_an_id(count):
     value = b"[" + b"abc," * 200 + b"$4]\n"
     return value * (count * 10 // len(value))
@@ -308,6 +320,9 @@ CASES = [
     ("many names, compared", "compare A B", [many_names, many_names], MILLION, LARGE),
     ("many names, the other way round", "compare A B", [many_names, backward_names], MILLION, LARGE),
     ("texts that part in the last octets of each value", "compare A B", [two_lines, lambda count: two_lines(count, 2)], MILLION, LARGE),
+    ("values longer than what is joined", "check A", [longer_than_joined], 10 * MILLION, SMALL),
+    ("values longer than what is joined, compared", "compare A B", [longer_than_joined] * 2, 10 * MILLION, SMALL),
+    ("texts that are cut again and again", "check A", [texts_cut_again], 10 * MILLION, SMALL),
     ("equal texts that end in what isn't passed over", "compare A B", [ending_in_an_id, ending_in_an_id], MILLION, LARGE),
     ("small equal texts on one line", "compare A B", [empty_lists, empty_lists], MILLION, LARGE),
     ("texts that end in what isn't told by parts, to binary", "convert A --to binary", [ending_in_an_id], MILLION, LARGE),

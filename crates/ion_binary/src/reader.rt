@@ -13,6 +13,7 @@ use std::alloc::Global;
 use std::fmt::{self, Debug, Formatter};
 
 mod advance;
+mod ahead;
 mod bodies;
 mod bounds;
 mod built;

@@ -20,7 +20,9 @@ use Rattle.ion_streams.specs.declared.source.Standing.{Standing}
 use Rattle.ion_docs.specs.declared.writers.Encoder.{Ghosts as Encoder}
 use Rattle.ion_docs.specs.Encodings.{TookBehind, TookSomeBehind, IsPuttingFault, binary_encoding, text_encoding}
 use Rattle.ion_docs.specs.laws.Encodings.{puts_one, behind_one, binary_fault, text_one, text_fault}
+use Rattle.ion_streams.specs.reading.Gathered.{GathersAt}
 use Rattle.ion_streams.specs.reading.Standing.{Stood}
+use Rattle.ion_streams.proofs.Gathering.{at_stood}
 
 -- what follows for each value follows for the one that there is, if there is one
 pub some_each : {A : Type 0} {P Q : A → Type 0} (o : Option A) → ((x : A) → P x → Q x) → IfSome o P → IfSome o Q
@@ -104,3 +106,8 @@ module _ {S X Y T : Type 0} (R : Inlet S) (I : Items X) (E : Encoder Y) (W : Out
   Done now values place encoder writer =
       (s : List Value) × Stood R I g l first now place s × (length s ≡ values) × E.has_put encoder s × Took W.took W.written device writer (E.puts s)
       × AreKept s
+
+  -- pieces were joined
+  pub done_gathered : (old now : S) (place after : Standing X) (values : ℕ) (encoder : Y) (writer : T) → GathersAt R I old now place after
+      → Done old values place encoder writer → Done now values after encoder writer
+  done_gathered old now place after values encoder writer h d = (d.0, at_stood R I old now g l first place after d.0 h d.1, d.2, d.3, d.4, d.5)

@@ -59,7 +59,7 @@ put_cause E WasRead failed s Open r h = absurd h
 module _ {S X : Type 0} (R : Inlet S) (I : Items X) (g : Catalog) (l : Limits) where
   -- wherever the document stands, its values were read
   pub was_read : (first now : S) (place : Standing X) (s : List Value) → Stood R I g l first now place s → ReadSoFar R I g l first now s
-  was_read first now (TheStanding.Open source) s h = in_reading (record { items = source.items; left = left_of source; ended = false; gave = h })
+  was_read first now (TheStanding.Open source) s h = in_reading (record { items = source.items; left = left_of source; ended = source.ended; gave = h })
   was_read first now (TheStanding.Refused refusal) s h = at_refusal refusal h
   was_read first now TheStanding.Ended s h = at_end h
 

@@ -91,6 +91,7 @@ pub(crate) fn convert_by<C: Carrier<I, E>, E: Encoder + Drop, I: Items + Drop, R
     let mut encoder = encoder;
     let mut values: u64 = 0;
     loop {
+        place.gather(reader)?;
         match place.carry::<By<C>, E, W>(&mut encoder, writer) {
             None => {}
             Some(Err(fault)) => return Err(fault),

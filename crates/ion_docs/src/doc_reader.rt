@@ -14,7 +14,7 @@ ghost use Rattle.ion_symtab.specs.TookUp.{TookUp};
 
 use ion_binary::{BinaryReader, BinaryWriter, Carried};
 use ion_model::{Reason, Refusal, Value};
-use ion_symtab::{Catalog, Items, Limits, Outlet, Passed, Step};
+use ion_symtab::{Catalog, Glance, Items, Limits, Outlet, Passed, Step};
 use ion_text::{TextReader, TextWriter};
 use std::alloc::Global;
 use std::fmt::{self, Debug, Formatter};
@@ -270,6 +270,14 @@ impl Items for DocReader<'_> {
                 Err(refusal) => Err(refusal),
                 Ok(step) => Ok(step.passed()),
             },
+        }
+    }
+
+    fn seems_cut(&self, piece: &[u8], glance: &mut Glance) -> bool {
+        match &self.format {
+            Format::Binary(reader) => reader.seems_cut(piece, glance),
+            Format::Text(reader) => reader.seems_cut(piece, glance),
+            _ => false,
         }
     }
 

@@ -23,8 +23,8 @@ pub past : {X : Type 0} (I : Items X) (counted : (r : X) (u : List ℕ) (s : Lis
     ((u : List ℕ) (s : List (Value × ℕ)) → I.stands before.items u s → I.stands after.items (u ++ take used (left_of before)) (s ++ (v, length u + used) ∷ []))
     →
     after.piece.items ≡ before.piece.items → after.at ≡ before.at + used → after.end ≡ before.end → after.used ≡ before.used + used → after.reads ≡ before.reads
-    → WentPast I before after v
-past I counted before after used v ready fits under within taken less next go piece at end more reads =
+    → after.ended ≡ before.ended → WentPast I before after v
+past I counted before after used v ready fits under within taken less next go piece at end more reads ended =
     let inside : used ≤ before.end - before.at = omega (arith, fits, length-take {A = ℕ}, length-drop {A = ℕ}) in
     let same = ready.counted in
     let room = ready.room in
@@ -40,8 +40,7 @@ past I counted before after used v ready fits under within taken less next go pi
       within = within;
       ready = record {
         within = omega (arith, inside, at, end, ready.within);
-        fits = omega (arith, end, ready.fits);
-        piece = ap length piece ∙ ready.piece;
+        fits = let long : length after.piece.items ≡ length before.piece.items = ap length piece in omega (arith, end, long, ready.fits);
         room = omega (arith, room, taken, inside, at, end, reads, ready.within);
         begins = subst (λ x. Begins (I.awaits after.items) x) (sym rest)
             (begins_drop (I.awaits after.items) before.piece.items before.at before.end used inside next);
@@ -49,6 +48,7 @@ past I counted before after used v ready fits under within taken less next go pi
       };
       less = omega (arith, less, inside, at, end, reads, ready.within);
       reads = reads;
+      ended = ended;
     }
 
 -- what holds of a place that went past a value
@@ -94,7 +94,7 @@ module _ {X : Type 0} (I : Items X) where
   -- behind a value that it went past, the reads made and those that may still be made are as before
   pub past_within : {S : Type 0} (R : Inlet S) (reads : ℕ) (first now : S) (place after : Standing X) (v : Value) → StandingPast I place after v
       → IfOpen place (IsWithin R reads first now) → IfOpen after (IsWithin R reads first now)
-  past_within R reads first now (Open from) (Open to) v h w = let rest = w.rest in record { made = w.made; were = w.were; rest = omega (arith, rest, h.reads) }
+  past_within R reads first now (Open from) (Open to) v h w = let rest = w.rest in record { made = w.made; were = λ going. w.were (sym h.ended ∙ going); rest = omega (arith, rest, h.reads) }
   past_within R reads first now (Open from) Ended v h w = tt
   past_within R reads first now (Open from) (Refused r) v h w = tt
   past_within R reads first now Ended after v h w = absurd h
@@ -106,7 +106,7 @@ module _ {X : Type 0} (I : Items X) where
   past_stood R g l first now (Open from) (Open to) v s h stood =
       record {
         given = stood.given ++ (v, to.used) ∷ [];
-        each = reads_went R I g l first now from to stood.given (Some v) stood.each h.went h.under h.within;
+        each = reads_went R I g l first now from to stood.given (Some v) stood.each h.went h.under h.within h.ended;
         values = plain_next stood.given (Some (v, to.used)) (Some v) s stood.values refl;
       }
   past_stood R g l first now (Open from) Ended v s h stood = absurd h

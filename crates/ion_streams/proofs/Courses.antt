@@ -213,7 +213,7 @@ module _ {S X T Y : Type 0} (L : Inlet S) (I : Items X) (R : Inlet T) (J : Items
   -- what was heard of a device, wherever its document stands
   stood_heard : (right right_now : T) (right_place : Standing Y) (t : List Value) → Stood R J h l right right_now right_place t → (octets : List ℕ)
       × (ended : Bool) × Heard R right right_now octets ended
-  stood_heard right right_now (TheStanding.Open source) t b = (b.each.u ++ left_of source, false, b.each.heard)
+  stood_heard right right_now (TheStanding.Open source) t b = (b.each.u ++ left_of source, source.ended, b.each.heard)
   stood_heard right right_now TheStanding.Ended t b = (b.octets, true, b.heard)
   stood_heard right right_now (TheStanding.Refused refusal) t b = (b.octets, b.ended, b.heard)
 

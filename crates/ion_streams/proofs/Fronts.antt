@@ -1,5 +1,5 @@
 -- What a writer took, one line after another.
-use Rattle.std.proofs.Common.{◌≡◌, ℕ, ◌+◌, List, [], ◌∷◌, ◌++◌, length, false, ap, sym, ◌∙◌, arith, append-nil, append_assoc}
+use Rattle.std.proofs.Common.{◌≡◌, ℕ, ◌+◌, List, [], ◌∷◌, ◌++◌, length, ap, sym, ◌∙◌, arith, append-nil, append_assoc}
 use Rattle.ion_model.specs.declared.value.Value.{Value}
 use Rattle.ion_model.specs.Outlines.{outline_of}
 use Rattle.ion_model.specs.declared.outline.Outline.{Outline}
@@ -41,6 +41,6 @@ module _ {S X T : Type 0} (R : Inlet S) (I : Items X) (W : Outlet T) (g : Catalo
   pub so_far : (first now : S) (old new : T) (place : Standing X) (s : List Value) → Stood R I g l first now place s
       → TookFront W.took W.written old new (lines_of s) → ShowsSoFar R I W g l first now old new
   so_far first now old new (TheStanding.Open source) s h front =
-      in_reading s (record { items = source.items; left = left_of source; ended = false; gave = h }) front
+      in_reading s (record { items = source.items; left = left_of source; ended = source.ended; gave = h }) front
   so_far first now old new (TheStanding.Refused refusal) s h front = at_refusal s refusal h front
   so_far first now old new TheStanding.Ended s h front = at_end s h (Front-more W.took W.written old new (lines_of s) (accepted_line (length s)) front)

@@ -1,4 +1,5 @@
 pub mod Pieces
+pub mod Joined
 pub mod Unfailed
 pub mod Endings
 pub mod Steps
@@ -7,6 +8,8 @@ pub mod Passes
 pub mod Driven
 pub mod Shown
 pub mod Courses
+pub mod Gathering
+pub mod SideBySide
 pub mod Alongside
 pub mod Fronts
 pub mod Loads

@@ -1,5 +1,5 @@
 -- Catalogs that are loaded value by value.
-use Rattle.std.proofs.Common.{◌≡◌, ℕ, List, [], ◌∷◌, ◌++◌, length, refl, ap, sym, subst, ◌∙◌, Option, Some, None, IfSome, IsNone, Result, Ok, Err, inl, true, false, append_assoc, append-nil}
+use Rattle.std.proofs.Common.{◌≡◌, ℕ, List, [], ◌∷◌, ◌++◌, length, refl, ap, sym, subst, ◌∙◌, Option, Some, None, IfSome, IsNone, Result, Ok, Err, inl, true, append_assoc, append-nil}
 use Rattle.ion_model.specs.declared.value.Value.{Value}
 use Rattle.ion_atoms.specs.declared.refusal.Reason.{Reason}
 use Rattle.ion_atoms.specs.declared.refusal.Refusal.{Refusal}
@@ -77,7 +77,7 @@ module _ {S X : Type 0} (R : Inlet S) (I : Items X) (g : Catalog) (l : Limits) w
   value_refused settled so_far with_next first now (TheStanding.Open source) given refusal h ready e =
       record {
         octets = h.u ++ left_of source;
-        ended = false;
+        ended = source.ended;
         heard = h.heard;
         decided = λ more _.
             let front = front_of (λ u. I.trace g l u) settled (I.awaits source.items) h.u (left_of source) more given ready.begins

@@ -40,10 +40,11 @@ module _ {S X A : Type 0} (of : Value → A) (R : Inlet S) (I : Items X) (g : Ca
   pub passes_on : (first now : S) (source after : Source X) (given : List (Value × ℕ)) (found : A) → ReadsEach R I g l first now source given →
       ((u : List ℕ) (given : List (Value × ℕ)) → I.stands source.items u given → (value : Option Value) × (option_map of value ≡ Some found)
       × Went I u given (left_of source) after value) →
-      I.catalog after.items ≡ I.catalog source.items → I.limits after.items ≡ I.limits source.items → Reaches of R I g l first now after given (AValue found)
-  passes_on first now source after given found h go under within =
+      I.catalog after.items ≡ I.catalog source.items → I.limits after.items ≡ I.limits source.items → after.ended ≡ source.ended
+      → Reaches of R I g l first now after given (AValue found)
+  passes_on first now source after given found h go under within ended =
       let w = go h.u given h.stood in
-      one_more first now after given found w.0 w.1 (reads_by R I g l first now source after given w.0 h w.2 under within)
+      one_more first now after given found w.0 w.1 (reads_by R I g l first now source after given w.0 h w.2 under within ended)
 
   -- the end gave what is told
   pub gave_last : (first now : S) (place : Standing X) (given : List (Value × ℕ)) (last : Option (Value × ℕ)) → IfRefused place (last ≡ None)

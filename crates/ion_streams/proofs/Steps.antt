@@ -1,5 +1,5 @@
 -- How far a document has been read, step by step.
-use Rattle.std.proofs.Common.{◌≡◌, ℕ, ◌+◌, ◌^◌, ◌≤◌, List, [], ◌∷◌, ◌++◌, length, refl, ap, sym, subst, ◌∙◌, arith, Bool, true, false, Option, Some, None, option_map, option_to_list, append-nil, Result, Ok, Err, OnErr}
+use Rattle.std.proofs.Common.{◌≡◌, ℕ, ◌+◌, ◌^◌, ◌≤◌, List, [], ◌∷◌, ◌++◌, length, refl, ap, sym, subst, ◌∙◌, arith, Bool, true, false, Option, Some, None, option_map, option_to_list, append-nil, append_assoc, Result, Ok, Err, OnErr}
 use Rattle.std.proofs.lemmas.List.{map-append}
 use Rattle.ion_model.specs.declared.value.Value.{Value}
 use Rattle.ion_atoms.specs.declared.refusal.Refusal.{Refusal}
@@ -40,12 +40,13 @@ module _ {S X : Type 0} (R : Inlet S) (I : Items X) (g : Catalog) (l : Limits) w
   -- some octets were used
   pub reads_by : (first now : S) (source after : Source X) (given : List (Value × ℕ)) (value : Option Value) (h : ReadsEach R I g l first now source given)
       → Went I h.u given (left_of source) after value →
-      I.catalog after.items ≡ I.catalog source.items → I.limits after.items ≡ I.limits source.items
+      I.catalog after.items ≡ I.catalog source.items → I.limits after.items ≡ I.limits source.items → after.ended ≡ source.ended
       → ReadsEach R I g l first now after (given ++ given_at value after.used)
-  reads_by first now source after given value h w under within =
+  reads_by first now source after given value h w under within ended =
       record {
         u = w.to;
-        heard = subst (λ (x : List ℕ). Heard R first now x false) (sym w.octets) h.heard;
+        heard = subst (λ (x : List ℕ). Heard R first now x after.ended) (sym w.octets)
+            (subst (λ (b : Bool). Heard R first now (h.u ++ left_of source) b) (sym ended) h.heard);
         stood = w.stood;
         under = under ∙ h.under;
         within = within ∙ h.within;
@@ -54,37 +55,31 @@ module _ {S X : Type 0} (R : Inlet S) (I : Items X) (g : Catalog) (l : Limits) w
   -- behind octets that were used, a document gave the value that they gave
   pub reads_went : (first now : S) (source after : Source X) (given : List (Value × ℕ)) (value : Option Value) → ReadsEach R I g l first now source given →
       ((u : List ℕ) (given : List (Value × ℕ)) → I.stands source.items u given → Went I u given (left_of source) after value) →
-      I.catalog after.items ≡ I.catalog source.items → I.limits after.items ≡ I.limits source.items
+      I.catalog after.items ≡ I.catalog source.items → I.limits after.items ≡ I.limits source.items → after.ended ≡ source.ended
       → ReadsEach R I g l first now after (given ++ given_at value after.used)
-  reads_went first now source after given value h go under within = reads_by first now source after given value h (go h.u given h.stood) under within
+  reads_went first now source after given value h go under within ended =
+      reads_by first now source after given value h (go h.u given h.stood) under within ended
 
-  -- nothing was left, and the device was asked again
+  -- the device was asked again, and more octets stand behind those that were left
   pub reads_filled : (first now new : S) (source after : Source X) (more : List ℕ) (ended : Bool) (given : List (Value × ℕ))
-      → ReadsEach R I g l first now source given → left_of source ≡ [] → Heard R now new more ended →
-      left_of after ≡ more → after.items ≡ source.items → GaveEach R I g l first new after.items (left_of after) ended given
-  reads_filled first now new source after more ended given h empty heard rest same =
+      → ReadsEach R I g l first now source given → source.ended ≡ false → Heard R now new more ended →
+      left_of after ≡ left_of source ++ more → after.items ≡ source.items → GaveEach R I g l first new after.items (left_of after) ended given
+  reads_filled first now new source after more ended given h going heard rest same =
+      let before = subst (λ (b : Bool). Heard R first now (h.u ++ left_of source) b) going h.heard in
       record {
         u = h.u;
-        heard = subst (λ (x : List ℕ). Heard R first new x ended)
-            (ap (λ x. (h.u ++ x) ++ more) empty ∙ (ap (λ x. x ++ more) (append-nil h.u) ∙ ap (λ x. h.u ++ x) (sym rest)))
-            (Heard-trans R first now new (h.u ++ left_of source) more ended h.heard heard);
+        heard = subst (λ (x : List ℕ). Heard R first new x ended) (append_assoc h.u (left_of source) more ∙ ap (λ x. h.u ++ x) (sym rest))
+            (Heard-trans R first now new (h.u ++ left_of source) more ended before heard);
         stood = subst (λ (x : X). I.stands x h.u given) (sym same) h.stood;
         under = ap (λ (x : X). I.catalog x) same ∙ h.under;
         within = ap (λ (x : X). I.limits x) same ∙ h.within;
       }
 
   -- the device told nothing more
-  pub reads_kept : (first now new : S) (source : Source X) (given : List (Value × ℕ)) → ReadsEach R I g l first now source given → Heard R now new [] false
-      → ReadsEach R I g l first new source given
-  reads_kept first now new source given h heard =
-      record {
-        u = h.u;
-        heard = subst (λ (x : List ℕ). Heard R first new x false) (append-nil (h.u ++ left_of source))
-            (Heard-trans R first now new (h.u ++ left_of source) [] false h.heard heard);
-        stood = h.stood;
-        under = h.under;
-        within = h.within;
-      }
+  pub reads_kept : (first now new : S) (source : Source X) (given : List (Value × ℕ)) → ReadsEach R I g l first now source given → source.ended ≡ false
+      → Heard R now new [] false → GaveEach R I g l first new source.items (left_of source) false given
+  reads_kept first now new source given h going heard =
+      reads_filled first now new source source [] false given h going heard (sym (append-nil (left_of source))) refl
 
   -- the values alone, as far as they were read
   pub gave_so_far : (first now : S) (items : X) (left : List ℕ) (ended : Bool) (given : List (Value × ℕ)) (s : List Value) → plain given ≡ s
@@ -97,7 +92,7 @@ module _ {S X : Type 0} (R : Inlet S) (I : Items X) (g : Catalog) (l : Limits) w
       ((u : List ℕ) (given : List (Value × ℕ)) → I.stands source.items u given → (more : List ℕ)
       → EndsRefused (format_of I g l) ((u ++ left_of source) ++ more) given r) → ToldRefusedEach R (format_of I g l) first now given r
   reads_failed first now source given r h refused =
-      record { octets = h.u ++ left_of source; ended = false; heard = h.heard; ends = λ more _. refused h.u given h.stood more }
+      record { octets = h.u ++ left_of source; ended = source.ended; heard = h.heard; ends = λ more _. refused h.u given h.stood more }
 
   heard_all : (first now : S) (u rest : List ℕ) → Heard R first now (u ++ rest) true → rest ≡ [] → Heard R first now u true
   heard_all first now u rest heard empty = subst (λ (x : List ℕ). Heard R first now x true) (ap (λ x. u ++ x) empty ∙ append-nil u) heard
@@ -123,8 +118,10 @@ module _ {S X : Type 0} (R : Inlet S) (I : Items X) (g : Catalog) (l : Limits) w
   -- some octets were used, and gave no value
   pub reads_none : (first now : S) (source after : Source X) (given : List (Value × ℕ)) → ReadsEach R I g l first now source given →
       ((u : List ℕ) (given : List (Value × ℕ)) → I.stands source.items u given → Went I u given (left_of source) after None) →
-      I.catalog after.items ≡ I.catalog source.items → I.limits after.items ≡ I.limits source.items → ReadsEach R I g l first now after given
-  reads_none first now source after given h go under within = rw append-nil at (reads_went first now source after given None h go under within)
+      I.catalog after.items ≡ I.catalog source.items → I.limits after.items ≡ I.limits source.items → after.ended ≡ source.ended
+      → ReadsEach R I g l first now after given
+  reads_none first now source after given h go under within ended =
+      rw append-nil at (reads_went first now source after given None h go under within ended)
 
   -- the end of a document whose octets were all used
   pub last_gives : (first now : S) (source : Source X) (given : List (Value × ℕ)) (place : Standing X) (last : Option (Value × ℕ)) → left_of source ≡ [] →
@@ -162,12 +159,12 @@ module _ {S X : Type 0} (R : Inlet S) (I : Items X) (g : Catalog) (l : Limits) w
 
 -- nothing was read yet
 pub each_begun : {S X : Type 0} (R : Inlet S) (I : Items X) (now : S) (source : Source X) (items : X) → I.stands items [] [] → source.items ≡ items
-    → left_of source ≡ [] →
+    → left_of source ≡ [] → source.ended ≡ false →
     ReadsEach R I (I.catalog items) (I.limits items) now now source []
-each_begun R I now source items stood same empty =
+each_begun R I now source items stood same empty going =
     record {
       u = [];
-      heard = subst (λ (x : List ℕ). Heard R now now x false) (sym empty) (Heard-nil R now);
+      heard = subst (λ (x : List ℕ). Heard R now now x source.ended) (sym empty) (subst (λ (b : Bool). Heard R now now [] b) (sym going) (Heard-nil R now));
       stood = subst (λ (x : _). I.stands x [] []) (sym same) stood;
       under = ap (λ (x : _). I.catalog x) same;
       within = ap (λ (x : _). I.limits x) same;
@@ -175,20 +172,19 @@ each_begun R I now source items stood same empty =
 
 -- a document of which nothing was read gave no value
 pub reads_begun : {S X : Type 0} (R : Inlet S) (I : Items X) (now : S) (source : Source X) (items : X) → I.stands items [] [] → source.items ≡ items
-    → left_of source ≡ [] →
+    → left_of source ≡ [] → source.ended ≡ false →
     Reads R I (I.catalog items) (I.limits items) now now source []
-reads_begun R I now source items stood same empty = record { given = []; each = each_begun R I now source items stood same empty; values = refl }
+reads_begun R I now source items stood same empty going = record { given = []; each = each_begun R I now source items stood same empty going; values = refl }
 
 -- a document of which nothing was read is ready to be read
 pub ready_begun : {X : Type 0} (I : Items X) (source : Source X) (items : X) → I.taken items ≡ 0 → I.awaits items ≡ None → source.items ≡ items
-    → (source.at ≡ 0) × (source.end ≡ 0) × (source.used ≡ 0) → length source.piece.items ≡ 4096 → source.reads ≤ 2 ^ 32 →
+    → (source.at ≡ 0) × (source.end ≡ 0) × (source.used ≡ 0) → length source.piece.items ≡ 8192 → source.reads ≤ 2 ^ 32 →
     IsReady I source
 ready_begun I source items none free same empty piece few =
     let nothing : I.taken source.items ≡ 0 = ap (λ (x : _). I.taken x) same ∙ none in
     record {
       within = omega arith;
       fits = omega arith;
-      piece = piece;
       room = omega arith;
       begins = subst (λ (x : Option ℕ). Begins x (left_of source)) (sym (ap (λ (x : _). I.awaits x) same ∙ free)) tt;
       counted = nothing ∙ sym empty.2;
@@ -196,9 +192,10 @@ ready_begun I source items none free same empty piece few =
 
 -- before any read of the device, all of them may still be made
 pub within_begun : {S X : Type 0} (R : Inlet S) (now : S) (source : Source X) (reads : ℕ) → source.reads ≡ reads → IsWithin R reads now now source
-within_begun R now source reads e = record { made = 0; were = WereMade-nil R now; rest = omega arith }
+within_begun R now source reads e = record { made = 0; were = λ going. WereMade-nil R now; rest = omega arith }
 
 -- a device that wasn't asked
-pub within_kept : {S X : Type 0} (R : Inlet S) (reads : ℕ) (first now : S) (source after : Source X) → after.reads ≡ source.reads
+pub within_kept : {S X : Type 0} (R : Inlet S) (reads : ℕ) (first now : S) (source after : Source X) → after.reads ≡ source.reads → after.ended ≡ source.ended
     → IsWithin R reads first now source → IsWithin R reads first now after
-within_kept R reads first now source after e w = record { made = w.made; were = w.were; rest = ap (λ (n : ℕ). w.made + n) e ∙ w.rest }
+within_kept R reads first now source after e ended w =
+    record { made = w.made; were = λ going. w.were (sym ended ∙ going); rest = ap (λ (n : ℕ). w.made + n) e ∙ w.rest }

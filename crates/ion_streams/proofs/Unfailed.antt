@@ -37,9 +37,9 @@ module _ {S X : Type 0} (R : Inlet S) (I : Items X) (now : S) where
 module _ {X : Type 0} (I : Items X) where
   -- a document of which nothing was read has to ask its device first
   pub asks_begun : (source : Source X) (items : X) → I.failed items ≡ None → I.pending items ≡ 0 → source.items ≡ items → (source.at ≡ 0) × (source.end ≡ 0)
-      × (source.used ≡ 0) → HasToAsk I source
-  asks_begun source items fine owes same empty =
-      record { used_up = empty.0 ∙ sym empty.1; owes = ap (λ x. I.pending x) same ∙ owes; not_failed = ap (λ x. I.failed x) same ∙ fine }
+      × (source.used ≡ 0) → source.ended ≡ false → HasToAsk I source
+  asks_begun source items fine owes same empty going =
+      record { going = going; used_up = empty.0 ∙ sym empty.1; owes = ap (λ x. I.pending x) same ∙ owes; not_failed = ap (λ x. I.failed x) same ∙ fine }
 
   -- where it stands, its device has to be asked first, or no read has failed
   pub record StandsHeard {S : Type 0} (R : Inlet S) (place : Standing X) (now : S) : Type 0 where

@@ -208,6 +208,8 @@ fn compare_places<A: Alike<I, J>, I: Items + Drop, J: Items + Drop, L: Inlet, R:
         ⊎ IsReadCause R.Inlet reads right.old right.new fault) }
 {
     loop {
+        left_place.gather(left)?;
+        right_place.gather(right)?;
         if go_alike::<A, I, J>(course, left_place, right_place) {
             continue;
         }

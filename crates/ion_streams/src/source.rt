@@ -1,5 +1,5 @@
 //! A document on a device: its octets are read in pieces, and a reader takes them up.
-ghost use Rattle.std.specs.Prelude.{◌≡◌, ◌≢◌, ℕ, ◌+◌, ◌-◌, ◌*◌, ◌^◌, ◌<◌, ◌≤◌, true, false, List, [], ◌∷◌, ◌++◌, length, take, drop, IfOk, IfErr, OnOk, OnErr, IfSome, MatchBool, Option, Result, IsSome, IsNone, option_map, option_to_list};
+ghost use Rattle.std.specs.Prelude.{◌≡◌, ◌≢◌, ℕ, ◌+◌, ◌-◌, ◌*◌, ◌^◌, ◌<◌, ◌≤◌, ◌⊎◌, ◌==◌, true, false, List, [], ◌∷◌, ◌++◌, length, take, drop, IfOk, IfErr, OnOk, OnErr, IfSome, MatchBool, Option, Result, IsSome, IsNone, option_map, option_to_list, is_err};
 ghost use Rattle.ion_model.specs.declared.value.Value.{Value};
 ghost use Rattle.ion_atoms.specs.declared.refusal.Reason.TheVariants as reasons;
 ghost use Rattle.ion_symtab.specs.declared.catalog.Catalog.{Catalog};
@@ -7,7 +7,8 @@ ghost use Rattle.ion_symtab.specs.declared.limits.Limits.{Limits};
 ghost use Rattle.ion_symtab.specs.Heard.{Heard};
 ghost use Rattle.ion_symtab.specs.Cause.{WereMade, IsReadCause};
 ghost use Rattle.ion_streams.specs.Formats.{format_of};
-ghost use Rattle.ion_streams.specs.reading.Read.{left_of, IsReady, HasToAsk, NoneFailed, NoReadFailed, IsWithin, work, Went, GaveEach, Reads, ReadsEach, GaveSoFar};
+ghost use Rattle.ion_streams.specs.reading.Read.{between, left_of, IsReady, HasToAsk, NoneFailed, NoReadFailed, IsWithin, work, Went, GaveEach, Reads, ReadsEach, GaveSoFar};
+ghost use Rattle.ion_streams.specs.reading.Gathered.{IsWidened, HasRoom, CanJoin, Gathers, GathersAt};
 ghost use Rattle.ion_streams.specs.reading.Reached.{IfValue, IfEnd, IsSpent, Reaches};
 ghost use Rattle.ion_streams.specs.Outcomes.{EndsWell, EndsRefused};
 ghost use Rattle.ion_streams.specs.reading.Standing.{IfOpen, IsOpen, IfClosed, MatchClosed, work_of, reads_of, Stood, StoodEach, GaveNext, answered};
@@ -16,32 +17,60 @@ ghost use Rattle.ion_streams.specs.reading.Alongside.{WentPast, StandingPast};
 use crate::asked::Asked;
 use crate::carry::Carry;
 use ion_model::{Reason, Refusal, Value};
-use ion_symtab::{Fault, Inlet, Items};
+use ion_symtab::{Failed, Fault, Glance, Inlet, Items};
 use std::alloc::Global;
 use std::mem;
 
 mod alike;
+mod sizes;
 
 pub(crate) use alike::pass_alike;
+use sizes::Sizes;
 
 /// At most so many octets are read from a device in one call.
 const PIECE: usize = 4096;
+
+/// At most so many octets are kept that a reader hasn't taken up: pieces are joined while the value
+/// in front seems to be cut.
+const WINDOW: usize = 65536;
 
 /// A document that is being read.
 #[derive(Drop)]
 pub struct Source<I> {
     /// What takes the octets up.
     items: I,
-    /// The octets last read from the device; those from `at` up to `end` are still to be used.
+    /// Octets read from the device; those from `at` up to `end` are still to be used.
     piece: Vec<u8>,
-    /// How many octets of the piece are used.
     at: usize,
-    /// How many octets the device gave at the last call.
     end: usize,
     /// How often the device may still be asked.
     reads: u64,
     /// How many octets of all pieces are used.
     used: u64,
+    /// Whether the device has answered its end.
+    ended: bool,
+    sizes: Sizes,
+}
+
+/// Reads a piece behind so many octets: how many it has.
+fn read_behind<R: Inlet>(reader: &mut R, octets: &mut Vec<u8>, end: usize) -> Result<usize, Failed>
+    requires room { end + 4096 ≤ length octets.old.items }
+    ensures length { length octets.new.items ≡ length octets.old.items }
+    ensures few { IfOk result (λ count. count ≤ 4096) }
+    ensures joined { IfOk result (λ count. (more : List ℕ)
+        × ((count ≡ 0 → more ≡ [])
+        × Heard R.Inlet reader.old reader.new more (count == 0)
+        × ((at : ℕ) → at ≤ end → between octets.new.items at (end + count)
+        ≡ between octets.old.items at end ++ more))) }
+    ensures kept { OnErr result (Heard R.Inlet reader.old reader.new [] false) }
+    ensures few_calls { R.calls_made reader.new ≤ R.calls_made reader.old + 1 }
+    ensures asked { IfOk result (λ count. 0 < count → (first : R) (made : ℕ) →
+        WereMade R.Inlet made first reader.old → WereMade R.Inlet (made + 1) first reader.new) }
+    ensures few_octets { length (R.handed reader.new) ≤ length (R.handed reader.old) + 4096 }
+    ensures failed { R.has_failed reader.new ≡ is_err result }
+{
+    let count = reader.read(&mut octets[end..end + PIECE])?;
+    Ok(count)
 }
 
 impl<I: Items + Drop> Source<I> {
@@ -51,11 +80,12 @@ impl<I: Items + Drop> Source<I> {
         ensures items { IfOk result (λ source. source.items ≡ items) }
         ensures nothing { IfOk result (λ source.
             (source.at ≡ 0) × (source.end ≡ 0) × (source.used ≡ 0)) }
-        ensures piece { IfOk result (λ source. length source.piece.items ≡ 4096) }
+        ensures piece { IfOk result (λ source. length source.piece.items ≡ 8192) }
         ensures reads { IfOk result (λ source. source.reads ≡ reads) }
+        ensures unended { IfOk result (λ source. source.ended ≡ false) }
         ensures cause { IfErr result (λ fault. fault ≡ Fault.Memory) }
     {
-        let piece = vec![in alloc; 0; PIECE]?;
+        let piece = vec![in alloc; 0; 2 * PIECE]?;
         Ok(Source {
             items,
             piece,
@@ -63,6 +93,8 @@ impl<I: Items + Drop> Source<I> {
             end: 0,
             reads,
             used: 0,
+            ended: false,
+            sizes: Sizes::new(),
         })
     }
 
@@ -90,32 +122,38 @@ impl<I: Items + Drop> Source<I> {
         ensures catalog { I.catalog self.new.items ≡ I.catalog self.old.items }
         ensures limits { I.limits self.new.items ≡ I.limits self.old.items }
         ensures reads { self.new.reads ≡ self.old.reads }
+        ensures ended { self.new.ended ≡ self.old.ended }
     {
         match A::take(&mut self.items, &self.piece[self.at..self.end]) {
             Err(refusal) => Err(refusal),
             Ok((used, found)) => {
                 self.at += used;
                 self.used += used as u64;
+                self.sizes.note(self.used, found.is_some());
                 Ok(found)
             }
         }
     }
 
-    /// Reads another piece; answers whether the device had more octets, or else answered its end.
+    /// Reads more octets behind those that are left, or notes that the device answered its end.
     /// `Read`, and no other fault, where the device failed.
-    fn fill<R: Inlet>(&mut self, reader: &mut R) -> Result<bool, Fault>
+    fn fill<R: Inlet>(&mut self, reader: &mut R) -> Result<(), Fault>
         requires reads { 0 < self.old.reads }
-        requires piece { length self.old.piece.items ≡ 4096 }
-        ensures piece { length self.new.piece.items ≡ 4096 }
-        ensures heard { IfOk result (λ more. more ≡ true →
-            Heard R.Inlet reader.old reader.new (left_of self.new) false) }
-        ensures ends { IfOk result (λ more. more ≡ false →
-            Heard R.Inlet reader.old reader.new [] true × (self.new.end ≡ 0)) }
-        ensures within { IfOk result (λ more. (self.new.at ≡ 0) × (self.new.end ≤ 4096)) }
+        requires within { self.old.at ≤ self.old.end }
+        requires fits { self.old.end + 4096 ≤ length self.old.piece.items }
+        requires going { self.old.ended ≡ false }
+        ensures piece { length self.new.piece.items ≡ length self.old.piece.items }
+        ensures heard { OnOk result ((more : List ℕ)
+            × Heard R.Inlet reader.old reader.new more self.new.ended
+            × (left_of self.new ≡ left_of self.old ++ more)) }
+        ensures within { (self.new.at ≤ self.new.end) × (self.new.end ≤ self.old.end + 4096) }
+        ensures at { self.new.at ≡ self.old.at }
+        ensures ends { OnOk result
+            (self.new.ended ≡ true → left_of self.new ≡ left_of self.old) }
         ensures items { self.new.items ≡ self.old.items }
         ensures used { self.new.used ≡ self.old.used }
         ensures reads { self.new.reads + 1 ≡ self.old.reads }
-        ensures asked { IfOk result (λ more. more ≡ true → (first : R) (made : ℕ) →
+        ensures asked { OnOk result (self.new.ended ≡ false → (first : R) (made : ℕ) →
             WereMade R.Inlet made first reader.old → WereMade R.Inlet (made + 1) first reader.new) }
         ensures kept { OnErr result (Heard R.Inlet reader.old reader.new [] false) }
         ensures few_calls { R.calls_made reader.new ≤ R.calls_made reader.old + 1 }
@@ -125,16 +163,142 @@ impl<I: Items + Drop> Source<I> {
             × (R.has_failed reader.new ≡ true)) }
     {
         self.reads -= 1;
-        self.at = 0;
-        self.end = 0;
-        match reader.read(&mut self.piece) {
+        match read_behind(reader, &mut self.piece, self.end) {
             Err(_) => Err(Fault::Read),
-            Ok(0) => Ok(false),
+            Ok(0) => {
+                self.ended = true;
+                Ok(())
+            }
             Ok(count) => {
-                self.end = count;
-                Ok(true)
+                self.end += count;
+                Ok(())
             }
         }
+    }
+
+    /// Makes room for all that may be joined, where there is none for another piece with what is
+    /// left. `Memory`, and no other fault, where that was refused.
+    fn widen(&mut self) -> Result<(), Fault>
+        requires within { self.old.at ≤ self.old.end }
+        requires end { self.old.end ≤ length self.old.piece.items }
+        requires fits { self.old.end - self.old.at + 4096 ≤ 65536 }
+        ensures widened { OnOk result (IsWidened self.old self.new) }
+        ensures reads { self.new.reads ≡ self.old.reads }
+        ensures cause { IfErr result (λ fault. fault ≡ Fault.Memory) }
+    {
+        if self.piece.len() - (self.end - self.at) < PIECE {
+            self.piece.resize(WINDOW, 0)?;
+        }
+        Ok(())
+    }
+
+    /// Moves what is left to the front, where there is no room for another piece behind it.
+    fn make_room(&mut self)
+        requires within { self.old.at ≤ self.old.end }
+        requires end { self.old.end ≤ length self.old.piece.items }
+        requires fits { self.old.end - self.old.at + 4096 ≤ length self.old.piece.items }
+        ensures moved { HasRoom self.old self.new }
+    {
+        let (at, end) = (self.at, self.end);
+        if at < end && self.piece.len() - end >= PIECE {
+            return;
+        }
+        self.piece.copy_within(at..end, 0);
+        self.at = 0;
+        self.end = end - at;
+    }
+
+    /// Reads another piece behind what is left, or notes that the device answered its end. Faults
+    /// are `Memory` and `Read`.
+    fn join<R: Inlet>(&mut self, reader: &mut R) -> Result<(), Fault>
+        requires ready { IsReady I.Items self.old }
+        requires may { CanJoin self.old }
+        ensures gathers { OnOk result
+            (Gathers R.Inlet I.Items reader.old reader.new self.old self.new) }
+        ensures fewer { OnOk result (self.new.reads + 1 ≡ self.old.reads) }
+        ensures ends { OnOk result
+            (self.new.ended ≡ true → left_of self.new ≡ left_of self.old) }
+        ensures few_calls { R.calls_made reader.new + self.new.reads
+            ≤ R.calls_made reader.old + self.old.reads }
+        ensures few_octets { length (R.handed reader.new) + 4096 * self.new.reads
+            ≤ length (R.handed reader.old) + 4096 * self.old.reads }
+        ensures no_read_failed { OnOk result (R.has_failed reader.new ≡ false) }
+        ensures cause { IfErr result (λ fault. (first : R) (reads : ℕ) →
+            IsReadCause R.Inlet reads first reader.new fault) }
+        ensures kept { OnErr result ((g : Catalog) (l : Limits) (first : R) (s : List Value) →
+            Reads R.Inlet I.Items g l first reader.old self.old s →
+            GaveSoFar R.Inlet I.Items g l first reader.new s) }
+    {
+        self.widen()?;
+        self.make_room();
+        self.fill(reader)?;
+        Ok(())
+    }
+
+    /// Whether another piece may be joined to what is left, since the value there seems to be cut.
+    fn is_cut(&self, glance: &mut Glance) -> bool
+        requires within { self.now.at ≤ self.now.end }
+        requires end { self.now.end ≤ length self.now.piece.items }
+        ensures { result ≡ true → CanJoin self.now }
+    {
+        if self.ended || self.reads == 0 || self.end - self.at > WINDOW - PIECE {
+            return false;
+        }
+        self.items.seems_cut(&self.piece[self.at..self.end], glance)
+    }
+
+    /// Reads on while the value in front seems to be cut by the end of what is left, so that its
+    /// reader sees it whole. Faults are `Memory` and `Read`.
+    #[inline(always)]
+    fn gather<R: Inlet>(&mut self, reader: &mut R) -> Result<(), Fault>
+        requires { IsReady I.Items self.old }
+        ensures gathers { OnOk result
+            (Gathers R.Inlet I.Items reader.old reader.new self.old self.new) }
+        ensures few_calls { R.calls_made reader.new + self.new.reads
+            ≤ R.calls_made reader.old + self.old.reads }
+        ensures few_octets { length (R.handed reader.new) + 4096 * self.new.reads
+            ≤ length (R.handed reader.old) + 4096 * self.old.reads }
+        ensures cause { IfErr result (λ fault. (first : R) (reads : ℕ) →
+            IsReadCause R.Inlet reads first reader.new fault) }
+        ensures kept { OnErr result ((g : Catalog) (l : Limits) (first : R) (s : List Value) →
+            Reads R.Inlet I.Items g l first reader.old self.old s →
+            GaveSoFar R.Inlet I.Items g l first reader.new s) }
+    {
+        let left = self.end - self.at;
+        if left == 0 || !self.sizes.may_pass(left) {
+            return Ok(());
+        }
+        self.gather_on(reader)
+    }
+
+    /// The same of a value that may well be cut.
+    #[inline(never)]
+    fn gather_on<R: Inlet>(&mut self, reader: &mut R) -> Result<(), Fault>
+        requires { IsReady I.Items self.old }
+        ensures gathers { OnOk result
+            (Gathers R.Inlet I.Items reader.old reader.new self.old self.new) }
+        ensures few_calls { R.calls_made reader.new + self.new.reads
+            ≤ R.calls_made reader.old + self.old.reads }
+        ensures few_octets { length (R.handed reader.new) + 4096 * self.new.reads
+            ≤ length (R.handed reader.old) + 4096 * self.old.reads }
+        ensures cause { IfErr result (λ fault. (first : R) (reads : ℕ) →
+            IsReadCause R.Inlet reads first reader.new fault) }
+        ensures kept { OnErr result ((g : Catalog) (l : Limits) (first : R) (s : List Value) →
+            Reads R.Inlet I.Items g l first reader.old self.old s →
+            GaveSoFar R.Inlet I.Items g l first reader.new s) }
+    {
+        let mut left = self.end - self.at;
+        let mut glance = Glance::new();
+        while self.is_cut(&mut glance) {
+            let before = left;
+            self.join(reader)?;
+            left = self.end - self.at;
+            // a token that is cut again and again would be looked over as often
+            if left.saturating_sub(before) < before / 16 {
+                return Ok(());
+            }
+        }
+        Ok(())
     }
 
     /// Reads another piece where this one is used up; answers whether the device had more octets,
@@ -164,7 +328,9 @@ impl<I: Items + Drop> Source<I> {
             ≤ R.calls_made reader.old + self.old.reads }
         ensures few_octets { length (R.handed reader.new) + 4096 * self.new.reads
             ≤ length (R.handed reader.old) + 4096 * self.old.reads }
-        ensures no_read_failed { OnOk result (R.has_failed reader.new ≡ false) }
+        ensures heard { IfOk result (λ more. more ≡ true → R.has_failed reader.new ≡ false) }
+        ensures no_read_failed { OnOk result ((R.has_failed reader.new ≡ false)
+            ⊎ ((reader.new ≡ reader.old) × (self.old.ended ≡ true))) }
         ensures cause { IfErr result (λ fault. (first : R) (reads : ℕ) →
             IsWithin R.Inlet reads first reader.old self.old →
             IsReadCause R.Inlet reads first reader.new fault) }
@@ -172,13 +338,14 @@ impl<I: Items + Drop> Source<I> {
             Reads R.Inlet I.Items g l first reader.old self.old s →
             GaveSoFar R.Inlet I.Items g l first reader.new s) }
     {
+        if self.ended {
+            return Ok(false);
+        }
         if self.reads == 0 {
             return Err(Fault::TooManyReads);
         }
-        if !self.fill(reader)? {
-            return Ok(false);
-        }
-        Ok(true)
+        self.join(reader)?;
+        Ok(!self.ended)
     }
 
     /// Reads on up to the next value or to the end.
@@ -212,6 +379,7 @@ impl<I: Items + Drop> Source<I> {
             Reads R.Inlet I.Items g l first reader.old self.old s →
             GaveSoFar R.Inlet I.Items g l first reader.new s) }
     {
+        self.gather(reader)?;
         loop {
             match self.take::<A>() {
                 Err(
@@ -248,6 +416,7 @@ impl<I: Items + Drop> Source<I> {
         let (used, written) = C::carry(&mut self.items, piece, encoder, out)?;
         self.at += used;
         self.used += used as u64;
+        self.sizes.note(self.used, true);
         Some(written)
     }
 }
@@ -366,6 +535,33 @@ impl<I: Items + Drop> Standing<I> {
             },
             Standing::Ended => Ok(None),
             Standing::Refused(_) => Ok(None),
+        }
+    }
+
+    /// Reads on in a document that is open, while the value in front seems to be cut by the end of
+    /// the octets that were read, so that its reader sees it whole; 64 KiB are kept at most. Else
+    /// it stays where it stands.
+    ///
+    /// Faults are `Memory` and `Read`.
+    #[inline(always)]
+    pub fn gather<R: Inlet>(&mut self, reader: &mut R) -> Result<(), Fault>
+        requires { IfOpen self.old (IsReady I.Items) }
+        ensures gathers { OnOk result
+            (GathersAt R.Inlet I.Items reader.old reader.new self.old self.new) }
+        ensures few_calls { R.calls_made reader.new + reads_of self.new
+            ≤ R.calls_made reader.old + reads_of self.old }
+        ensures few_octets { length (R.handed reader.new) + 4096 * reads_of self.new
+            ≤ length (R.handed reader.old) + 4096 * reads_of self.old }
+        ensures cause { IfErr result (λ fault. (first : R) (reads : ℕ) →
+            IsReadCause R.Inlet reads first reader.new fault) }
+        ensures kept { OnErr result ((g : Catalog) (l : Limits) (first : R) (s : List Value) →
+            Stood R.Inlet I.Items g l first reader.old self.old s →
+            GaveSoFar R.Inlet I.Items g l first reader.new s) }
+    {
+        match self {
+            Standing::Open(source) => source.gather(reader),
+            Standing::Ended => Ok(()),
+            Standing::Refused(_) => Ok(()),
         }
     }
 

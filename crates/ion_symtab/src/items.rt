@@ -8,6 +8,7 @@ ghost use Rattle.ion_symtab.specs.Trace.{Trace, Answers, Finishes, Grows, Stream
 ghost use Rattle.ion_symtab.specs.Steps.{StepsOver, RefusesBy};
 ghost use Rattle.ion_symtab.specs.Promises.{Refuses, IsFirst, HasPieces, Shown, Shows, IsSmall, HasReasons, GivesNoTable, EndsValues};
 
+use crate::glance::Glance;
 use ion_model::{Outline, Refusal, Value};
 
 /// What one step used of its piece, and the value that it gave.
@@ -167,6 +168,14 @@ pub trait Items: Sized {
             Err(refusal) => Err(refusal),
             Ok(step) => Ok(step.passed()),
         }
+    }
+
+    /// Whether the value at the front of the piece, of which nothing was taken up yet, seems to go on
+    /// behind it. It serves whoever reads pieces from a device, which may join them then. It is a
+    /// hint, of which nothing is promised, and no answer rests on it. What was looked over of the
+    /// piece is noted in `glance`, which serves for these octets with more behind them.
+    fn seems_cut(&self, _piece: &[u8], _glance: &mut Glance) -> bool {
+        false
     }
 
     /// Ends the octets: the value that only the end shows to be whole, if there is one, or the

@@ -143,6 +143,7 @@ with_scanner r s = record {
   limits = r.limits;
   scanner = s;
   beside = r.beside;
+  recent = r.recent;
   start = r.start;
   context =
       r.context;

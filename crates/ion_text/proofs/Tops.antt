@@ -633,6 +633,7 @@ gone_on r s b = record {
   limits = r.limits;
   scanner = s;
   beside = b;
+  recent = r.recent;
   start = 0;
   context = r.context;
   frames =

@@ -4,6 +4,7 @@ ghost use Rattle.ion_text.specs.declared.building.Open.TheVariants as opens;
 ghost use Rattle.ion_text.specs.visiting.Building.{with_value, with_name, opened, closed, value_in, Puts};
 
 use crate::payloads::{number_payload, payload_of};
+use crate::recent_symbols::RecentSymbols;
 use ion_model::{Field, Payload, Sequence, Symbol, Value};
 use ion_scalar::Number;
 use ion_visiting::{Bracket, Part, TextVisitor};
@@ -35,6 +36,8 @@ pub(crate) struct Building {
     /// The annotations read of the value that comes.
     notes: Sequence<Symbol>,
     place: Open,
+    /// The symbols met lately, whose texts are shared.
+    recent: RecentSymbols,
 }
 
 impl Open {
@@ -106,8 +109,8 @@ impl Open {
 }
 
 impl Building {
-    /// Of a value of the top level.
-    pub fn new(alloc: Global) -> Building
+    /// Of a value of the top level, whose symbols were perhaps met lately.
+    pub fn new(alloc: Global, recent: RecentSymbols) -> Building
         ensures place { result.place ≡ opens.Top None }
         ensures notes { result.notes ≡ [] }
     {
@@ -115,19 +118,20 @@ impl Building {
             alloc,
             notes: Sequence::new(alloc),
             place: Open::Top(None),
+            recent,
         }
     }
 
-    /// The value that came.
-    pub fn into_value(self) -> Option<Value>
-        ensures { result ≡ value_in self.place }
+    /// The value that came, and the symbols met lately.
+    pub fn into_parts(self) -> (Option<Value>, RecentSymbols)
+        ensures { result.0 ≡ value_in self.place }
     {
-        let Building { place, .. } = self;
+        let Building { place, recent, .. } = self;
         match place {
-            Open::Top(came) => came,
+            Open::Top(came) => (came, recent),
             other => {
                 drop(other);
-                None
+                (None, recent)
             }
         }
     }
@@ -154,7 +158,7 @@ impl TextVisitor for Building {
 
     #[inline(always)]
     fn part(&mut self, said: &Part<'_>) -> bool {
-        match payload_of(self.alloc, said) {
+        match payload_of(self.alloc, &mut self.recent, said) {
             Err(_) => false,
             Ok(payload) => self.put(payload),
         }
@@ -167,7 +171,7 @@ impl TextVisitor for Building {
 
     #[inline(always)]
     fn annotation(&mut self, text: &str) -> bool {
-        match Symbol::known(self.alloc, text) {
+        match self.recent.symbol(text) {
             Err(_) => false,
             Ok(symbol) => self.notes.push(symbol).is_ok(),
         }
@@ -175,7 +179,7 @@ impl TextVisitor for Building {
 
     #[inline(always)]
     fn name(&mut self, text: &str) -> bool {
-        match Symbol::known(self.alloc, text) {
+        match self.recent.symbol(text) {
             Err(_) => false,
             Ok(symbol) => self.place.put_name(symbol),
         }

@@ -7,6 +7,7 @@ mod escape;
 pub mod laws;
 mod payloads;
 mod reader;
+mod recent_symbols;
 mod scalar;
 mod spelled;
 mod spelling;

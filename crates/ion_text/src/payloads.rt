@@ -3,20 +3,25 @@ ghost use Rattle.std.specs.Prelude.{◌≡◌, IfOk, IfErr};
 ghost use Rattle.ion_atoms.specs.declared.refusal.Reason.TheVariants.{Memory};
 ghost use Rattle.ion_visiting.specs.Parts.{number_payload, payload_of};
 
-use ion_model::{Bytes, Payload, Reason, Symbol, Text};
+use crate::recent_symbols::RecentSymbols;
+use ion_model::{Bytes, Payload, Reason, Text};
 use ion_scalar::Number;
 use ion_visiting::Part;
 use std::alloc::Global;
 
 /// The value of such a part.
-pub(crate) fn payload_of(alloc: Global, said: &Part<'_>) -> Result<Payload, Reason>
+pub(crate) fn payload_of(
+    alloc: Global,
+    recent: &mut RecentSymbols,
+    said: &Part<'_>,
+) -> Result<Payload, Reason>
     ensures pays { IfOk result (λ payload. payload ≡ payload_of said.now) }
     ensures memory { IfErr result (λ reason. reason ≡ Memory) }
 {
     match said {
         Part::Null(kind) => Ok(Payload::Null(*kind)),
         Part::Truth(truth) => Ok(Payload::Truth(*truth)),
-        Part::Symbol(text) => Ok(Payload::Symbol(Symbol::known(alloc, text)?)),
+        Part::Symbol(text) => Ok(Payload::Symbol(recent.symbol(text)?)),
         Part::Str(text) => Ok(Payload::Str(Text::from_string(String::from_str(alloc, text)?))),
         Part::Clob(octets) => Ok(Payload::Clob(Bytes::from_vec(Vec::from_slice(alloc, octets)?))),
         Part::Blob(octets) => Ok(Payload::Blob(Bytes::from_vec(Vec::from_slice(alloc, octets)?))),

@@ -5,6 +5,7 @@ ghost use Rattle.ion_text.specs.machine.EachToken.{place, begun_at, behind_item,
 ghost use Rattle.ion_text.specs.machine.Run.{is_top};
 ghost use Rattle.ion_text.specs.machine.Views.{setting_of, spot_of, open_frames, reading_of, Does, Puts, SameSetting, is_named, has_field};
 
+use crate::recent_symbols::RecentSymbols;
 use crate::state::{Effect, Frame, Listing, Now};
 use ion_model::{Field, Payload, Reason, Refusal, Sequence, Symbol, Value};
 use ion_symtab::{Catalog, Context, Limits};
@@ -14,6 +15,7 @@ use std::fmt::{self, Debug, Formatter};
 use std::mem;
 
 mod advance;
+mod ahead;
 mod alike;
 mod annotation_or_value;
 mod annotations;
@@ -51,6 +53,8 @@ pub struct TextReader<'a> {
     scanner: Scanner,
     /// Reads tokens that lie whole in a piece and aren't plain.
     beside: TokenReader,
+    /// The symbols met lately, whose texts are shared.
+    recent: RecentSymbols,
     /// Where the open item of the top level begins.
     start: u64,
     /// What symbol ids stand for.

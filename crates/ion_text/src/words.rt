@@ -6,9 +6,9 @@ ghost use Rattle.ion_tokens.specs.Octets.{is_digit};
 ghost use Rattle.ion_text.specs.Grammar.{is_keyword, is_version, version_parts, some_digits};
 ghost use Rattle.ion_text.specs.machine.EachToken.{held_word};
 
+use crate::recent_symbols::RecentSymbols;
 use crate::state::Held;
-use ion_model::{Kind, Reason, Symbol};
-use std::alloc::Global;
+use ion_model::{Kind, Reason};
 
 fn is_digit(octet: u8) -> bool
     ensures { result ≡ is_digit octet }
@@ -79,11 +79,11 @@ pub(crate) fn is_keyword(word: &str) -> bool
 }
 
 // What a word is that is a symbol unquoted. The only refusal is `Memory`.
-fn held_symbol(alloc: Global, word: &str) -> Result<Held, Reason>
+fn held_symbol(recent: &mut RecentSymbols, word: &str) -> Result<Held, Reason>
     requires { is_keyword word.now ≡ false }
     ensures { MatchResult result (λ held. held ≡ held_word word.now) (λ r. r ≡ reasons.Memory) }
 {
-    let symbol = Symbol::known(alloc, word)?;
+    let symbol = recent.symbol(word)?;
     if is_version(word.as_bytes()) {
         return Ok(Held::Version(word == "$ion_1_0", symbol));
     }
@@ -91,17 +91,17 @@ fn held_symbol(alloc: Global, word: &str) -> Result<Held, Reason>
 }
 
 /// What a word is as a value, or as an annotation. The only refusal is `Memory`.
-pub(crate) fn held_word(alloc: Global, word: &str) -> Result<Held, Reason>
+pub(crate) fn held_word(recent: &mut RecentSymbols, word: &str) -> Result<Held, Reason>
     ensures { MatchResult result (λ held. held ≡ held_word word.now) (λ r. r ≡ reasons.Memory) }
 {
     if !may_be_keyword(word) {
-        return held_symbol(alloc, word);
+        return held_symbol(recent, word);
     }
     match word {
         "null" => Ok(Held::Null(Kind::Null)),
         "true" => Ok(Held::Truth(true)),
         "false" => Ok(Held::Truth(false)),
         "nan" => Ok(Held::Nan),
-        _ => held_symbol(alloc, word),
+        _ => held_symbol(recent, word),
     }
 }

@@ -1,5 +1,5 @@
 -- The values that a document gave so far are the front of the stream of what was heard.
-use Rattle.std.proofs.Common.{◌≡◌, ℕ, List, [], ◌∷◌, ◌++◌, refl, ap, sym, subst, ◌∙◌, true, false, Option, Some, None, IsNone, IfSome, option_to_list, append_assoc, append-nil, ◌↔◌}
+use Rattle.std.proofs.Common.{◌≡◌, ℕ, List, [], ◌∷◌, ◌++◌, refl, ap, sym, subst, ◌∙◌, true, Option, Some, None, IsNone, IfSome, option_to_list, append_assoc, append-nil, ◌↔◌}
 use Rattle.std.proofs.lemmas.List.{map-append}
 use Rattle.ion_model.specs.declared.value.Value.{Value}
 use Rattle.ion_symtab.specs.Trace.{Trace, plain, Streams, Grows}
@@ -58,7 +58,7 @@ module _ {S X : Type 0} (R : Inlet S) (I : Items X) (g : Catalog) (l : Limits)
       let some = rw (each.under, each.within) at (with_next source.items each.u h.given each.stood) in
       record {
         octets = each.u ++ left_of source;
-        ended = false;
+        ended = source.ended;
         heard = each.heard;
         front = λ more t may d. front_of_trace (I.trace g l ((each.u ++ left_of source) ++ more)) h.given s t h.values
             (front_given (I.awaits source.items) each.u (left_of source) more h.given begins none some)

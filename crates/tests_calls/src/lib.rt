@@ -16,6 +16,8 @@ mod devices;
 mod errors;
 #[cfg(test)]
 mod faults;
+#[cfg(test)]
+mod glances;
 mod held;
 #[cfg(test)]
 mod lines;

@@ -8,7 +8,7 @@ ghost use Rattle.ion_binary.specs.machine.Views.{run_of, machine_of, open_frames
 use super::BinaryReader;
 use crate::state::{Effect, Mark, Phase};
 use ion_model::{Reason, Refusal, Value};
-use ion_symtab::{Catalog, Context, Items, Limits, Passed, Step};
+use ion_symtab::{Catalog, Context, Glance, Items, Limits, Passed, Step};
 use std::alloc::Global;
 
 impl<'a> BinaryReader<'a> {
@@ -193,6 +193,10 @@ impl Items for BinaryReader<'_> {
             Err(refusal) => Err(refusal),
             Ok(step) => Ok(step.passed()),
         }
+    }
+
+    fn seems_cut(&self, piece: &[u8], _glance: &mut Glance) -> bool {
+        self.is_cut(piece)
     }
 
     fn finish(self) -> Result<Option<Value>, Refusal> {

@@ -17,6 +17,7 @@ pub record WentPast {X : Type 0} (I : Items X) (before after : Source X) (v : Va
   pub ready : IsReady I after
   pub less : work I after < work I before
   pub reads : after.reads ≡ before.reads
+  pub ended : after.ended ≡ before.ended
 
 -- the same of a place: it was open, and still is
 abbrev pub StandingPast : {X : Type 0} → Items X → Standing X → Standing X → Value → Type 0

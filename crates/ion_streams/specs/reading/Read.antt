@@ -26,8 +26,7 @@ module _ {X : Type 0} (I : Items X) where
   -- what is left lies in the piece and begins as the reader awaits, and all that may be read can be counted
   pub record IsReady (source : Source X) : Type 0 where
     pub within : source.at ≤ source.end
-    pub fits : source.end ≤ 4096
-    pub piece : length source.piece.items ≡ 4096
+    pub fits : source.end ≤ length source.piece.items
     pub room : I.taken source.items + (source.end - source.at) + 4096 * source.reads < 2 ^ 63
     pub begins : Begins (I.awaits source.items) (left_of source)
     pub counted : I.taken source.items ≡ source.used
@@ -48,8 +47,9 @@ module _ {X : Type 0} (I : Items X) where
     pub stood : I.stands after.items to (given ++ given_at value after.used)
     pub octets : to ++ left_of after ≡ u ++ before
 
--- Nothing comes of a document before its device is asked: no octet of a piece is left, no value may still come, and nothing was refused.
+-- Nothing comes of a document before its device is asked: no octet of a piece is left, no value may still come, nothing was refused, and the end wasn't answered.
 pub record HasToAsk {X : Type 0} (I : Items X) (source : Source X) : Type 0 where
+  pub going : source.ended ≡ false
   pub used_up : source.at ≡ source.end
   pub owes : I.pending source.items ≡ 0
   pub not_failed : I.failed source.items ≡ None
@@ -62,10 +62,10 @@ pub record NoneFailed {S X : Type 0} (R : Inlet S) (I : Items X) (now : S) (sour
 pub record NoReadFailed {S : Type 0} (R : Inlet S) (old now : S) : Type 0 where
   pub either : (now ≡ old) ⊎ (R.has_failed now ≡ false)
 
--- the calls of read that were made and those that may still be made are so many, and none answered the end
+-- the calls of read that were made and those that may still be made are so many, and unless the end was answered, none answered it
 pub record IsWithin {S X : Type 0} (R : Inlet S) (reads : ℕ) (first now : S) (source : Source X) : Type 0 where
   pub made : ℕ
-  pub were : WereMade R made first now
+  pub were : source.ended ≡ false → WereMade R made first now
   pub rest : made + source.reads ≡ reads
 
 module _ {S X : Type 0} (R : Inlet S) (I : Items X) (g : Catalog) (l : Limits) where
@@ -84,13 +84,13 @@ module _ {S X : Type 0} (R : Inlet S) (I : Items X) (g : Catalog) (l : Limits) w
     pub each : GaveEach first now items left ended given
     pub values : plain given ≡ s
 
-  -- so a document that is being read: the device hasn't answered the end
+  -- so a document that is being read
   abbrev pub Reads : S → S → Source X → List Value → Type 0
-  Reads first now source s = Gave first now source.items (left_of source) false s
+  Reads first now source s = Gave first now source.items (left_of source) source.ended s
 
   -- the same with the total of octets used when each value came
   abbrev pub ReadsEach : S → S → Source X → List (Value × ℕ) → Type 0
-  ReadsEach first now source given = GaveEach first now source.items (left_of source) false given
+  ReadsEach first now source given = GaveEach first now source.items (left_of source) source.ended given
 
   -- From first to now some reader gave s so.
   pub record GaveSoFar (first now : S) (s : List Value) : Type 0 where

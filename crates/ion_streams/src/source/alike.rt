@@ -27,8 +27,10 @@ pub(crate) fn pass_alike<A: Alike<I, J>, I: Items, J: Items>(
         Some((used, right_used)) => {
             left.at += used;
             left.used += used as u64;
+            left.sizes.note(left.used, true);
             right.at += right_used;
             right.used += right_used as u64;
+            right.sizes.note(right.used, true);
             true
         }
     }

@@ -231,6 +231,7 @@ with_beside r b = record {
   limits = r.limits;
   scanner = r.scanner;
   beside = b;
+  recent = r.recent;
   start = r.start;
   context =
       r.context;

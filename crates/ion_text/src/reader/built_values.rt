@@ -6,45 +6,19 @@ ghost use Rattle.ion_text.specs.machine.Progress.{Advances, SameSettings, StaysS
 ghost use Rattle.ion_text.specs.machine.Views.{state_of, IsFine};
 
 use super::TextReader;
+use super::ahead::seems_cut;
 use crate::building::Building;
-use ion_symtab::Step;
-use std::simd::prelude::*;
-
-/// How many octets of a piece are looked at to see whether an item may end there: a piece may be
-/// long and its items small, and each item asks anew.
-const REACH: usize = 1024;
-
-// An octet that an item of the top level may end with before the end of its line.
-fn may_end_an_item(octet: u8) -> bool {
-    matches!(octet, b']' | b'}' | b')' | b'\r')
-}
-
-/// Whether a line ends there behind the close of a container. Where none does the item mostly goes
-/// on in the next piece, and isn't gone over in vain then. Lines in long strings mostly end behind
-/// other octets.
-fn may_end_there(octets: &[u8]) -> bool {
-    let whole = octets.len().saturating_sub(1) / 16;
-    for i in 0..whole {
-        let at = i * 16;
-        let before = u8x16::from_slice(&octets[at..]);
-        let ends = u8x16::from_slice(&octets[at + 1..]).simd_eq(u8x16::splat(b'\n'));
-        let closes = before.simd_eq(u8x16::splat(b']'))
-            | before.simd_eq(u8x16::splat(b'}'))
-            | before.simd_eq(u8x16::splat(b')'))
-            | before.simd_eq(u8x16::splat(b'\r'));
-        if (ends & closes).any() {
-            return true;
-        }
-    }
-    for i in whole * 16 + 1..octets.len() {
-        if octets[i] == b'\n' && may_end_an_item(octets[i - 1]) {
-            return true;
-        }
-    }
-    false
-}
+use crate::recent_symbols::RecentSymbols;
+use ion_symtab::{Glance, Step};
+use std::mem;
 
 impl TextReader<'_> {
+    // Whether no item is open, and the one at the front of a piece seems to end there: else it
+    // would be gone over in vain.
+    fn seems_whole(&self, piece: &[u8]) -> bool {
+        self.fresh_rest().is_some() && !seems_cut(piece, &mut Glance::new())
+    }
+
     /// Takes up a blank and the item behind it at the front of a piece, and gives its value. With
     /// nothing taken up `None`, where an item is open, or the value isn't whole, may be a local
     /// symbol table, may not stand here or is in any way unusual, where it is likely to be cut, and
@@ -62,14 +36,20 @@ impl TextReader<'_> {
         ensures steady { StaysSteady self.old self.new }
         ensures setting { SameSettings self.old self.new }
     {
-        if !may_end_there(&piece[..piece.len().min(REACH)]) {
+        if !self.seems_whole(piece) {
             return None;
         }
-        let mut building = Building::new(self.alloc);
-        let used = self.walk_by(piece, self.limits.depth, &mut building)?;
-        Some(Step {
-            used,
-            value: building.into_value(),
-        })
+        let recent = mem::replace(&mut self.recent, RecentSymbols::new(self.alloc));
+        let mut building = Building::new(self.alloc, recent);
+        let used = self.walk_by(piece, self.limits.depth, &mut building);
+        let (value, recent) = building.into_parts();
+        self.recent = recent;
+        match used {
+            Some(used) => Some(Step { used, value }),
+            None => {
+                drop(value);
+                None
+            }
+        }
     }
 }

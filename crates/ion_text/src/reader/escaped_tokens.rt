@@ -20,7 +20,7 @@ use std::alloc::Global;
 // Whether a token that isn't plain may stand there: no mark, no comment and no long string.
 pub(super) fn may_be_rare(octets: &[u8]) -> bool {
     match octets.first() {
-        Some(b'\'') => octets.strip_prefix(b"''").is_none(),
+        Some(b'\'') => octets.strip_prefix(b"'''").is_none(),
         Some(b'{') => octets.strip_prefix(b"{{").is_some(),
         Some(b'/' | b',' | b'[' | b']' | b'(' | b')' | b'}' | b'$') => false,
         _ => true,
@@ -87,7 +87,7 @@ impl TextReader<'_> {
         ensures { StridesBy self.old self.new octets.now result }
     {
         if let Some((scalar, said)) = operator_at(here, octets) {
-            let payload = payload_of(self.alloc, &said)?;
+            let payload = payload_of(self.alloc, &mut self.recent, &said)?;
             return self.take_whole(here, rest, octets, scalar.token, payload);
         }
         if !may_be_rare(octets) {

@@ -9,9 +9,11 @@ ghost use Rattle.ion_text.specs.machine.Run.{trace};
 ghost use Rattle.ion_text.specs.machine.Progress.{BeginsWith, Stands, failed, octets_used, pending};
 
 use super::TextReader;
+use super::ahead::seems_cut;
+use crate::recent_symbols::RecentSymbols;
 use crate::state::Now;
 use ion_model::{Reason, Refusal, Sequence, Value};
-use ion_symtab::{Catalog, Context, Items, Limits, Passed, Step};
+use ion_symtab::{Catalog, Context, Glance, Items, Limits, Passed, Step};
 use ion_tokens::{Scanner, TokenReader};
 use std::alloc::Global;
 
@@ -33,6 +35,7 @@ impl<'a> TextReader<'a> {
             limits,
             scanner: Scanner::new(alloc),
             beside: TokenReader::new(alloc),
+            recent: RecentSymbols::new(alloc),
             start: 0,
             context,
             frames: Vec::new(alloc),
@@ -211,6 +214,10 @@ impl Items for TextReader<'_> {
             Err(refusal) => Err(refusal),
             Ok(step) => Ok(step.passed()),
         }
+    }
+
+    fn seems_cut(&self, piece: &[u8], glance: &mut Glance) -> bool {
+        self.fresh_rest().is_some() && seems_cut(piece, glance)
     }
 
     fn finish(self) -> Result<Option<Value>, Refusal> {

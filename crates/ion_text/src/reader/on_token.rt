@@ -62,7 +62,7 @@ impl TextReader<'_> {
     {
         match body {
             Body::Word(word) => {
-                let held = held_word(self.alloc, word.as_str())?;
+                let held = held_word(&mut self.recent, word.as_str())?;
                 self.wait(held, end)
             }
             Body::Id(id) => {
@@ -70,7 +70,7 @@ impl TextReader<'_> {
                 self.wait(Held::Symbol(symbol), end)
             }
             Body::Quoted(text) => {
-                let symbol = Symbol::known(self.alloc, text.as_str())?;
+                let symbol = self.recent.symbol(text.as_str())?;
                 self.wait(Held::Symbol(symbol), end)
             }
             Body::TypedNull(kind) => self.wait(Held::Null(kind), end),
@@ -81,7 +81,7 @@ impl TextReader<'_> {
             Body::Short(text) => self.whole(Payload::Str(text), end),
             Body::Number(number) => self.whole(number_payload(number), end),
             Body::Operator(word) => {
-                let symbol = Symbol::known(self.alloc, word.as_str())?;
+                let symbol = self.recent.symbol(word.as_str())?;
                 self.whole(Payload::Symbol(symbol), end)
             }
             Body::Clob(bytes) => self.whole(Payload::Clob(bytes), end),
@@ -236,7 +236,7 @@ impl TextReader<'_> {
             result self.new }
         ensures setting { SameSetting self.old self.new }
     {
-        let name = Symbol::known(self.alloc, text.as_str());
+        let name = self.recent.symbol(text.as_str());
         drop(text);
         self.set_stage(Now::Keyed(name?));
         Ok(Effect::Goes)
@@ -252,7 +252,7 @@ impl TextReader<'_> {
             result self.new }
         ensures setting { SameSetting self.old self.new }
     {
-        let name = Symbol::known(self.alloc, word)?;
+        let name = self.recent.symbol(word)?;
         self.set_stage(Now::Keyed(name));
         if is_keyword(word) {
             return Ok(Effect::Late(Reason::KeywordAsName));

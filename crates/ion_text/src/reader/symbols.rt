@@ -173,7 +173,7 @@ impl TextReader<'_> {
         let Some((token, text)) = plain_name(octets) else {
             return self.take_rare_name(here, rest, octets);
         };
-        let name = Symbol::known(self.alloc, text)?;
+        let name = self.recent.symbol(text)?;
         self.take_key(here, rest, octets, token, name)
     }
 

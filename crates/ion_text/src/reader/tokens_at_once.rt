@@ -153,7 +153,7 @@ impl TextReader<'_> {
         let Some((scalar, said)) = plain_at(octets) else {
             return self.take_rare(here, rest, octets);
         };
-        let payload = payload_of(self.alloc, &said)?;
+        let payload = payload_of(self.alloc, &mut self.recent, &said)?;
         if scalar.waits {
             self.take_symbol(here, rest, octets, scalar.token, payload)
         } else {

@@ -4,8 +4,8 @@ use Rattle.ion_streams.proofs.Driven.{Driven}
 use Rattle.ion_docs.proofs.Carrying.{Done}
 use Rattle.ion_docs.proofs.conversion.convert_by.Given as goal
 
-abbrev pub invariant-loop-fault : goal.invariant-loop-fault
-invariant-loop-fault g l = record {
+abbrev pub invariant-loop-encoder : goal.invariant-loop-encoder
+invariant-loop-encoder g l = record {
   driven : Driven g.R.Inlet g.I.Items l.fn.reads l.fn.reader l.reader l.place;
   bound : l.values + work_of g.I.Items l.place ≤ 8193 * 2 ^ 32 + 1;
   asked : g.R.Inlet.calls_made l.reader + reads_of l.place ≤ g.R.Inlet.calls_made l.fn.reader + l.fn.reads;
@@ -14,5 +14,5 @@ invariant-loop-fault g l = record {
       l.place l.encoder l.writer;
 }
 
-abbrev pub decreases-loop-fault : goal.decreases-loop-fault
-decreases-loop-fault g l = work_of g.I.Items l.place
+abbrev pub decreases-loop-encoder : goal.decreases-loop-encoder
+decreases-loop-encoder g l = work_of g.I.Items l.place

@@ -21,9 +21,9 @@ compare_places-verdict-requires g c =
           r.items r.nothing r.piece (omega (arith, r.reads));
       opened = tt;
       left_unread = asks_begun g.I.Items left c.args.left_items (g.met.I.Items.not_failed c.args.left_items [] [] c.requires.left.stood) c.requires.left.owes
-          l.items l.nothing;
+          l.items l.nothing l.unended;
       right_unread = asks_begun g.J.Items right c.args.right_items (g.met.J.Items.not_failed c.args.right_items [] [] c.requires.right.stood)
-          c.requires.right.owes r.items r.nothing;
+          c.requires.right.owes r.items r.nothing r.unended;
       few = omega (arith, left_pending, right_pending, l.reads, l.nothing.0, l.nothing.1, r.reads, r.nothing.0, r.nothing.1);
     }
 
@@ -34,9 +34,9 @@ returns-clause-verdict g c =
     let l = c.in_ok-left_source.ensures in
     let r = c.in_ok-right_source.ensures in
     let left_begun = reads_begun g.L.Inlet g.I.Items c.args.left.now left c.args.left_items c.requires.left.stood l.items
-    (between_nil left.piece.items left.at left.end (omega (arith, l.nothing.0, l.nothing.1))) in
+    (between_nil left.piece.items left.at left.end (omega (arith, l.nothing.0, l.nothing.1))) l.unended in
     let right_begun = reads_begun g.R.Inlet g.J.Items c.args.right.now right c.args.right_items c.requires.right.stood r.items
-    (between_nil right.piece.items right.at right.end (omega (arith, r.nothing.0, r.nothing.1))) in
+    (between_nil right.piece.items right.at right.end (omega (arith, r.nothing.0, r.nothing.1))) r.unended in
     ok_by c.compare_places-verdict.result _ _ (λ verdict h. h _ _ _ _ left_begun right_begun) c.compare_places-verdict.ensures.verdict
 
 pub returns-clause-cause : goal.returns-clause-cause

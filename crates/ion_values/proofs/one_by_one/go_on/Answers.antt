@@ -1,7 +1,6 @@
-use Rattle.std.proofs.Common.{◌≡◌, ℕ, List, [], ◌∷◌, ◌++◌, refl, subst, append-nil, Some, None, true}
+use Rattle.std.proofs.Common.{ℕ, [], ◌∷◌, ◌++◌, refl, Some, None}
 use Rattle.std.proofs.lemmas.Bool.{false≢true}
 use Rattle.ion_model.specs.declared.value.Value.{Value}
-use Rattle.ion_streams.specs.reading.Standing.{Stood}
 use Rattle.ion_streams.proofs.Passes.{stood_next, not_refused}
 use Rattle.ion_values.proofs.Nexts.{front_at, refused_not}
 use Rattle.ion_values.proofs.one_by_one.go_on.Goals as goal

@@ -8,6 +8,6 @@ returns-clause-carries g c =
     let up = found.1 in (
       found.0,
       past g.I.Items g.met.I.Items.counted c.args.self.now _ c.in_ok-used.used found.0 c.requires.ready up.within up.catalog up.limits up.counts up.progress
-          up.awaited up.stands refl refl refl refl refl,
+          up.awaited up.stands refl refl refl refl refl refl,
       found.2,
     )

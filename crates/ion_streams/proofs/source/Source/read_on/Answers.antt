@@ -1,7 +1,8 @@
-use Rattle.std.proofs.Common.{inl, inr, rules, ◌≢◌, false, arith}
+use Rattle.std.proofs.Common.{inl, inr, rules, ◌≢◌, arith}
 use Rattle.ion_atoms.specs.declared.refusal.Reason.TheVariants as reasons
 use Rattle.std.proofs.lemmas.Result.{err_from_is_err_and}
 use Rattle.ion_streams.specs.reading.Read.{left_of}
+use Rattle.ion_streams.proofs.Joined.{ended_unasked, ended_heard}
 use Rattle.ion_streams.proofs.Steps.{gave_so_far, reads_none, reads_failed, within_kept, on_err}
 use Rattle.ion_streams.proofs.Passes.{none_went, passes_on}
 use Rattle.ion_streams.proofs.Unfailed.{was_asked, gave_some}
@@ -9,7 +10,8 @@ use Rattle.ion_streams.proofs.source.Source.read_on.Goals as goal
 
 pub returns-in-Err-Memory-clause-kept : goal.returns-in-Err-Memory-clause-kept
 returns-in-Err-Memory-clause-kept g c = λ catalog limits first s h.
-    gave_so_far g.R.Inlet g.I.Items catalog limits first c.loop-refusal.reader c.loop-refusal.self.items (left_of c.loop-refusal.self) false h.given s h.values
+    gave_so_far g.R.Inlet g.I.Items catalog limits first c.loop-refusal.reader c.loop-refusal.self.items (left_of c.loop-refusal.self)
+    c.loop-refusal.self.ended h.given s h.values
     (c.loop-refusal.invariant.reads catalog limits first h.given h.each)
 
 pub returns-in-Err-clause-gives : goal.returns-in-Err-clause-gives
@@ -25,19 +27,19 @@ returns-in-Ok-Some-clause-gives g c =
     let t = c.in-Ok-Some.ensures in
     λ catalog limits first given h.
     passes_on g.A.Asked.of g.R.Inlet g.I.Items catalog limits first c.loop-refusal.reader c.loop-refusal.self c.take.new.self given c.in-Ok-Some.found
-    (c.loop-refusal.invariant.reads catalog limits first given h) (rw c.in-Ok-Some.field-0-is at t.gives) t.catalog t.limits
+    (c.loop-refusal.invariant.reads catalog limits first given h) (rw c.in-Ok-Some.field-0-is at t.gives) t.catalog t.limits t.ended
 
 pub returns-in-Ok-Some-clause-within : goal.returns-in-Ok-Some-clause-within
 returns-in-Ok-Some-clause-within g c = λ first reads h.
-    within_kept g.R.Inlet reads first c.loop-refusal.reader c.loop-refusal.self c.take.new.self c.in-Ok-Some.ensures.reads
+    within_kept g.R.Inlet reads first c.loop-refusal.reader c.loop-refusal.self c.take.new.self c.in-Ok-Some.ensures.reads c.in-Ok-Some.ensures.ended
     (c.loop-refusal.invariant.within first reads h)
 
 pub returns-in_err-refill-clause-cause : goal.returns-in_err-refill-clause-cause
 returns-in_err-refill-clause-cause g c =
-    let p = err_from_is_err_and c.from_residual.result c.from_residual.ensures.1 in
+    let p = err_from_is_err_and c.from_residual-in_err-refill.result c.from_residual-in_err-refill.ensures.1 in
     rw (p.1, p.2) (λ first reads h.
     c.in_err-refill.ensures.cause first reads (within_kept g.R.Inlet reads first c.loop-refusal.reader c.loop-refusal.self c.take.new.self
-    c.in-Ok-None.ensures.reads (c.loop-refusal.invariant.within first reads h)))
+    c.in-Ok-None.ensures.reads c.in-Ok-None.ensures.ended (c.loop-refusal.invariant.within first reads h)))
 
 pub returns-in_err-refill-clause-kept : goal.returns-in_err-refill-clause-kept
 returns-in_err-refill-clause-kept g c =
@@ -46,12 +48,12 @@ returns-in_err-refill-clause-kept g c =
     let mid = c.take.new.self in
     let t = c.in-Ok-None.ensures in
     let gives = none_went g.A.Asked.of g.I.Items from mid _ c.in-Ok-None.field-0-is t.gives in
-    on_err c.from_residual.result _ (λ catalog limits first s h.
+    on_err c.from_residual-in_err-refill.result _ (λ catalog limits first s h.
     c.in_err-refill.ensures.kept catalog limits first s
     (record {
       given = h.given;
       each = reads_none g.R.Inlet g.I.Items catalog limits first c.loop-refusal.reader from mid h.given
-          (i.reads catalog limits first h.given h.each) gives t.catalog t.limits;
+          (i.reads catalog limits first h.given h.each) gives t.catalog t.limits t.ended;
       values = h.values;
     }))
 
@@ -71,13 +73,13 @@ loop-refusal-preserved g c =
       less = omega (arith, less, t.pending, f.less (search rules));
       asked = omega (arith, asked, t.reads, f.few_calls);
       handed = omega (arith, handed, t.reads, f.few_octets);
-      unasked = record { either = inr f.no_read_failed };
-      heard = λ h. record { either = inl f.no_read_failed };
+      unasked = record { either = inr (f.heard (search rules)) };
+      heard = λ h. record { either = inl (f.heard (search rules)) };
       within = λ first reads h. f.within (search rules) first reads
-          (within_kept g.R.Inlet reads first c.loop-refusal.reader from mid t.reads (i.within first reads h));
+          (within_kept g.R.Inlet reads first c.loop-refusal.reader from mid t.reads t.ended (i.within first reads h));
       reads = λ catalog limits first given h.
           f.goes_on (search rules) catalog limits first given (reads_none g.R.Inlet g.I.Items catalog limits first c.loop-refusal.reader from mid given
-          (i.reads catalog limits first given h) gives t.catalog t.limits);
+          (i.reads catalog limits first given h) gives t.catalog t.limits t.ended);
     }
 
 pub returns-then-not-branch-clause-gives : goal.returns-then-not-branch-clause-gives
@@ -90,7 +92,7 @@ returns-then-not-branch-clause-gives g c =
     λ catalog limits first given h.
     c.in_ok-refill.ensures.ends (search rules) catalog limits first given
     (reads_none g.R.Inlet g.I.Items catalog limits first c.loop-refusal.reader from mid given (i.reads catalog limits first given h) gives t.catalog
-    t.limits)
+    t.limits t.ended)
 
 pub returns-in-Ok-Some-clause-no_read_failed : goal.returns-in-Ok-Some-clause-no_read_failed
 returns-in-Ok-Some-clause-no_read_failed g c = λ h.
@@ -101,3 +103,19 @@ pub returns-in-Err-clause-no_read_failed : goal.returns-in-Err-clause-no_read_fa
 returns-in-Err-clause-no_read_failed g c =
     let other : c.in-Err.refusal.reason ≢ reasons.Memory = search rules in
     λ h. was_asked g.R.Inlet g.I.Items c.loop-refusal.reader c.loop-refusal.self (c.in-Err.ensures.none_refused other) (c.loop-refusal.invariant.heard h)
+
+pub returns-then-not-branch-clause-unasked : goal.returns-then-not-branch-clause-unasked
+returns-then-not-branch-clause-unasked g c =
+    let ended = c.in_ok-refill.ensures.no_read_failed in
+    ended_unasked g.R.Inlet g.I.Items c.args.reader.now c.loop-refusal.reader c.refill.new.reader c.take.new.self c.loop-refusal.invariant.unasked ended
+
+pub returns-then-not-branch-clause-no_read_failed : goal.returns-then-not-branch-clause-no_read_failed
+returns-then-not-branch-clause-no_read_failed g c = λ h.
+    let from = c.loop-refusal.self in
+    let ended = c.in_ok-refill.ensures.no_read_failed in
+    ended_heard g.R.Inlet g.I.Items c.loop-refusal.reader c.refill.new.reader from (c.loop-refusal.invariant.heard h) (rw c.in-Ok-None.ensures.ended at ended)
+
+pub returns-in_err-gather-clause-cause : goal.returns-in_err-gather-clause-cause
+returns-in_err-gather-clause-cause g c =
+    let p = err_from_is_err_and c.from_residual.result c.from_residual.ensures.1 in
+    rw (p.1, p.2) (λ first reads w. c.in_err-gather.ensures.cause first reads)

@@ -9,7 +9,7 @@ returns-in-Some-clause-past g c = λ yes.
     let right_up = found.2 in (
       found.0,
       past g.I.Items g.met.I.Items.counted c.args.left.now _ c.in-Some.used found.0 c.requires.left up.within up.catalog up.limits up.counts up.progress
-          up.awaited up.stands refl refl refl refl refl,
+          up.awaited up.stands refl refl refl refl refl refl,
       past g.J.Items g.met.J.Items.counted c.args.right.now _ c.in-Some.right_used found.0 c.requires.right right_up.within right_up.catalog right_up.limits
-          right_up.counts right_up.progress right_up.awaited right_up.stands refl refl refl refl refl,
+          right_up.counts right_up.progress right_up.awaited right_up.stands refl refl refl refl refl refl,
     )

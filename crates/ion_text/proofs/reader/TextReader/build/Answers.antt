@@ -7,12 +7,12 @@ use Rattle.ion_text.specs.machine.Views.{state_of}
 use Rattle.ion_text.proofs.Built.{built}
 use Rattle.ion_text.proofs.reader.TextReader.build.Goals as goal
 
-pub returns-clause-does : goal.returns-clause-does
-returns-clause-does c =
+pub returns-in-Some-clause-does : goal.returns-in-Some-clause-does
+returns-in-Some-clause-does c =
     let old = c.args.self.now in
-    let new = c.walk_by.new.self in
-    let found = c.in_ok-used.ensures.gives in
-    let value = built found.0 c.new-building.result c.walk_by.new.visitor c.into_value.result c.new-building.ensures.place c.new-building.ensures.notes
-    found.1.2 c.into_value.ensures in
+    let new = c.walk_by-used.new.self in
+    let found = c.in-Some.ensures.gives in
+    let value = built found.0 c.new-building.result c.walk_by-used.new.visitor c.into_parts-value.result.0 c.new-building.ensures.place
+    c.new-building.ensures.notes found.1.2 c.into_parts-value.ensures in
     subst (λ (v : Option Value). Advances old.catalog.now old.limits (is_some old.awaited) (scanned old.scanner).used (state_of old) c.args.piece.now
-    (Ok (record { used = c.in_ok-used.used; value = v })) new.awaited (state_of new)) (sym value) found.2
+    (Ok (record { used = c.in-Some.used; value = v })) new.awaited (state_of new)) (sym value) found.2

@@ -1,0 +1,95 @@
+-- What stays so while pieces are joined in a document.
+use Rattle.std.proofs.Common.{◌≡◌, ◌⊎◌, inl, inr, ℕ, ◌≤◌, List, false, ap, sym, subst, arith}
+use Rattle.ion_model.specs.declared.value.Value.{Value}
+use Rattle.ion_symtab.specs.declared.catalog.Catalog.{Catalog}
+use Rattle.ion_symtab.specs.declared.limits.Limits.{Limits}
+use Rattle.ion_symtab.specs.declared.inlet.Inlet.{Ghosts as Inlet}
+use Rattle.ion_symtab.specs.declared.items.Items.{Ghosts as Items}
+use Rattle.ion_streams.specs.reading.Read.{IsReady, IsWithin}
+use Rattle.ion_streams.specs.reading.Gathered.{GathersAt}
+use Rattle.ion_streams.specs.reading.Standing.{IfOpen, IsOpen, IfClosed, work_of, Stood}
+use Rattle.ion_streams.specs.declared.source.Standing.{Standing}
+use Rattle.ion_streams.specs.declared.source.Standing.TheVariants.{Open, Ended, Refused}
+use Rattle.ion_streams.proofs.Driven.{Driven}
+use Rattle.ion_streams.proofs.Joined.{gathers_values}
+use Rattle.ion_streams.proofs.Unfailed.{StandsHeard, StandsHeardSince}
+
+module _ {S X : Type 0} (R : Inlet S) (I : Items X) (old now : S) where
+  -- either nothing changed, or the device was asked and didn't fail
+  pub at_either : (place after : Standing X) → GathersAt R I old now place after → ((now ≡ old) × (after ≡ place)) ⊎ (R.has_failed now ≡ false)
+  at_either (Open before) (Open after) h = go h.either
+    where
+      go : ((now ≡ old) × (after ≡ before)) ⊎ (R.has_failed now ≡ false) → ((now ≡ old) × (Open after ≡ Open before)) ⊎ (R.has_failed now ≡ false)
+      go (inl both) = inl (both.0, ap Open both.1)
+      go (inr fine) = inr fine
+  at_either (Open before) Ended h = absurd h
+  at_either (Open before) (Refused r) h = absurd h
+  at_either Ended after h = inl h
+  at_either (Refused r) after h = inl h
+
+  pub at_ready : (place after : Standing X) → GathersAt R I old now place after → IfOpen place (IsReady I) → IfOpen after (IsReady I)
+  at_ready (Open before) (Open after) h ready = h.ready
+  at_ready (Open before) Ended h ready = tt
+  at_ready (Open before) (Refused r) h ready = tt
+  at_ready Ended after h ready = subst (λ x. IfOpen x (IsReady I)) (sym h.1) ready
+  at_ready (Refused r) after h ready = subst (λ x. IfOpen x (IsReady I)) (sym h.1) ready
+
+  pub at_less : (place after : Standing X) → GathersAt R I old now place after → work_of I after ≤ work_of I place
+  at_less (Open before) (Open after) h = let less = h.less in omega (arith, less)
+  at_less (Open before) Ended h = absurd h
+  at_less (Open before) (Refused r) h = absurd h
+  at_less Ended after h = let same = ap (work_of I) h.1 in omega (arith, same)
+  at_less (Refused r) after h = let same = ap (work_of I) h.1 in omega (arith, same)
+
+  pub at_within : (reads : ℕ) (first : S) (place after : Standing X) → GathersAt R I old now place after → IfOpen place (IsWithin R reads first old)
+      → IfOpen after (IsWithin R reads first now)
+  at_within reads first (Open before) (Open after) h within = h.within first reads within
+  at_within reads first (Open before) Ended h within = tt
+  at_within reads first (Open before) (Refused r) h within = tt
+  at_within reads first Ended after h within = subst (λ x. IfOpen x (IsWithin R reads first now)) (sym h.1) tt
+  at_within reads first (Refused r) after h within = subst (λ x. IfOpen x (IsWithin R reads first now)) (sym h.1) tt
+
+  pub at_open : (place after : Standing X) → GathersAt R I old now place after → IsOpen place → IsOpen after
+  at_open (Open before) (Open after) h opened = tt
+  at_open (Open before) Ended h opened = absurd h
+  at_open (Open before) (Refused r) h opened = absurd h
+  at_open Ended after h opened = absurd opened
+  at_open (Refused r) after h opened = absurd opened
+
+  pub at_closed : (place after : Standing X) (P : Type 0) → GathersAt R I old now place after → IfClosed after P → IfClosed place P
+  at_closed (Open before) after P h closed = tt
+  at_closed Ended after P h closed = subst (λ x. IfClosed x P) h.1 closed
+  at_closed (Refused r) after P h closed = subst (λ x. IfClosed x P) h.1 closed
+
+  pub at_stood : (g : Catalog) (l : Limits) (first : S) (place after : Standing X) (s : List Value) → GathersAt R I old now place after
+      → Stood R I g l first old place s → Stood R I g l first now after s
+  at_stood g l first (Open before) (Open after) s h stood = gathers_values R I old now before after h g l first s stood
+  at_stood g l first (Open before) Ended s h stood = absurd h
+  at_stood g l first (Open before) (Refused r) s h stood = absurd h
+  at_stood g l first Ended after s h stood = rw (h.0, h.1) stood
+  at_stood g l first (Refused r) after s h stood = rw (h.0, h.1) stood
+
+  pub at_heard : (place after : Standing X) → GathersAt R I old now place after → StandsHeard I R place old → StandsHeard I R after now
+  at_heard place after h heard = go (at_either place after h)
+    where
+      go : ((now ≡ old) × (after ≡ place)) ⊎ (R.has_failed now ≡ false) → StandsHeard I R after now
+      go (inl both) = rw (both.0, both.1) heard
+      go (inr fine) = record { either = inr fine }
+
+  pub at_heard_since : (first : S) (place after : Standing X) → GathersAt R I old now place after → StandsHeardSince I R place first old
+      → StandsHeardSince I R after first now
+  at_heard_since first place after h heard = go (at_either place after h)
+    where
+      go : ((now ≡ old) × (after ≡ place)) ⊎ (R.has_failed now ≡ false) → StandsHeardSince I R after first now
+      go (inl both) = rw (both.0, both.1) heard
+      go (inr fine) = record { either = inr fine }
+
+  -- a document that is driven on is so behind pieces that were joined
+  pub at_driven : (reads : ℕ) (first : S) (place after : Standing X) → GathersAt R I old now place after → Driven R I reads first old place
+      → Driven R I reads first now after
+  at_driven reads first place after h driven =
+      record {
+        ready = at_ready place after h driven.ready;
+        heard = at_heard place after h driven.heard;
+        within = at_within reads first place after h driven.within;
+      }
