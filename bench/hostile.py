@@ -113,6 +113,14 @@ def names_turned_around(count, turned=False):
     return one * (count // 64)
 
 
+def names_in_turn(count, turned=False):
+    """Structs of as many fields as are paired off where they lie; turned around, the last one is spelled otherwise."""
+    fields = [f"a{place}:[{place}]".encode() for place in range(64)]
+    if turned:
+        fields = fields[:0:-1] + [b"a0:[ 0]"]
+    return (b"{" + b",".join(fields) + b"}\n") * (count // 64)
+
+
 def binary_markers(octets):
     return MARKER * (octets // 4)
 
@@ -299,6 +307,7 @@ CASES = [
     ("comments before what isn't passed over", "check A", [comments_before_an_id], MILLION, SMALL),
     ("escapes before what isn't taken at once", "check A", [escapes_before_a_number], MILLION, SMALL),
     ("fields of one name turned around, compared", "compare A B", [names_turned_around, lambda count: names_turned_around(count, True)], MILLION, SMALL),
+    ("many fields turned around, the last spelled otherwise, compared", "compare A B", [names_in_turn, lambda count: names_in_turn(count, True)], MILLION, SMALL),
     ("version markers", "check A", [binary_markers], STREAM, SMALL),
     ("version markers in text", "check A", [text_markers], STREAM, SMALL),
     ("nulls", "check A", [nulls], ITEM, LARGE),

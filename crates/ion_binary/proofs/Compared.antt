@@ -31,13 +31,14 @@ use Rattle.ion_binary.specs.visiting.Comparing.{comparing, between, Moves, Enter
 nothing_between : (w : List ℕ) (i : ℕ) → between w i i ≡ []
 nothing_between w i = ap (λ k. take k (drop i w)) (let e : i - i ≡ 0 = omega arith in e)
 
-between_both : (w : List ℕ) (i j k : ℕ) → i ≤ j → j ≤ k → between w i k ≡ between w i j ++ between w j k
+-- up to a place, and on from it
+pub between_both : (w : List ℕ) (i j k : ℕ) → i ≤ j → j ≤ k → between w i k ≡ between w i j ++ between w j k
 between_both w i j k h l =
     let size : k - i ≡ (j - i) + (k - j) = omega arith in
     let place : drop (j - i) (drop i w) ≡ drop j w = grind (arith, common_steps, h) in
     ap (λ n. take n (drop i w)) size ∙ (take-add (j - i) (k - j) (drop i w) ∙ ap (λ x. take (j - i) (drop i w) ++ take (k - j) x) place)
 
-between_size : (w : List ℕ) (i j : ℕ) → i ≤ j → j ≤ length w → length (between w i j) ≡ j - i
+pub between_size : (w : List ℕ) (i j : ℕ) → i ≤ j → j ≤ length w → length (between w i j) ≡ j - i
 between_size w i j h k = grind (arith, common_steps, h, k)
 
 module _ (c : List Slot) (w : List ℕ) where
@@ -230,6 +231,14 @@ front_found c w v a b n context octets front visited e =
     let most = f.here.within in
     let place : between w a.at b.at ≡ take n w = ap (λ i. between w i b.at) front ∙ ap (λ k. take k w) (let e : b.at - 0 ≡ n = omega (arith, e) in e) in
     (omega (arith, e, most), subst (λ x. Binary c x v) place f.is)
+
+-- from the front of octets: so many of them are the ids of these annotations
+pub front_annotations : (c : List Slot) (w : List ℕ) (ss : List (Option (List ℕ))) (a b : Comparison) → a.context.now ≡ c → a.octets.now ≡ w → a.at ≡ 0
+    → VisitedAnnotations comparing ss a b → Ids c (take b.at w) ss
+front_annotations c w ss a b context octets front visited =
+    let f = notes_found c w ss a b visited (record { context = context; octets = octets; within = omega (arith, front) }) in
+    let place : between w a.at b.at ≡ take b.at w = ap (λ i. between w i b.at) front ∙ ap (λ k. take k w) (let e : b.at - 0 ≡ b.at = omega arith in e) in
+    subst (λ x. Ids c x ss) place f.is
 
 -- what is so of whatever is there is so of what is there
 pub of_some : {X : Type 0} (P : X → Type 0) (r : Option X) (x : X) → r ≡ Some x → IfSome r P → P x

@@ -1,9 +1,10 @@
 -- What is so behind a step.
-use Rattle.std.proofs.Common.{◌≡◌, ℕ, ◌+◌, ◌<◌, ◌≤◌, List, [], ◌∷◌, ◌++◌, length, take, drop, ap, sym, subst, ◌∙◌, arith, Result, Ok, Err, Option, Some, None, IfOk, IfErr, IfSome, length-append, append-nil, append_assoc}
+use Rattle.std.proofs.Common.{◌≡◌, ℕ, ◌+◌, ◌<◌, ◌≤◌, List, [], ◌∷◌, ◌++◌, length, take, drop, ap, sym, subst, ◌∙◌, arith, Result, Ok, Err, Option, Some, None, true, IfOk, IfErr, IfSome, length-append, append-nil, append_assoc}
 use Rattle.std.specs.Prelude.{◌≢◌, IsNone}
 use Rattle.std.proofs.lemmas.Grind.{common_steps}
 use Rattle.std.proofs.lemmas.List.{length-take-le, take-append-drop}
 use Rattle.ion_model.specs.declared.value.Value.{Value}
+use Rattle.ion_model.specs.Same.{same}
 use Rattle.ion_atoms.specs.declared.refusal.Refusal.{Refusal}
 use Rattle.ion_atoms.specs.declared.refusal.Reason.TheVariants.{Memory}
 use Rattle.ion_symtab.specs.Trace.{Answers, given_at}
@@ -140,6 +141,21 @@ both_passed old new other later piece beside (Some n) gives used other_used sett
   gives.0,
   passed old new piece n.0 gives.0 gives.1 used setting,
   passed other later beside n.1 gives.0 gives.2 other_used other_setting,
+)
+
+-- two readers took up a value each, and these are the same
+pub each_passed : (old new other later : BinaryReader) (piece beside : List ℕ) (r : Option (ℕ × ℕ)) →
+    IfSome r (λ n. (v w : Value) × (same v w ≡ true) × Advances old.used (run_of old) piece (Ok (record { used = n.0; value = Some v })) (machine_of new)
+    × Advances other.used (run_of other) beside (Ok (record { used = n.1; value = Some w })) (machine_of later)) →
+    IfSome r (λ n. new.used ≡ old.used + n.0) → IfSome r (λ n. later.used ≡ other.used + n.1) → SameSetting old new → SameSetting other later →
+    IfSome r (λ n. (v w : Value) × (same v w ≡ true) × Passed old new piece n.0 v × Passed other later beside n.1 w)
+each_passed old new other later piece beside None gives used other_used setting other_setting = tt
+each_passed old new other later piece beside (Some n) gives used other_used setting other_setting = (
+  gives.0,
+  gives.1,
+  gives.2,
+  passed old new piece n.0 gives.0 gives.3 used setting,
+  passed other later beside n.1 gives.1 gives.4 other_used other_setting,
 )
 
 -- a reader took up a value, of which this is so

@@ -21,5 +21,7 @@ pub mod Shortest
 pub mod Compared
 pub mod KnownNames
 pub mod Alikes
+pub mod Pairings
+pub mod Reorderings
 pub mod Calls
 mod Told

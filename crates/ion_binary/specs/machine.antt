@@ -8,3 +8,4 @@ pub mod Framed
 pub mod Walked
 pub mod Transcribed
 pub mod Alike
+pub mod Reordered

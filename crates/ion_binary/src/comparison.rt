@@ -23,8 +23,8 @@ mod texts;
 /// is a wrapper.
 #[derive(Clone, Copy, Drop)]
 pub(crate) struct Ends {
-    ids: usize,
-    end: usize,
+    pub ids: usize,
+    pub end: usize,
 }
 
 /// The other octets, and up to where what was taken was found in them.
@@ -71,7 +71,7 @@ impl Comparison<'_> {
 
     /// Goes behind a header of this form: where its body ends.
     #[inline(always)]
-    fn enter(&mut self, form: Form) -> Option<usize>
+    pub fn enter(&mut self, form: Form) -> Option<usize>
         ensures { IfSome result (λ end. Enters form self.old self.new end) }
     {
         let Opening::Sized(other, size) = self.opening()? else {
@@ -183,7 +183,7 @@ impl Comparison<'_> {
 
     /// Goes behind the header of a wrapper and the length of its ids: where these and it end.
     #[inline(always)]
-    fn begin_wrapper(&mut self) -> Option<Ends>
+    pub fn begin_wrapper(&mut self) -> Option<Ends>
         ensures { IfSome result (λ mark. Wraps self.old mark self.new) }
     {
         let end = self.enter(Form::Wrapper)?;

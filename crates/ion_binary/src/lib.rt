@@ -9,6 +9,7 @@ mod form;
 pub mod laws;
 mod measure;
 mod reader;
+mod reordered;
 mod scalar;
 mod state;
 mod telling;

@@ -21,6 +21,7 @@ mod frames;
 mod items;
 mod numbers;
 mod passing;
+mod reordering;
 mod visiting;
 
 /// A reader of a binary document that comes in pieces (Ion 1.0, "Ion Binary Encoding").

@@ -85,7 +85,7 @@ fn is_text(body: &[u8]) -> bool
 }
 
 /// Whether these octets are ids of annotations, of which none is the name of local symbol tables.
-fn annotations<T: Visitor>(context: &Context, ids: &[u8], visitor: &mut T) -> bool
+pub(crate) fn annotations<T: Visitor>(context: &Context, ids: &[u8], visitor: &mut T) -> bool
     ensures { result ≡ true → WalkedIds T.visits context.now ids.now visitor.old visitor.new }
 {
     let mut at = 0;

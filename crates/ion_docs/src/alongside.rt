@@ -2,7 +2,7 @@
 use crate::doc_reader::{DocReader, Format};
 use ion_streams::Alike;
 
-/// Values of two documents are seen to be the same where they lie.
+/// Values of two documents are seen to be the same, or equivalent, where they lie.
 pub(crate) struct SideBySide;
 
 impl<'a> Alike<DocReader<'a>, DocReader<'a>> for SideBySide {
@@ -28,6 +28,21 @@ impl<'a> Alike<DocReader<'a>, DocReader<'a>> for SideBySide {
                     None => None,
                 }
             }
+            _ => None,
+        }
+    }
+
+    fn pass_reordered(
+        left: &mut DocReader<'a>,
+        piece: &[u8],
+        right: &mut DocReader<'a>,
+        beside: &[u8],
+    ) -> Option<(usize, usize)> {
+        match (&mut left.format, &mut right.format) {
+            (Format::Binary(one), Format::Binary(other)) => one.pass_reordered(
+                piece, other, beside,
+            ),
+            (Format::Text(one), Format::Text(other)) => one.pass_reordered(piece, other, beside),
             _ => None,
         }
     }

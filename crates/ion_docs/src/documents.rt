@@ -182,10 +182,11 @@ pub fn convert_with_hasher<H: BuildHasher + Drop, R: Inlet, W: Outlet>(
 /// The verdict is right about whatever octets begin with those that the devices handed over during
 /// the call, and end there where one answered its end. Neither is asked on behind that end.
 ///
-/// One value of each is read in turn. A left side that is no document is refused at once; after the
-/// streams parted, and after the right side was refused, both are still read to the end, so that
-/// the left side is refused wherever it is no document, and the right where it alone is none.
-/// Offsets and faults are those of `check`.
+/// One value of each is read in turn. A left side that is no document is refused before the right
+/// one's value is judged, of which 64 KiB may have been read; after the streams parted, and after
+/// the right side was refused, both are still read to the end, so that the left side is refused
+/// wherever it is no document, and the right where it alone is none. Offsets and faults are those of
+/// `check`.
 pub fn compare<L: Inlet, R: Inlet>(
     alloc: Global,
     left: &mut L,

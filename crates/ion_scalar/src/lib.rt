@@ -11,11 +11,13 @@ mod ints;
 pub mod laws;
 mod number;
 mod put;
+mod short_number;
 mod text;
 mod timestamp_body;
 mod timestamp_usual;
 mod timestamp_writer;
 mod timestamps;
+mod usual_token;
 
 pub use decimal_body::{decimal_of, is_decimal_body};
 pub use descriptor::{Descriptor, Size};

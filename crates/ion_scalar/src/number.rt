@@ -1,5 +1,5 @@
 //! Number tokens (Ion 1.0, "Ion Text Encoding" and its grammar, ints, decimals and timestamps).
-ghost use Rattle.std.specs.Prelude.{ℕ, Result, ◌≡◌, ◌≤◌, ◌^◌, min, IfOk, IfErr, IfSome, IfNone, IsTrue, ◌↔◌};
+ghost use Rattle.std.specs.Prelude.{ℕ, Result, Ok, ◌≡◌, ◌≤◌, ◌^◌, min, IfOk, IfErr, IfSome, IfNone, IsTrue, ◌↔◌};
 ghost use Rattle.ion_scalar.specs.text.Timestamps.{IsShort};
 ghost use Rattle.ion_atoms.specs.declared.refusal.Reason.TheVariants.{TooLarge};
 ghost use Rattle.ion_atoms.specs.declared.refusal.Reason.{Reason};
@@ -12,7 +12,9 @@ ghost use Rattle.ion_scalar.specs.text.Numbers.{ReadsNumber, ReadsNumeral, Reads
 use crate::decimals::{Tail, power, tail_of, whole_of};
 use crate::digits::all_digits;
 use crate::ints::split_sign;
+use crate::short_number::short_number;
 use crate::timestamps::stamp_of;
+use crate::usual_token::{is_usual, usual_timestamp};
 use ion_atoms::bounds::MOST_DIGITS;
 use ion_atoms::{Decimal, Precision, Reason, Timestamp, Whole};
 
@@ -31,6 +33,7 @@ pub enum Number {
 /// coefficient whose magnitude is 2^127 or more, for an exponent outside -2^31 to 2^31-1, and for a
 /// timestamp with more than 38 fraction digits, whether or not there is such a day and time. These
 /// bounds are this project's. Takes no memory.
+#[inline(always)]
 pub fn number_of(token: &[u8]) -> Result<Number, Reason>
     ensures answer { ReadsNumber token.now result }
     ensures only { (answer : Result Number Reason) → ReadsNumber token.now answer
@@ -39,7 +42,45 @@ pub fn number_of(token: &[u8]) -> Result<Number, Reason>
     answer_of(token)
 }
 
+#[inline(always)]
 fn answer_of(token: &[u8]) -> Result<Number, Reason>
+    ensures { ReadsNumber token.now result }
+{
+    if token.len() > 4 && (token[4] == b'-' || token[4] == b'T') {
+        return dated_answer(token);
+    }
+    match short_number(token) {
+        Some(number) => Ok(number),
+        None => unusual_answer(token),
+    }
+}
+
+// The answer on a token that has behind four octets what stands behind the year of a timestamp.
+#[inline(always)]
+fn dated_answer(token: &[u8]) -> Result<Number, Reason>
+    ensures { ReadsNumber token.now result }
+{
+    match usual_timestamp(token) {
+        Some(timestamp) => Ok(Number::Timestamp(timestamp)),
+        None => rare_timestamp(token),
+    }
+}
+
+// The answer on a timestamp of another form, or on a token that is none after all.
+#[inline(never)]
+fn rare_timestamp(token: &[u8]) -> Result<Number, Reason>
+    ensures { ReadsNumber token.now result }
+{
+    let answer = timestamp_token(token);
+    if answer.is_ok() {
+        return answer;
+    }
+    unusual_answer(token)
+}
+
+// The answer on any token.
+#[inline(never)]
+fn unusual_answer(token: &[u8]) -> Result<Number, Reason>
     ensures { ReadsNumber token.now result }
 {
     match numeral_of(token) {
@@ -55,6 +96,7 @@ fn numeral_of(token: &[u8]) -> Result<Number, Reason>
     number_behind(negative, body)
 }
 
+#[inline(never)]
 fn timestamp_token(token: &[u8]) -> Result<Number, Reason>
     ensures { ReadsTimestamp token.now result }
 {
@@ -63,6 +105,10 @@ fn timestamp_token(token: &[u8]) -> Result<Number, Reason>
     };
     if !is_short(stamp.precision) {
         return Err(Reason::TooLarge);
+    }
+    if is_usual(stamp.local) {
+        let timestamp = Timestamp::of_parts(stamp.local, stamp.precision, stamp.offset);
+        return Ok(Number::Timestamp(timestamp));
     }
     match Timestamp::new(stamp.local, stamp.precision, stamp.offset) {
         Some(timestamp) => Ok(Number::Timestamp(timestamp)),

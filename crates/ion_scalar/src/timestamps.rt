@@ -24,6 +24,7 @@ pub struct Stamp {
     pub offset: Option<i16>,
 }
 
+#[inline(always)]
 fn stamp_of_day(precision: Precision, year: u16, month: u8, day: u8) -> Stamp
     ensures { result ≡ record {
       local = (dated precision year month day).local;
@@ -47,6 +48,7 @@ fn stamp_of_day(precision: Precision, year: u16, month: u8, day: u8) -> Stamp
 }
 
 /// The digit at a place.
+#[inline(always)]
 fn digit_at(octets: &[u8], at: usize) -> Option<u8>
     ensures { SomeIff result (IsDigitAt octets.now at) (slice_index octets.now at - 48) }
 {
@@ -58,7 +60,8 @@ fn digit_at(octets: &[u8], at: usize) -> Option<u8>
 }
 
 /// The number of two digits from a place on.
-fn two_at(octets: &[u8], at: usize) -> Option<u8>
+#[inline(always)]
+pub fn two_at(octets: &[u8], at: usize) -> Option<u8>
     requires { at < 1000 }
     ensures value { SomeIff result (AreTwoAt octets.now at) (two octets.now at) }
     ensures below { IfSome result (λ n. n < 100) }
@@ -73,6 +76,7 @@ fn two_at(octets: &[u8], at: usize) -> Option<u8>
 }
 
 /// The number of four digits from a place on.
+#[inline(always)]
 fn four_at(octets: &[u8], at: usize) -> Option<u16>
     requires { at < 900 }
     ensures { SomeIff result (AreFourAt octets.now at) (four octets.now at) }
@@ -86,6 +90,7 @@ fn four_at(octets: &[u8], at: usize) -> Option<u16>
     }
 }
 
+#[inline(always)]
 fn is_at(octets: &[u8], at: usize, octet: u8) -> bool
     ensures { IsTrue result ↔ IsAt octets.now at octet }
 {
@@ -93,6 +98,7 @@ fn is_at(octets: &[u8], at: usize, octet: u8) -> bool
 }
 
 /// `YYYY-MM` at the front.
+#[inline(always)]
 fn month_front(octets: &[u8]) -> Option<(u16, u8)>
     ensures { SomeIff result (BeginsWithMonth octets.now) (four octets.now 0, two octets.now 5) }
 {
@@ -109,7 +115,8 @@ fn month_front(octets: &[u8]) -> Option<(u16, u8)>
 }
 
 /// `YYYY-MM-DD` at the front.
-fn day_front(octets: &[u8]) -> Option<(u16, u8, u8)>
+#[inline(always)]
+pub fn day_front(octets: &[u8]) -> Option<(u16, u8, u8)>
     ensures { SomeIff result (BeginsWithDay octets.now)
         (four octets.now 0, two octets.now 5, two octets.now 8) }
 {
@@ -126,7 +133,8 @@ fn day_front(octets: &[u8]) -> Option<(u16, u8, u8)>
 }
 
 /// `YYYY-MM-DDThh:mm` at the front, as local fields.
-fn minute_front(octets: &[u8]) -> Option<Local>
+#[inline(always)]
+pub fn minute_front(octets: &[u8]) -> Option<Local>
     ensures { SomeIff result (BeginsWithMinute octets.now) (minute_read octets.now) }
 {
     if !is_at(octets, 10, b'T') || !is_at(octets, 13, b':') {
@@ -153,6 +161,7 @@ fn minute_front(octets: &[u8]) -> Option<Local>
 }
 
 /// The offset in minutes that all of the octets are; `None` inside for the unknown one.
+#[inline(always)]
 fn offset_of(octets: &[u8]) -> Option<Option<i16>>
     ensures { SomeIff result (IsOffsetToken octets.now) (offset_read octets.now) }
 {
@@ -175,6 +184,7 @@ fn offset_of(octets: &[u8]) -> Option<Option<i16>>
 }
 
 /// The offset of a sign and so many minutes; `-00:00` is the unknown one.
+#[inline(always)]
 fn signed_offset(sign: u8, minutes: u16) -> Option<Option<i16>>
     requires { minutes ≤ farthest_offset }
     ensures { SomeIff result ((sign ≡ 43) ⊎ (sign ≡ 45))
@@ -190,6 +200,7 @@ fn signed_offset(sign: u8, minutes: u16) -> Option<Option<i16>>
     }
 }
 
+#[inline(always)]
 fn year_token(token: &[u8]) -> Option<Stamp>
     ensures { SomeIff result (IsYear token.now)
         (stamp (dated precisions.Year (four token.now 0) 1 1)) }
@@ -203,6 +214,7 @@ fn year_token(token: &[u8]) -> Option<Stamp>
     Some(stamp_of_day(Precision::Year, year, 1, 1))
 }
 
+#[inline(always)]
 fn month_token(token: &[u8]) -> Option<Stamp>
     ensures { SomeIff result (IsMonth token.now)
         (stamp (dated precisions.Month (four token.now 0) (two token.now 5) 1)) }
@@ -216,6 +228,7 @@ fn month_token(token: &[u8]) -> Option<Stamp>
     Some(stamp_of_day(Precision::Month, year, month, 1))
 }
 
+#[inline(always)]
 fn day_token(token: &[u8]) -> Option<Stamp>
     ensures { SomeIff result (IsDay token.now)
         (stamp (dated precisions.Day (four token.now 0) (two token.now 5) (two token.now 8))) }
@@ -230,6 +243,7 @@ fn day_token(token: &[u8]) -> Option<Stamp>
 }
 
 /// A minute or second, and an offset that all of the octets behind it are.
+#[inline(always)]
 fn with_offset(local: Local, precision: Precision, octets: &[u8]) -> Option<Stamp>
     ensures { SomeIff result (IsOffsetToken octets.now)
         (record { local = local; precision = precision; offset = offset_read octets.now }) }
@@ -245,6 +259,7 @@ fn with_offset(local: Local, precision: Precision, octets: &[u8]) -> Option<Stam
 }
 
 /// What stands behind the point of a second: digits and an offset.
+#[inline(always)]
 fn with_fraction(local: Local, octets: &[u8]) -> Option<Stamp>
     ensures some { IfSome result (λ s. (digits rest : List ℕ) × IsFractionEnd octets.now digits rest
         × (s ≡ record {
@@ -267,6 +282,7 @@ fn with_fraction(local: Local, octets: &[u8]) -> Option<Stamp>
     with_offset(local, precision, &octets[digits.used..])
 }
 
+#[inline(always)]
 fn time_token(token: &[u8]) -> Option<Stamp>
     ensures some { IfSome result (λ s. (t : TimestampParts) × IsTimestampToken token.now t
         × (s ≡ stamp t)) }
@@ -290,6 +306,7 @@ fn time_token(token: &[u8]) -> Option<Stamp>
 }
 
 /// The parts that a whole token spells, if it has a form of a timestamp.
+#[inline(always)]
 pub fn stamp_of(token: &[u8]) -> Option<Stamp>
     ensures some { IfSome result (λ s. (t : TimestampParts) × IsTimestampToken token.now t
         × (s ≡ stamp t)) }

@@ -3,16 +3,29 @@ use Rattle.std.proofs.Common.{◌≡◌, ◌⊎◌, inl, inr, ℕ, ◌≤◌, Li
 use Rattle.ion_model.specs.declared.value.Value.{Value}
 use Rattle.ion_symtab.specs.declared.catalog.Catalog.{Catalog}
 use Rattle.ion_symtab.specs.declared.limits.Limits.{Limits}
+use Rattle.ion_symtab.specs.Cause.{IsReadCause}
+use Rattle.ion_symtab.specs.declared.fault.Fault.{Fault}
+use Rattle.ion_symtab.specs.declared.fault.Fault.TheVariants.{Memory, Read, Write, TooManyReads, TooLarge}
+use Rattle.ion_symtab.specs.declared.fault.Fault.TheVariants as faults
 use Rattle.ion_symtab.specs.declared.inlet.Inlet.{Ghosts as Inlet}
 use Rattle.ion_symtab.specs.declared.items.Items.{Ghosts as Items}
 use Rattle.ion_streams.specs.reading.Read.{IsReady, IsWithin}
-use Rattle.ion_streams.specs.reading.Gathered.{GathersAt}
+use Rattle.ion_streams.specs.reading.Gathered.{GathersAt, IsJoinCause}
 use Rattle.ion_streams.specs.reading.Standing.{IfOpen, IsOpen, IfClosed, work_of, Stood}
 use Rattle.ion_streams.specs.declared.source.Standing.{Standing}
 use Rattle.ion_streams.specs.declared.source.Standing.TheVariants.{Open, Ended, Refused}
 use Rattle.ion_streams.proofs.Driven.{Driven}
 use Rattle.ion_streams.proofs.Joined.{gathers_values}
 use Rattle.ion_streams.proofs.Unfailed.{StandsHeard, StandsHeardSince}
+
+-- a fault of joining pieces is one of reading
+pub join_cause : {S : Type 0} (R : Inlet S) (reads : ℕ) (first now : S) (fault : Fault) → IsJoinCause R now fault → IsReadCause R reads first now fault
+join_cause R reads first now Memory cause = tt
+join_cause R reads first now Read cause = cause
+join_cause R reads first now TooManyReads cause = absurd cause
+join_cause R reads first now Write cause = absurd cause
+join_cause R reads first now TooLarge cause = absurd cause
+join_cause R reads first now faults.Open cause = absurd cause
 
 module _ {S X : Type 0} (R : Inlet S) (I : Items X) (old now : S) where
   -- either nothing changed, or the device was asked and didn't fail

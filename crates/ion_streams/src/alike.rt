@@ -1,6 +1,7 @@
-//! Two readers whose next values are seen to be the same where they lie.
-ghost use Rattle.std.specs.Prelude.{◌≡◌, ◌+◌, ◌<◌, ◌^◌, length, IfSome, IsNone};
+//! Two readers whose next values are seen to be the same, or equivalent, where they lie.
+ghost use Rattle.std.specs.Prelude.{◌≡◌, ◌+◌, ◌<◌, ◌^◌, true, length, IfSome, IsNone};
 ghost use Rattle.ion_model.specs.declared.value.Value.{Value};
+ghost use Rattle.ion_model.specs.Same.{same};
 ghost use Rattle.ion_symtab.specs.TookUp.{TookUp};
 
 use ion_symtab::Items;
@@ -18,6 +19,25 @@ pub trait Alike<I: Items, J: Items> {
             × TookUp I.Items left.old left.new piece.now used.0 value
             × TookUp J.Items right.old right.new beside.now used.1 value) }
         ensures kept { IsNone result → (left.new ≡ left.old) × (right.new ≡ right.old) };
+
+    /// Takes up a value at the front of the piece of each reader as `pass` does, where they are seen
+    /// to be equivalent, as structs whose fields stand in another order are. It is tried where
+    /// `pass` saw nothing.
+    fn pass_reordered(
+        left: &mut I,
+        piece: &[u8],
+        right: &mut J,
+        beside: &[u8],
+    ) -> Option<(usize, usize)>
+        requires room { I.taken left.old + length piece.now < 2 ^ 63 }
+        requires right_room { J.taken right.old + length beside.now < 2 ^ 63 }
+        ensures alike { IfSome result (λ used. (value other : Value) × (same value other ≡ true)
+            × TookUp I.Items left.old left.new piece.now used.0 value
+            × TookUp J.Items right.old right.new beside.now used.1 other) }
+        ensures kept { IsNone result → (left.new ≡ left.old) × (right.new ≡ right.old) }
+    {
+        None
+    }
 }
 
 /// Nothing is seen where it lies: each value is built.

@@ -244,9 +244,10 @@ fn compare_places<A: Alike<I, J>, I: Items + Drop, J: Items + Drop, L: Inlet, R:
 /// `Equivalent` where both are documents and the streams are equivalent (Ion 1.0, "The Ion Data
 /// Model"), `Different` where both are and the streams part, with the path to where the two values
 /// there part, `Refused` for the left side where that is no document, else for the right one. One
-/// value of each is read in turn. A refused left side is answered at once; after the streams
-/// parted, or the right side was refused, both are read to the end, since the left side may still
-/// be refused. Faults are `Memory`, `Read` and `TooManyReads`.
+/// value of each is read in turn. A refused left side is answered before the right one's value is
+/// judged, of which 64 KiB may have been read; after the streams parted, or the right side was
+/// refused, both are read to the end, since the left side may still be refused. Faults are
+/// `Memory`, `Read` and `TooManyReads`.
 pub fn compare_items<I: Items + Drop, J: Items + Drop, L: Inlet, R: Inlet>(
     alloc: Global,
     reads: u64,

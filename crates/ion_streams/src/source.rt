@@ -8,7 +8,7 @@ ghost use Rattle.ion_symtab.specs.Heard.{Heard};
 ghost use Rattle.ion_symtab.specs.Cause.{WereMade, IsReadCause};
 ghost use Rattle.ion_streams.specs.Formats.{format_of};
 ghost use Rattle.ion_streams.specs.reading.Read.{between, left_of, IsReady, HasToAsk, NoneFailed, NoReadFailed, IsWithin, work, Went, GaveEach, Reads, ReadsEach, GaveSoFar};
-ghost use Rattle.ion_streams.specs.reading.Gathered.{IsWidened, HasRoom, CanJoin, Gathers, GathersAt};
+ghost use Rattle.ion_streams.specs.reading.Gathered.{IsWidened, HasRoom, CanJoin, Gathers, GathersAt, IsJoinCause};
 ghost use Rattle.ion_streams.specs.reading.Reached.{IfValue, IfEnd, IsSpent, Reaches};
 ghost use Rattle.ion_streams.specs.Outcomes.{EndsWell, EndsRefused};
 ghost use Rattle.ion_streams.specs.reading.Standing.{IfOpen, IsOpen, IfClosed, MatchClosed, work_of, reads_of, Stood, StoodEach, GaveNext, answered};
@@ -129,7 +129,7 @@ impl<I: Items + Drop> Source<I> {
             Ok((used, found)) => {
                 self.at += used;
                 self.used += used as u64;
-                self.sizes.note(self.used, found.is_some());
+                self.sizes.note(used);
                 Ok(found)
             }
         }
@@ -163,6 +163,7 @@ impl<I: Items + Drop> Source<I> {
             × (R.has_failed reader.new ≡ true)) }
     {
         self.reads -= 1;
+        self.sizes.fade();
         match read_behind(reader, &mut self.piece, self.end) {
             Err(_) => Err(Fault::Read),
             Ok(0) => {
@@ -223,8 +224,7 @@ impl<I: Items + Drop> Source<I> {
         ensures few_octets { length (R.handed reader.new) + 4096 * self.new.reads
             ≤ length (R.handed reader.old) + 4096 * self.old.reads }
         ensures no_read_failed { OnOk result (R.has_failed reader.new ≡ false) }
-        ensures cause { IfErr result (λ fault. (first : R) (reads : ℕ) →
-            IsReadCause R.Inlet reads first reader.new fault) }
+        ensures cause { IfErr result (IsJoinCause R.Inlet reader.new) }
         ensures kept { OnErr result ((g : Catalog) (l : Limits) (first : R) (s : List Value) →
             Reads R.Inlet I.Items g l first reader.old self.old s →
             GaveSoFar R.Inlet I.Items g l first reader.new s) }
@@ -258,8 +258,7 @@ impl<I: Items + Drop> Source<I> {
             ≤ R.calls_made reader.old + self.old.reads }
         ensures few_octets { length (R.handed reader.new) + 4096 * self.new.reads
             ≤ length (R.handed reader.old) + 4096 * self.old.reads }
-        ensures cause { IfErr result (λ fault. (first : R) (reads : ℕ) →
-            IsReadCause R.Inlet reads first reader.new fault) }
+        ensures cause { IfErr result (IsJoinCause R.Inlet reader.new) }
         ensures kept { OnErr result ((g : Catalog) (l : Limits) (first : R) (s : List Value) →
             Reads R.Inlet I.Items g l first reader.old self.old s →
             GaveSoFar R.Inlet I.Items g l first reader.new s) }
@@ -281,8 +280,7 @@ impl<I: Items + Drop> Source<I> {
             ≤ R.calls_made reader.old + self.old.reads }
         ensures few_octets { length (R.handed reader.new) + 4096 * self.new.reads
             ≤ length (R.handed reader.old) + 4096 * self.old.reads }
-        ensures cause { IfErr result (λ fault. (first : R) (reads : ℕ) →
-            IsReadCause R.Inlet reads first reader.new fault) }
+        ensures cause { IfErr result (IsJoinCause R.Inlet reader.new) }
         ensures kept { OnErr result ((g : Catalog) (l : Limits) (first : R) (s : List Value) →
             Reads R.Inlet I.Items g l first reader.old self.old s →
             GaveSoFar R.Inlet I.Items g l first reader.new s) }
@@ -416,7 +414,7 @@ impl<I: Items + Drop> Source<I> {
         let (used, written) = C::carry(&mut self.items, piece, encoder, out)?;
         self.at += used;
         self.used += used as u64;
-        self.sizes.note(self.used, true);
+        self.sizes.note(used);
         Some(written)
     }
 }
@@ -552,8 +550,7 @@ impl<I: Items + Drop> Standing<I> {
             ≤ R.calls_made reader.old + reads_of self.old }
         ensures few_octets { length (R.handed reader.new) + 4096 * reads_of self.new
             ≤ length (R.handed reader.old) + 4096 * reads_of self.old }
-        ensures cause { IfErr result (λ fault. (first : R) (reads : ℕ) →
-            IsReadCause R.Inlet reads first reader.new fault) }
+        ensures cause { IfErr result (IsJoinCause R.Inlet reader.new) }
         ensures kept { OnErr result ((g : Catalog) (l : Limits) (first : R) (s : List Value) →
             Stood R.Inlet I.Items g l first reader.old self.old s →
             GaveSoFar R.Inlet I.Items g l first reader.new s) }

@@ -1,35 +1,31 @@
 -- Two readers at whose fronts the same octets are an item.
-use Rattle.std.proofs.Common.{◌≡◌, ℕ, min, ◌+◌, ◌-◌, ◌*◌, ◌<◌, ◌≤◌, List, [], ◌∷◌, ◌++◌, length, length-take, length-drop, take, drop, Option, Some, None, Ok, refl, ap, sym, ◌∙◌, subst, arith, get_or, Result}
+use Rattle.std.proofs.Common.{◌≡◌, ℕ, min, ◌+◌, ◌-◌, ◌*◌, ◌^◌, ◌<◌, ◌≤◌, List, [], ◌∷◌, ◌++◌, length, length-take, length-drop, take, drop, Option, Some, None, Ok, refl, ap, sym, ◌∙◌, subst, arith, get_or}
 use Rattle.std.specs.Prelude.{IsNone, IfSome}
 use Rattle.std.specs.Option.{is_some}
+use Rattle.std.proofs.lemmas.Grind.{common_steps}
 use Rattle.ion_model.specs.declared.value.Value.{Value}
 use Rattle.ion_atoms.specs.declared.refusal.Refusal.{Refusal}
 use Rattle.ion_symtab.specs.declared.limits.Limits.{Limits}
 use Rattle.ion_symtab.specs.declared.catalog.Catalog.{Catalog}
-use Rattle.ion_tokens.specs.declared.mode.Mode.TheVariants as modes
+use Rattle.ion_symtab.specs.Slots.{Slot}
 use Rattle.ion_tokens.specs.declared.scanner.Scanner.{Scanner}
 use Rattle.ion_tokens.specs.declared.plain_tokens.Rest.{Rest}
 use Rattle.ion_tokens.specs.machine.Rests.{resting, RestsBehind}
 use Rattle.ion_tokens.specs.machine.Views.{scanned, failure}
 use Rattle.ion_text.specs.declared.reader.TextReader.{TextReader}
 use Rattle.ion_text.specs.declared.state.Now.TheVariants as nows
-use Rattle.ion_text.specs.machine.EachToken.{at}
-use Rattle.ion_text.specs.machine.Run.{run, with_scan}
+use Rattle.ion_text.specs.machine.Run.{leaves, eats, run}
 use Rattle.ion_text.specs.machine.Views.{state_of, IsFine}
 use Rattle.ion_text.specs.machine.Progress.{BeginsWith, Advances, Stands, SameSettings, StaysSteady, or_first, failed, octets_used, pending}
-use Rattle.ion_text.specs.machine.Walked.{rested}
-use Rattle.ion_text.specs.machine.Alike.{IsFront, IsTop}
-use Rattle.ion_text.proofs.Elsewhere.{state_at, one_value}
+use Rattle.ion_text.specs.machine.Pieces.{led}
+use Rattle.ion_text.specs.machine.Walked.{rested, GivesTop, LeavesTop, WalkedTop}
+use Rattle.ion_text.specs.machine.Alike.{rest_at, rest_behind, IsFront, IsTop}
+use Rattle.ion_text.proofs.Elsewhere.{gives_on, leaves_on}
 use Rattle.ion_text.proofs.Further.{step_stands}
 use Rattle.ion_text.proofs.Pendings.{step_progress}
 use Rattle.ion_atoms.specs.declared.kind.Kind.TheVariants as sorts
-use Rattle.ion_atoms.specs.declared.refusal.Reason.{Reason}
 use Rattle.ion_model.specs.declared.value.Payload.{Payload}
 use Rattle.ion_model.specs.Measures.{bare}
-use Rattle.ion_scalar.specs.declared.number.Number.{Number}
-use Rattle.ion_tokens.specs.Bodies.{Content, Number'}
-use Rattle.ion_tokens.specs.declared.mode.TokenKind.TheVariants as kinds
-use Rattle.ion_tokens.specs.machine.Said.{said}
 use Rattle.ion_text.specs.declared.reader.walks.Tally.{Tally}
 use Rattle.ion_text.specs.machine.Walked.{FoundLeft}
 use Rattle.ion_text.specs.visiting.Walks.{ItemAhead}
@@ -38,37 +34,151 @@ use Rattle.ion_text.proofs.Tops.{gone_on, top_advances}
 
 -- 1. Both give one value.
 
-pub alike_values : (g : Catalog) (l l' : Limits) (octets beside : List ℕ) (count : ℕ) (before after before' after' : Rest) (v w : Value)
-    → before.colon ≡ before'.colon → take count octets ≡ take count beside → length octets ≤ l.item → length beside ≤ l'.item
-    → IsTop l.depth octets count before after v → IsTop l'.depth beside count before' after' w → v ≡ w
-alike_values g l l' octets beside count before after before' after' v w colons same few few' t u =
-    let a = t.first.rest in
-    let b = u.first.rest in
-    let colon : a.colon ≡ b.colon = ap (λ (r : Rest). r.colon) t.begins ∙ (colons ∙ sym (ap (λ (r : Rest). r.colon) u.begins)) in
-    let there : state_at b.start b.used 0 0 (rested a 0 [] [] [] nows.Ready) ≡ rested b 0 [] [] [] nows.Ready =
-    ap (λ c. with_scan (record { mode = modes.Blank; kept = []; colon = c; start = b.start; used = b.used }) (at 0 [] [] [] nows.Ready)) colon in
-    let mine = t.walked.gives g l 0 [] (omega arith) few in
-    let others = u.walked.gives g l' 0 [] (omega arith) few' in
-    sym t.gives
-    ∙ (one_value g l l' (take count octets) a.used b.used (rested a 0 [] [] [] nows.Ready) b.start b.used 0 0 t.walked.value u.walked.value (a.used + count)
-    (b.used + count) (rested t.last.rest 0 [] [] [] nows.Ready) (rested u.last.rest 0 [] [] [] nows.Ready)
-    mine (ap (λ m. run g l' b.used m (take count octets)) there ∙ (ap (run g l' b.used (rested b 0 [] [] [] nows.Ready)) same ∙ others))
-    ∙ u.gives)
+-- what was noted, where another scanner rests
+abbrev pub noted_at : Tally → Rest → Tally
+noted_at t r = record { kind = t.kind; level = t.level; nodes = t.nodes; rest = r }
 
--- the same octets that are an item at both fronts give both readers the same value
-pub both_tops : (g : Catalog) (l l' : Limits) (octets beside : List ℕ) (count count' : ℕ) (before after before' after' : Rest) → count' ≡ count
-    → before.colon ≡ before'.colon → take count octets ≡ take count beside → length octets ≤ l.item → length beside ≤ l'.item
-    → ((v : Value) × IsTop l.depth octets count before after v) → ((w : Value) × IsTop l'.depth beside count' before' after' w) → (v : Value)
-    × IsTop l.depth octets count before after v × IsTop l'.depth beside count' before' after' v
-both_tops g l l' octets beside count count' before after before' after' e colons same few few' t u =
-    let one = alike_values g l l' octets beside count before after before' after' t.0 u.0 colons same few few' t.1
-    (subst (λ n. IsTop l'.depth beside n before' after' u.0) e u.1) in
-    (t.0, t.1, subst (λ x. IsTop l'.depth beside count' before' after' x) (sym one) u.1)
+module _ (level : ℕ) (octets beside : List ℕ) (count : ℕ) (first last : Tally) (w : WalkedTop level octets count first last) (rest : Rest)
+    (begins : first.rest ≡ rest_at rest.colon 0 0) (same : take count octets ≡ take count beside) (more : length octets ≤ length beside)
+    (room : length octets < 2 ^ 63) where
+  front_gives : (g : Catalog) (l : Limits) (start : ℕ) (c : List Slot) → level ≤ l.depth → length beside ≤ l.item
+      → GivesTop g l rest start c [] beside count (rest_behind rest last.rest count) w.value
+  front_gives g l start c deep few =
+      let some = w.some in
+      let within = w.within in
+      let used = w.used in
+      let none : first.rest.used ≡ 0 = ap (λ (r : Rest). r.used) begins in
+      let there : run g l 0 (rested (rest_at rest.colon 0 0) start c [] [] nows.Ready) (take count beside)
+      ≡ record { given = (w.value, 0 + count) ∷ []; now = Ok (rested last.rest 0 c [] [] nows.Ready) } =
+      subst (λ (r : Rest). run g l r.used (rested r start c [] [] nows.Ready) (take count beside)
+      ≡ record { given = (w.value, r.used + count) ∷ []; now = Ok (rested last.rest 0 c [] [] nows.Ready) }) begins
+      (subst (λ o. run g l first.rest.used (rested first.rest start c [] [] nows.Ready) o
+      ≡ record { given = (w.value, first.rest.used + count) ∷ []; now = Ok (rested last.rest 0 c [] [] nows.Ready) }) same
+      (w.gives g l start c deep (omega arith))) in
+      let size : length (take count beside) ≡ count = omega (arith, length-take {A = ℕ}) in
+      let at_end : last.rest.used + rest.used ≡ rest.used + count = omega arith in
+      let came : (0 + count) + rest.used ≡ rest.used + count = omega arith in
+      gives_on g l (take count beside) (omega arith) (omega arith) rest last.rest start c w.value (0 + count) there
+      ∙ (ap (λ n. record {
+        given = (w.value, n) ∷ [];
+        now = Ok (rested (rest_at last.rest.colon (last.rest.start + rest.used) (last.rest.used + rest.used)) 0 c [] [] nows.Ready);
+      }) came
+      ∙ ap (λ n. record {
+        given = (w.value, rest.used + count) ∷ [];
+        now = Ok (rested (rest_at last.rest.colon (last.rest.start + rest.used) n) 0 c [] [] nows.Ready);
+      }) at_end)
+
+  -- an item where no octet was used before it is the same item behind others
+  front_walked : WalkedTop level beside count (noted_at first rest) (noted_at last (rest_behind rest last.rest count))
+  front_walked =
+      let within = w.within in
+      record {
+        value = w.value;
+        gives = front_gives;
+        plain = w.plain;
+        some = w.some;
+        within = omega arith;
+        used = refl;
+        kind = w.kind;
+        deep = w.deep;
+        left = w.left;
+        few = w.few;
+        counted = w.counted;
+      }
+
+-- An item at the front of octets before which none was used is one where a scanner rests before the same octets.
+pub front_top : (level : ℕ) (octets beside : List ℕ) (count : ℕ) (rest after : Rest) (v : Value) → take count octets ≡ take count beside
+    → length octets ≤ length beside → length octets < 2 ^ 63 → IsTop level octets count (rest_at rest.colon 0 0) after v
+    → IsTop level beside count rest (rest_behind rest after count) v
+unfolding front_walked
+front_top level octets beside count rest after v same more room t = record {
+  first = noted_at t.first rest;
+  last = noted_at t.last (rest_behind rest t.last.rest count);
+  walked = front_walked level octets beside count t.first t.last t.walked rest t.begins same more room;
+  begins = refl;
+  ends = ap (λ (r : Rest). rest_behind rest r count) t.ends;
+  gives = t.gives;
+}
+
+-- the first of some octets
+front : (n k : ℕ) (w : List ℕ) → n ≤ k → take n (take k w) ≡ take n w
+front n k w h = grind (arith, common_steps)
+
+-- So it is at both fronts, as far as both go.
+pub both_tops : (level : ℕ) (octets beside part : List ℕ) (count : ℕ) (rest there after : Rest) (v : Value) → rest.colon ≡ there.colon
+    → part ≡ take (min (length octets) (length beside)) octets → take count octets ≡ take count beside → length octets < 2 ^ 63
+    → IsTop level part count (rest_at rest.colon 0 0) after v
+    → IsTop level octets count rest (rest_behind rest after count) v × IsTop level beside count there (rest_behind there after count) v
+both_tops level octets beside part count rest there after v colons is same room t =
+    let size : length part ≡ min (length octets) (length beside) =
+    ap (λ (w : List ℕ). length w) is ∙ omega (arith, length-take {A = ℕ}) in
+    let within = t.walked.within in
+    let here : take count part ≡ take count octets =
+    ap (take count) is ∙ front count (min (length octets) (length beside)) octets (omega arith) in (
+      front_top level part octets count rest after v here (omega arith) (omega arith) t,
+      front_top level part beside count there after v (here ∙ same) (omega arith) (omega arith)
+          (subst (λ b. IsTop level part count (rest_at b 0 0) after v) colons t),
+    )
+
+-- The same of a number or a symbol, where the octet that shows its end is the same, too.
+front_left : (octets beside : List ℕ) (count : ℕ) (rest after : Rest) (q : Payload) → take (count + 1) octets ≡ take (count + 1) beside
+    → length octets ≤ length beside → length octets < 2 ^ 63 → FoundLeft octets count (rest_at rest.colon 0 0) after q
+    → FoundLeft beside count rest (rest_behind rest after count) q
+front_left octets beside count rest after q same more room f =
+    let some = f.leaves.some in
+    let within = f.leaves.within in
+    record {
+      leaves = record { leaves = leaves_there; some = some; within = omega arith; used = refl };
+      flat = f.flat;
+      plain = f.plain;
+    }
+  where
+    shorter : (w : List ℕ) → take count (take (count + 1) w) ≡ take count w
+    shorter w = grind (arith, common_steps)
+
+    last : (w : List ℕ) → get_or (take (count + 1) w) count 0 ≡ get_or w count 0
+    last w = grind (arith, common_steps)
+
+    leaves_there : (g : Catalog) (l : Limits) (start : ℕ) (c : List Slot) → length beside ≤ l.item
+        → LeavesTop g l rest start c beside count (rest_behind rest after count) (bare q)
+    leaves_there g l start c few =
+        let some = f.leaves.some in
+        let within = f.leaves.within in
+        let used = f.leaves.used in
+        let item : take count octets ≡ take count beside = sym (shorter octets) ∙ (ap (take count) same ∙ shorter beside) in
+        let next : get_or octets count 0 ≡ get_or beside count 0 = sym (last octets) ∙ (ap (λ w. get_or w count 0) same ∙ last beside) in
+        let size : length (take count beside) ≡ count = omega (arith, length-take {A = ℕ}) in
+        let at_end : after.used + rest.used ≡ rest.used + count = omega arith in
+        let x = f.leaves.leaves g l start c (omega arith) in
+        let y = leaves_on g l (take count beside) (get_or beside count 0) (omega arith) (omega arith) rest after start c (bare q) x.0
+        (subst (λ o. run g l 0 (rested (rest_at rest.colon 0 0) start c [] [] nows.Ready) o ≡ led x.0) item x.1)
+        (subst (λ o. eats g l x.0 o ≡ leaves (bare q) (rested after 0 c [] [] nows.Ready)) next x.2) in (
+          y.0,
+          y.1,
+          subst (λ n. eats g l y.0 (get_or beside count 0)
+              ≡ leaves (bare q) (rested (rest_at after.colon (after.start + rest.used) n) 0 c [] [] nows.Ready)) at_end y.2,
+        )
+
+pub both_lefts : (octets beside part : List ℕ) (count : ℕ) (rest there after : Rest) (q : Payload) → rest.colon ≡ there.colon
+    → part ≡ take (min (length octets) (length beside)) octets → take (count + 1) octets ≡ take (count + 1) beside → length octets < 2 ^ 63
+    → FoundLeft part count (rest_at rest.colon 0 0) after q
+    → FoundLeft octets count rest (rest_behind rest after count) q × FoundLeft beside count there (rest_behind there after count) q
+both_lefts octets beside part count rest there after q colons is same room f =
+    let size : length part ≡ min (length octets) (length beside) =
+    ap (λ (w : List ℕ). length w) is ∙ omega (arith, length-take {A = ℕ}) in
+    let within = f.leaves.within in
+    let here : take (count + 1) part ≡ take (count + 1) octets =
+    ap (take (count + 1)) is ∙ front (count + 1) (min (length octets) (length beside)) octets (omega arith) in (
+      front_left part octets count rest after q here (omega arith) (omega arith) f,
+      front_left part beside count there after q (here ∙ same) (omega arith) (omega arith)
+          (subst (λ b. FoundLeft part count (rest_at b 0 0) after q) colons f),
+    )
 
 -- 2. One of the readers takes it up.
 
 module _ (old : TextReader) (piece item : List ℕ) (blank count : ℕ) (rest behind : Rest) (v : Value) (f : IsFront old piece blank rest)
-    (is : item ≡ take (min (length piece - blank) old.limits.item) (drop blank piece)) (t : IsTop old.limits.depth item count rest behind v) where
+    (is : item ≡ take (min (length piece - blank) old.limits.item) (drop blank piece)) (level : ℕ) (deep : level ≤ old.limits.depth)
+    (t : IsTop level item count rest behind v) where
   pub size : length item ≡ min (length piece - blank) old.limits.item
   size = ap (λ (w : List ℕ). length w) is ∙ omega (arith, length-take {A = ℕ}, length-drop {A = ℕ})
 
@@ -80,9 +190,9 @@ module _ (old : TextReader) (piece item : List ℕ) (blank count : ℕ) (rest be
       let s = size in
       subst (λ x. Advances old.catalog.now old.limits (is_some old.awaited) (scanned old.scanner).used (state_of old) piece
       (Ok (record { used = blank + count; value = Some x })) None (state_of (gone_on old moved old.beside))) t.gives
-      (top_advances old moved old.beside old.limits.depth item count t.first t.last t.walked f.before piece blank (min (length piece - blank) old.limits.item)
+      (top_advances old moved old.beside level item count t.first t.last t.walked f.before piece blank (min (length piece - blank) old.limits.item)
       f.fresh (there ∙ ap resting (sym t.ends))
-      is f.within f.few (omega arith) (omega arith) (subst (λ r. RestsBehind piece blank f.before r) (sym t.begins) f.rests) (omega arith))
+      is f.within f.few (omega arith) (omega arith) (subst (λ r. RestsBehind piece blank f.before r) (sym t.begins) f.rests) deep)
 
 -- behind a number or a symbol the octet comes again
 module _ (old : TextReader) (piece item : List ℕ) (blank count : ℕ) (rest behind : Rest) (q : Payload) (f : IsFront old piece blank rest)
@@ -113,14 +223,6 @@ module _ (old : TextReader) (piece item : List ℕ) (blank count : ℕ) (rest be
       → Advances old.catalog.now old.limits (is_some old.awaited) (scanned old.scanner).used (state_of old) piece
       (Ok (record { used = blank + count; value = Some (bare q) })) (Some (get_or item count 0)) (state_of (gone_on old moved old.beside))
   left_side moved there = left_advances old moved piece item blank count begun behind (bare q) ahead t.leaves there
-
--- the same octets spell one number
-pub same_number : (w : List ℕ) (m n : Number) → said kinds.Number w ≡ Ok (Number' m) → said kinds.Number w ≡ Ok (Number' n) → m ≡ n
-same_number w m n e f = ap (number_in m) (sym e ∙ f)
-  where
-    number_in : Number → Result Content Reason → Number
-    number_in d (Ok (Number' x)) = x
-    number_in d _ = d
 
 -- 3. What is so of it then.
 

@@ -1,7 +1,8 @@
--- The same octets elsewhere in a document, and within other limits, give the same value where both are read: a run looks at how many octets
--- were used, and at where an item began, only to refuse.
-use Rattle.std.proofs.Common.{◌≡◌, ℕ, zero, suc, ◌+◌, ◌-◌, Bool, true, false, List, [], ◌∷◌, ◌++◌, length, Option, Some, None, Result, Ok, Err, refl, sym, ap, ◌∙◌, subst, if◌then◌else◌}
-use Rattle.std.specs.Prelude.{nat_lt, nat_le, ◌==◌, ◌&&◌, ◌||◌, not, codes, bytes_eq}
+-- The same octets further on in a document do the same: how many octets were used, and where an item began, matters to a run only by how many
+-- lie between.
+use Rattle.std.proofs.Common.{◌≡◌, ℕ, zero, suc, ◌+◌, ◌-◌, ◌^◌, ◌<◌, ◌≤◌, Bool, true, false, List, [], ◌∷◌, length, Option, Some, None, Result, Ok, Err, refl, sym, ap, ◌∙◌, subst, arith, if◌then◌else◌}
+use Rattle.std.specs.Prelude.{nat_lt, nat_le, ◌==◌, ◌&&◌, ◌||◌, not, take, codes, bytes_eq}
+use Rattle.std.proofs.lemmas.Bool.Decides.{nat_tests}
 use Rattle.ion_model.specs.declared.value.Value.{Value}
 use Rattle.ion_model.specs.declared.value.Payload.{Payload}
 use Rattle.ion_model.specs.declared.value.Payload.TheVariants as payloads
@@ -15,20 +16,27 @@ use Rattle.ion_symtab.specs.declared.catalog.Catalog.{Catalog}
 use Rattle.ion_symtab.specs.Slots.{Slot, system_slots, resolve}
 use Rattle.ion_symtab.specs.Next.{next}
 use Rattle.ion_tokens.specs.declared.mode.Place.{Place}
+use Rattle.ion_tokens.specs.declared.mode.Mode.{Mode}
+use Rattle.ion_tokens.specs.declared.mode.TokenKind.{TokenKind}
 use Rattle.ion_tokens.specs.declared.mode.Action.{Action}
 use Rattle.ion_tokens.specs.declared.mode.Action.TheVariants as actions
 use Rattle.ion_tokens.specs.declared.mode.Mode.TheVariants as modes
 use Rattle.ion_tokens.specs.declared.mode.TokenKind.TheVariants as kinds
 use Rattle.ion_tokens.specs.declared.mode.Mark.TheVariants as marks
-use Rattle.ion_tokens.specs.machine.Bounds.{is_idle}
-use Rattle.ion_tokens.specs.machine.Ahead.{symbol_waits, long_waits}
+use Rattle.ion_tokens.specs.declared.plain_tokens.Rest.{Rest}
+use Rattle.ion_tokens.specs.declared.token.Begun.{Begun}
+use Rattle.ion_tokens.specs.machine.Bounds.{is_idle, unkept, debt, IsSteady, StaysSteady}
+use Rattle.ion_tokens.specs.machine.Ahead.{is_long_form, symbol_waits, long_waits}
 use Rattle.ion_tokens.specs.machine.Views.{begun_in, behind, form_of}
 use Rattle.ion_tokens.specs.machine.Table as table
-use Rattle.ion_tokens.specs.machine.Scanning.{Known, Outcome, Next, Given, Left, Refused, feed, acts, start_of, left_of, go_to, cut, past, blob_ends}
-use Rattle.ion_tokens.specs.Lexemes.{Lexeme}
+use Rattle.ion_tokens.specs.machine.Rests.{resting}
+use Rattle.ion_tokens.specs.machine.Scanning.{Known, Outcome, Next, Given, Left, Refused, feed, acts, start_of, left_of, go_to, cut, past, blob_ends, kept_after}
+use Rattle.ion_tokens.specs.Lexemes.{Lexeme, takes_colon}
 use Rattle.ion_tokens.specs.Blobs.{blob_of}
 use Rattle.ion_tokens.specs.Bodies.{Content, Word, Id, Quoted, Short, Long, Number', TypedNull, Operator, Clob, Blob, Mark'}
 use Rattle.ion_tokens.specs.machine.Said.{said}
+use Rattle.ion_tokens.proofs.bounds.Fits.{Fits, is_fresh, table_fits}
+use Rattle.ion_tokens.proofs.bounds.Steady.{ended_well, les_of, feed_steady}
 use Rattle.ion_text.specs.declared.state.Held.{Held}
 use Rattle.ion_text.specs.declared.state.Held.TheVariants as helds
 use Rattle.ion_text.specs.declared.state.Now.{Now}
@@ -38,562 +46,891 @@ use Rattle.ion_text.specs.declared.state.Frame.TheVariants as frames
 use Rattle.ion_visiting.specs.declared.bracket.Bracket.TheVariants as brackets
 use Rattle.ion_text.specs.declared.state.Listing.TheVariants as listings
 use Rattle.ion_text.specs.Grammar.{is_keyword}
-use Rattle.ion_text.specs.machine.EachToken.{under, spot_at, token_at, begun_at, Reading, Turn, goes, gives, refuses, late, Symbols, at, fresh, place, place_in, settle, turned, within, ended, released, paid, held_payload, resolved, deeper, bare_close, opened, first_now, beyond_depth, opening, closed, unexpected, on_ready, on_pending, noted, held_symbol, on_long, on_after, on_comma, on_name, on_long_name, on_keyed, named, keyed, turn}
+use Rattle.ion_text.specs.machine.EachToken.{under, spot_at, token_at, begun_at, Reading, Turn, goes, gives, refuses, late, Symbols, at, fresh, place, place_in, settle, turned, within, ended, released, paid, held_payload, resolved, bare_close, opened, opening, closed, on_ready, on_pending, noted, held_symbol, on_long, on_after, on_comma, on_name, on_long_name, on_keyed, named, turn}
 use Rattle.ion_visiting.specs.Parts.{number_payload}
-use Rattle.ion_text.specs.machine.Run.{State, Effect, uses, tells, leaves, fails, is_top, in_segment, has_segment, waits_now, unsettled, shut, reaches, noticed, lesser, or_worse, with_scan, token_of, behind_given, behind_left, on_said, on_scan, on_settled, on_octet, takes, eats, Run, run_on, run}
+use Rattle.ion_text.specs.machine.Run.{State, Effect, uses, tells, leaves, fails, is_top, in_segment, has_segment, is_long_begun, longest_top, waits_now, unsettled, shut, reaches, noticed, or_worse, with_scan, with_value, once_more, failed_at, token_of, behind_given, behind_left, on_said, on_scan, on_settled, on_octet, takes, eats, Run, run_on, run}
+use Rattle.ion_text.specs.machine.Pieces.{led}
+use Rattle.ion_text.specs.machine.Walked.{rested}
+use Rattle.ion_text.specs.machine.Alike.{rest_at}
 use Rattle.ion_text.specs.laws.reading.Brackets.{Closes, ends_list, ends_sexp, ends_struct, ends_none, closes_or_not}
 use Rattle.ion_visiting.specs.declared.bracket.Bracket.{Bracket}
 
--- 1. The same, elsewhere.
+-- 1. The same, so many octets further on.
 
-abbrev known_at : ℕ → ℕ → Known → Known
-known_at start used s = record { mode = s.mode; kept = s.kept; colon = s.colon; start = start; used = used }
+abbrev known_on : ℕ → Known → Known
+known_on d s = record { mode = s.mode; kept = s.kept; colon = s.colon; start = s.start + d; used = s.used + d }
 
-abbrev lexeme_at : ℕ → ℕ → Lexeme → Lexeme
-lexeme_at start end x = record { start = start; end = end; kind = x.kind; octets = x.octets }
+abbrev lexeme_on : ℕ → Lexeme → Lexeme
+lexeme_on d x = record { start = x.start + d; end = x.end + d; kind = x.kind; octets = x.octets }
 
-abbrev outcome_at : ℕ → ℕ → ℕ → ℕ → Outcome → Outcome
-outcome_at start used from to (Next s) = Next (known_at start used s)
-outcome_at start used from to (Given x s) = Given (lexeme_at from to x) (known_at start used s)
-outcome_at start used from to (Left x s) = Left (lexeme_at from to x) (known_at start used s)
-outcome_at start used from to (Refused n e) = Refused used e
+abbrev outcome_on : ℕ → Outcome → Outcome
+outcome_on d (Next s) = Next (known_on d s)
+outcome_on d (Given x s) = Given (lexeme_on d x) (known_on d s)
+outcome_on d (Left x s) = Left (lexeme_on d x) (known_on d s)
+outcome_on d (Refused n e) = Refused (n + d) e
 
-abbrev now_at : ℕ → Now → Now
-now_at end (nows.Pending h e) = nows.Pending h end
-now_at end (nows.Long w e) = nows.Long w end
-now_at end nows.Ready = nows.Ready
-now_at end nows.After = nows.After
-now_at end nows.Name = nows.Name
-now_at end (nows.LongName w) = nows.LongName w
-now_at end (nows.Keyed s) = nows.Keyed s
+abbrev now_on : ℕ → Now → Now
+now_on d (nows.Pending h e) = nows.Pending h (e + d)
+now_on d (nows.Long w e) = nows.Long w (e + d)
+now_on d nows.Ready = nows.Ready
+now_on d nows.After = nows.After
+now_on d nows.Name = nows.Name
+now_on d (nows.LongName w) = nows.LongName w
+now_on d (nows.Keyed s) = nows.Keyed s
 
-abbrev reading_at : ℕ → ℕ → Reading → Reading
-reading_at start end r = at start r.context r.frames r.notes (now_at end r.now)
+-- where no item is open, none began
+abbrev ready_on : ℕ → List Frame → Symbols → ℕ → ℕ
+ready_on d [] [] s = s
+ready_on d [] (x ∷ ss) s = s + d
+ready_on d (f ∷ fs) ss s = s + d
 
--- the same state, with other numbers for the octets used and for where token, item and what waits stand
-abbrev pub state_at : ℕ → ℕ → ℕ → ℕ → State → State
-state_at start used begin end m = with_scan (known_at start used m.scan) (reading_at begin end m.reading)
+abbrev start_on : ℕ → Now → List Frame → Symbols → ℕ → ℕ
+start_on d nows.Ready fs ss s = ready_on d fs ss s
+start_on d (nows.Pending h e) fs ss s = s + d
+start_on d (nows.Long w e) fs ss s = s + d
+start_on d nows.After fs ss s = s + d
+start_on d nows.Name fs ss s = s + d
+start_on d (nows.LongName w) fs ss s = s + d
+start_on d (nows.Keyed n) fs ss s = s + d
 
-record Outcomes (x y : Outcome) : Type 0 where
-  start : ℕ
-  used : ℕ
-  from : ℕ
-  to : ℕ
-  is : y ≡ outcome_at start used from to x
+abbrev reading_on : ℕ → Reading → Reading
+reading_on d r = at (start_on d r.now r.frames r.notes r.start) r.context r.frames r.notes (now_on d r.now)
 
-record Readings (r q : Reading) : Type 0 where
-  begin : ℕ
-  end : ℕ
-  is : q ≡ reading_at begin end r
+abbrev state_on : ℕ → State → State
+state_on d m = with_scan (known_on d m.scan) (reading_on d m.reading)
 
-record States (m n : State) : Type 0 where
-  start : ℕ
-  used : ℕ
-  begin : ℕ
-  end : ℕ
-  is : n ≡ state_at start used begin end m
+abbrev turn_on : ℕ → Turn → Turn
+turn_on d (goes r) = goes (reading_on d r)
+turn_on d (gives v r) = gives v (reading_on d r)
+turn_on d (refuses e) = refuses e
+turn_on d (late e r) = late e (reading_on d r)
 
--- the same turn, unless one refuses
-abbrev Turns : Turn → Turn → Type 0
-Turns (goes r) (goes q) = Readings r q
-Turns (goes r) (gives w q) = ⊥
-Turns (goes r) _ = Unit {0}
-Turns (gives v r) (gives w q) = (v ≡ w) × Readings r q
-Turns (gives v r) (goes q) = ⊥
-Turns (gives v r) _ = Unit {0}
-Turns (refuses e) _ = Unit {0}
-Turns (late e r) _ = Unit {0}
+abbrev effect_on : ℕ → Effect → Effect
+effect_on d (uses m) = uses (state_on d m)
+effect_on d (tells v m) = tells v (state_on d m)
+effect_on d (leaves v m) = leaves v (state_on d m)
+effect_on d (fails e) = fails e
 
--- the same effect
-abbrev Effects : Effect → Effect → Type 0
-Effects (uses m) (uses n) = States m n
-Effects (uses m) (fails e) = Unit {0}
-Effects (uses m) _ = ⊥
-Effects (tells v m) (tells w n) = (v ≡ w) × States m n
-Effects (tells v m) (fails e) = Unit {0}
-Effects (tells v m) _ = ⊥
-Effects (leaves v m) (leaves w n) = (v ≡ w) × States m n
-Effects (leaves v m) (fails e) = Unit {0}
-Effects (leaves v m) _ = ⊥
-Effects (fails e) _ = Unit {0}
+abbrev given_on : ℕ → List (Value × ℕ) → List (Value × ℕ)
+given_on d [] = []
+given_on d (x ∷ xs) = (x.0, x.1 + d) ∷ given_on d xs
+
+abbrev end_on : ℕ → Result State Refusal → Result State Refusal
+end_on d (Ok m) = Ok (state_on d m)
+end_on d (Err f) = Err (record { offset = f.offset + d; reason = f.reason })
+
+abbrev ran_on : ℕ → Run → Run
+ran_on d r = record { given = given_on d r.given; now = end_on d r.now }
 
 -- 2. The scanner.
 
-acts_there : (p : Place) (s : Known) (start used o : ℕ) (x : Action) → Outcomes (acts p s o x) (acts p (known_at start used s) o x)
-acts_there p s a b o (actions.Go m k) = record { start = start_of s.mode a b; used = b + 1; from = 0; to = 0; is = refl }
-acts_there p s a b o (actions.Give kind k) = record { start = b + 1; used = b + 1; from = start_of s.mode a b; to = b + 1; is = refl }
-acts_there p s a b o (actions.Before kind k m) = record { start = b - left_of m; used = b; from = start_of s.mode a b; to = b - left_of m; is = refl }
-acts_there p s a b o actions.EndWord = by ((o == 46) && bytes_eq s.kept (codes "null"))
+abbrev known_of : Mode → List ℕ → Bool → ℕ → ℕ → Known
+known_of m k c a b = record { mode = m; kept = k; colon = c; start = a; used = b }
+
+abbrev lexeme_of : TokenKind → List ℕ → ℕ → ℕ → Lexeme
+lexeme_of kind k a b = record { start = a; end = b; kind = kind; octets = k }
+
+same_known : (m : Mode) (k : List ℕ) (c : Bool) (a b x y : ℕ) → a ≡ x → b ≡ y → known_of m k c a b ≡ known_of m k c x y
+same_known m k c a b x y e f = ap (λ i. known_of m k c i b) e ∙ ap (λ i. known_of m k c x i) f
+
+same_lexeme : (kind : TokenKind) (k : List ℕ) (a b x y : ℕ) → a ≡ x → b ≡ y → lexeme_of kind k a b ≡ lexeme_of kind k x y
+same_lexeme kind k a b x y e f = ap (λ i. lexeme_of kind k i b) e ∙ ap (λ i. lexeme_of kind k x i) f
+
+same_given : (x y : Lexeme) (s t : Known) → x ≡ y → s ≡ t → Given x s ≡ Given y t
+same_given x y s t e f = ap (λ z. Given z s) e ∙ ap (λ z. Given y z) f
+
+same_left : (x y : Lexeme) (s t : Known) → x ≡ y → s ≡ t → Left x s ≡ Left y t
+same_left x y s t e f = ap (λ z. Left z s) e ∙ ap (λ z. Left y z) f
+
+begins_on : (m : Mode) (start used d : ℕ) → unkept m ≤ used → start_of m (start + d) (used + d) ≡ start_of m start used + d
+begins_on modes.Blank s u d h = refl
+begins_on modes.Slash s u d h = omega arith
+begins_on _ s u d h = refl
+
+left_before : (m : Mode) → left_of m ≤ unkept m
+left_before modes.Slash = omega arith
+left_before _ = omega arith
+
+behind_before : (m : Mode) → behind m ≤ unkept m
+behind_before modes.NumberSlash = omega arith
+behind_before modes.OperatorSlash = omega arith
+behind_before _ = omega arith
+
+goes_on : (s : Known) (d : ℕ) (m : Mode) (k : List ℕ) → unkept s.mode ≤ s.used → go_to (known_on d s) m k ≡ known_on d (go_to s m k)
+goes_on s d m k h =
+    let more : (s.used + d) + 1 ≡ (s.used + 1) + d = omega arith in
+    same_known m k s.colon (start_of s.mode (s.start + d) (s.used + d)) ((s.used + d) + 1) (start_of s.mode s.start s.used + d) ((s.used + 1) + d)
+    (begins_on s.mode s.start s.used d h) more
+
+cut_on : (s : Known) (d : ℕ) (kind : TokenKind) (k : List ℕ) (end there : ℕ) → unkept s.mode ≤ s.used → there ≡ end + d
+    → cut (known_on d s) kind k there ≡ lexeme_on d (cut s kind k end)
+cut_on s d kind k end there h e =
+    same_lexeme kind k (start_of s.mode (s.start + d) (s.used + d)) there (start_of s.mode s.start s.used + d) (end + d)
+    (begins_on s.mode s.start s.used d h) e
+
+acts_on : (p : Place) (s : Known) (d o : ℕ) (x : Action) → Fits (unkept s.mode) (debt s.mode) (is_idle s.mode) x → unkept s.mode ≤ s.used
+    → acts p (known_on d s) o x ≡ outcome_on d (acts p s o x)
+acts_on p s d o (actions.Go m k) f h = ap Next (goes_on s d m (kept_after k s.kept) h)
+acts_on p s d o (actions.Give kind k) f h =
+    let more : (s.used + d) + 1 ≡ (s.used + 1) + d = omega arith in
+    same_given (cut (known_on d s) kind (kept_after k s.kept) ((s.used + d) + 1)) (lexeme_on d (cut s kind (kept_after k s.kept) (s.used + 1)))
+    (past p kind modes.Blank [] ((s.used + d) + 1) ((s.used + d) + 1)) (known_on d (past p kind modes.Blank [] (s.used + 1) (s.used + 1)))
+    (cut_on s d kind (kept_after k s.kept) (s.used + 1) ((s.used + d) + 1) h more)
+    (same_known modes.Blank [] (takes_colon p kind) ((s.used + d) + 1) ((s.used + d) + 1) ((s.used + 1) + d) ((s.used + 1) + d) more more)
+acts_on p s d o (actions.Before kind k m) f h =
+    let t = ended_well (debt m) (debt s.mode) (unkept m) (unkept s.mode) (is_fresh m) f.is in
+    let fits : unkept m ≤ unkept s.mode = t.1 in
+    let one = left_before m in
+    let less : (s.used + d) - left_of m ≡ (s.used - left_of m) + d = omega arith in
+    same_left (cut (known_on d s) kind (kept_after k s.kept) ((s.used + d) - left_of m)) (lexeme_on d (cut s kind (kept_after k s.kept) (s.used - left_of m)))
+    (past p kind m [] ((s.used + d) - left_of m) (s.used + d)) (known_on d (past p kind m [] (s.used - left_of m) s.used))
+    (cut_on s d kind (kept_after k s.kept) (s.used - left_of m) ((s.used + d) - left_of m) h less)
+    (same_known m [] (takes_colon p kind) ((s.used + d) - left_of m) (s.used + d) ((s.used - left_of m) + d) (s.used + d) less refl)
+acts_on p s d o actions.EndWord f h = by ((o == 46) && bytes_eq s.kept (codes "null"))
   where
-    t : Known
-    t = known_at a b s
-
-    by : (c : Bool) → Outcomes (if c then Next (go_to s modes.KindName []) else Left (cut s kinds.Word s.kept s.used)
-        (past p kinds.Word modes.Blank [] s.used s.used))
-        (if c then Next (go_to t modes.KindName []) else Left (cut t kinds.Word s.kept b) (past p kinds.Word modes.Blank [] b b))
-    by true = record { start = start_of s.mode a b; used = b + 1; from = 0; to = 0; is = refl }
-    by false = record { start = b; used = b; from = start_of s.mode a b; to = b; is = refl }
-acts_there p s a b o (actions.Split n) = record { start = b - n; used = b; from = start_of s.mode a b; to = b - n; is = refl }
-acts_there p s a b o actions.EndBlob = by (blob_of s.kept)
+    by : (c : Bool) → (if c then Next (go_to (known_on d s) modes.KindName [])
+        else Left (cut (known_on d s) kinds.Word s.kept (s.used + d)) (past p kinds.Word modes.Blank [] (s.used + d) (s.used + d)))
+        ≡ outcome_on d (if c then Next (go_to s modes.KindName [])
+        else Left (cut s kinds.Word s.kept s.used) (past p kinds.Word modes.Blank [] s.used s.used))
+    by true = ap Next (goes_on s d modes.KindName [] h)
+    by false =
+        ap (λ x. Left x (past p kinds.Word modes.Blank [] (s.used + d) (s.used + d))) (cut_on s d kinds.Word s.kept s.used (s.used + d) h refl)
+acts_on p s d o (actions.Split n) f h =
+    let t = les_of n (unkept s.mode) 2 (debt s.mode) f.is in
+    let fits : n ≤ unkept s.mode = t.0 in
+    let less : (s.used + d) - n ≡ (s.used - n) + d = omega arith in
+    let begun = take n (codes "inf") in
+    same_left (cut (known_on d s) kinds.Operator s.kept ((s.used + d) - n)) (lexeme_on d (cut s kinds.Operator s.kept (s.used - n)))
+    (past p kinds.Operator modes.Word begun ((s.used + d) - n) (s.used + d)) (known_on d (past p kinds.Operator modes.Word begun (s.used - n) s.used))
+    (cut_on s d kinds.Operator s.kept (s.used - n) ((s.used + d) - n) h less)
+    (same_known modes.Word begun (takes_colon p kinds.Operator) ((s.used + d) - n) (s.used + d) ((s.used - n) + d) (s.used + d) less refl)
+acts_on p s d o actions.EndBlob f h = by (blob_of s.kept)
   where
-    by : (c : Option (List ℕ)) → Outcomes (blob_ends s c) (blob_ends (known_at a b s) c)
-    by None = record { start = 0; used = b + 1; from = 0; to = 0; is = refl }
-    by (Some octets) = record { start = start_of s.mode a b; used = b + 1; from = 0; to = 0; is = refl }
-acts_there p s a b o (actions.Refuse e) = record { start = 0; used = b + 1; from = 0; to = 0; is = refl }
+    by : (c : Option (List ℕ)) → blob_ends (known_on d s) c ≡ outcome_on d (blob_ends s c)
+    by None =
+        let more : (s.used + d) + 1 ≡ (s.used + 1) + d = omega arith in ap (λ n. Refused n reasons.BadBase64) more
+    by (Some octets) = ap Next (goes_on s d _ octets h)
+acts_on p s d o (actions.Refuse e) f h =
+    let more : (s.used + d) + 1 ≡ (s.used + 1) + d = omega arith in ap (λ n. Refused n e) more
 
-feed_there : (p : Place) (s : Known) (start used o : ℕ) → Outcomes (feed p s o) (feed p (known_at start used s) o)
-feed_there p s a b o = acts_there p s a b o (table.next p s.colon s.mode o)
+feed_on : (p : Place) (s : Known) (d o : ℕ) → unkept s.mode ≤ s.used → feed p (known_on d s) o ≡ outcome_on d (feed p s o)
+feed_on p s d o h = acts_on p s d o (table.next p s.colon s.mode o) (table_fits p s.colon s.mode o) h
 
-symbol_there : (x : Outcome) (a b c d : ℕ) → symbol_waits (outcome_at a b c d x) ≡ symbol_waits x
-symbol_there (Next s) a b c d = refl
-symbol_there (Given x s) a b c d = refl
-symbol_there (Left x s) a b c d = refl
-symbol_there (Refused n e) a b c d = refl
+symbol_on : (d : ℕ) (x : Outcome) → symbol_waits (outcome_on d x) ≡ symbol_waits x
+symbol_on d (Next s) = refl
+symbol_on d (Given x s) = refl
+symbol_on d (Left x s) = refl
+symbol_on d (Refused n e) = refl
 
-long_there : (top : Bool) (x : Outcome) (a b c d : ℕ) → long_waits top (outcome_at a b c d x) ≡ long_waits top x
-long_there top (Next s) a b c d = refl
-long_there top (Given x s) a b c d = refl
-long_there top (Left x s) a b c d = refl
-long_there top (Refused n e) a b c d = refl
+long_on : (d : ℕ) (top : Bool) (x : Outcome) → long_waits top (outcome_on d x) ≡ long_waits top x
+long_on d top (Next s) = refl
+long_on d top (Given x s) = refl
+long_on d top (Left x s) = refl
+long_on d top (Refused n e) = refl
 
-segment_there : (s : Known) (a b : ℕ) → has_segment (begun_in (known_at a b s)) ≡ has_segment (begun_in s)
-segment_there s a b = by (is_idle s.mode)
+segment_on : (d : ℕ) (s : Known) → has_segment (begun_in (known_on d s)) ≡ has_segment (begun_in s)
+segment_on d s = by (is_idle s.mode)
   where
-    by : (c : Bool) → has_segment (if c then None else Some (record { start = a; end = b - behind s.mode; form = form_of s.mode }))
+    by : (c : Bool) → has_segment (if c then None else Some (record { start = s.start + d; end = (s.used + d) - behind s.mode; form = form_of s.mode }))
         ≡ has_segment (if c then None else Some (record { start = s.start; end = s.used - behind s.mode; form = form_of s.mode }))
     by true = refl
     by false = refl
 
 -- 3. What waits, and where.
 
-place_there : (fs : List Frame) (now : Now) (end : ℕ) → place_in fs (now_at end now) ≡ place_in fs now
-place_there [] now e = refl
-place_there (frames.Items listing ss vs ∷ fs) now e = refl
-place_there (frames.Named ss ms s ∷ fs) now e = refl
-place_there (frames.Fields ss ms ∷ fs) (nows.Pending h x) e = refl
-place_there (frames.Fields ss ms ∷ fs) (nows.Long w x) e = refl
-place_there (frames.Fields ss ms ∷ fs) nows.Ready e = refl
-place_there (frames.Fields ss ms ∷ fs) nows.After e = refl
-place_there (frames.Fields ss ms ∷ fs) nows.Name e = refl
-place_there (frames.Fields ss ms ∷ fs) (nows.LongName w) e = refl
-place_there (frames.Fields ss ms ∷ fs) (nows.Keyed s) e = refl
+place_on : (d : ℕ) (fs : List Frame) (now : Now) → place_in fs (now_on d now) ≡ place_in fs now
+place_on d [] now = refl
+place_on d (frames.Items listing ss vs ∷ fs) now = refl
+place_on d (frames.Named ss ms s ∷ fs) now = refl
+place_on d (frames.Fields ss ms ∷ fs) (nows.Pending h x) = refl
+place_on d (frames.Fields ss ms ∷ fs) (nows.Long w x) = refl
+place_on d (frames.Fields ss ms ∷ fs) nows.Ready = refl
+place_on d (frames.Fields ss ms ∷ fs) nows.After = refl
+place_on d (frames.Fields ss ms ∷ fs) nows.Name = refl
+place_on d (frames.Fields ss ms ∷ fs) (nows.LongName w) = refl
+place_on d (frames.Fields ss ms ∷ fs) (nows.Keyed s) = refl
 
-waits_there : (top : Bool) (now : Now) (s : Known) (x : Outcome) (start used end a b c d : ℕ)
-    → (waits_now top (now_at end now) (outcome_at a b c d x) || in_segment (now_at end now) (known_at start used s)) ≡ (waits_now top now x || in_segment now s)
-waits_there top (nows.Pending h y) s x t u e a b c d = ap (λ w. w || false) (symbol_there x a b c d)
-waits_there top (nows.Long w y) s x t u e a b c d = ap (λ k. k || has_segment (begun_in (known_at t u s))) (long_there top x a b c d)
-    ∙ ap (λ k. long_waits top x || k) (segment_there s t u)
-waits_there top (nows.LongName w) s x t u e a b c d = ap (λ k. k || false) (long_there false x a b c d)
-waits_there top nows.Ready s x t u e a b c d = refl
-waits_there top nows.After s x t u e a b c d = refl
-waits_there top nows.Name s x t u e a b c d = refl
-waits_there top (nows.Keyed n) s x t u e a b c d = refl
+waits_on : (d : ℕ) (top : Bool) (now : Now) (s : Known) (x : Outcome)
+    → (waits_now top (now_on d now) (outcome_on d x) || in_segment (now_on d now) (known_on d s)) ≡ (waits_now top now x || in_segment now s)
+waits_on d top (nows.Pending h y) s x = ap (λ w. w || false) (symbol_on d x)
+waits_on d top (nows.Long w y) s x = ap (λ k. k || has_segment (begun_in (known_on d s))) (long_on d top x)
+    ∙ ap (λ k. long_waits top x || k) (segment_on d s)
+waits_on d top (nows.LongName w) s x = ap (λ k. k || false) (long_on d false x)
+waits_on d top nows.Ready s x = refl
+waits_on d top nows.After s x = refl
+waits_on d top nows.Name s x = refl
+waits_on d top (nows.Keyed n) s x = refl
 
--- 4. Tokens.
+-- 4. How long an item is.
 
-within_there : (item item' start start' end end' : ℕ) (x y : Turn) → Turns x y → Turns (within item start end x) (within item' start' end' y)
-within_there i i' s s' e e' x y h = by (nat_le e (s + i)) (nat_le e' (s' + i'))
+less_on : (a b d : ℕ) → (a + d) - (b + d) ≡ a - b
+less_on a b d = omega arith
+
+le_on : (a b c d : ℕ) → nat_le (a + d) ((b + d) + c) ≡ nat_le a (b + c)
+le_on a b c d = by (nat_le (a + d) ((b + d) + c)) (nat_le a (b + c)) refl refl
   where
-    shut' : (t : Turn) → Turns t (refuses reasons.ItemTooLong)
-    shut' (goes r) = tt
-    shut' (gives v r) = tt
-    shut' (refuses f) = tt
-    shut' (late f r) = tt
+    by : (x y : Bool) → nat_le (a + d) ((b + d) + c) ≡ x → nat_le a (b + c) ≡ y → x ≡ y
+    by true true e f = refl
+    by false false e f = refl
+    by true false e f = absurd (grind (arith, nat_tests))
+    by false true e f = absurd (grind (arith, nat_tests))
 
-    by : (b c : Bool) → Turns (if b then x else refuses reasons.ItemTooLong) (if c then y else refuses reasons.ItemTooLong)
-    by true true = h
-    by true false = shut' x
-    by false c = tt
+abbrev begun_on : ℕ → Option Begun → Option Begun
+begun_on d None = None
+begun_on d (Some b) = Some (record { start = b.start + d; end = b.end + d; form = b.form })
 
-same_reading : (start end start' end' : ℕ) (c : List Slot) (fs : List Frame) (ss : Symbols) (now : Now)
-    → Readings (at start c fs ss (now_at end now)) (at start' c fs ss (now_at end' now))
-same_reading s e s' e' c fs ss (nows.Pending h x) = record { begin = s'; end = e'; is = refl }
-same_reading s e s' e' c fs ss (nows.Long w x) = record { begin = s'; end = e'; is = refl }
-same_reading s e s' e' c fs ss nows.Ready = record { begin = s'; end = e'; is = refl }
-same_reading s e s' e' c fs ss nows.After = record { begin = s'; end = e'; is = refl }
-same_reading s e s' e' c fs ss nows.Name = record { begin = s'; end = e'; is = refl }
-same_reading s e s' e' c fs ss (nows.LongName w) = record { begin = s'; end = e'; is = refl }
-same_reading s e s' e' c fs ss (nows.Keyed n) = record { begin = s'; end = e'; is = refl }
+begun_in_on : (d : ℕ) (s : Known) → behind s.mode ≤ s.used → begun_in (known_on d s) ≡ begun_on d (begun_in s)
+begun_in_on d s h = by (is_idle s.mode)
+  where
+    by : (c : Bool) → (if c then None else Some (record { start = s.start + d; end = (s.used + d) - behind s.mode; form = form_of s.mode }))
+        ≡ begun_on d (if c then None else Some (record { start = s.start; end = s.used - behind s.mode; form = form_of s.mode }))
+    by true = refl
+    by false =
+        let less : (s.used + d) - behind s.mode ≡ (s.used - behind s.mode) + d = omega arith in
+        ap (λ n. Some (record { start = s.start + d; end = n; form = form_of s.mode })) less
 
-module _ (g : Catalog) (l l' : Limits) where
-  module _ (end start end' start' : ℕ) (c : List Slot) where
-    turned_there : (d : Result (List Slot) Reason) → Turns (turned l.item start end d) (turned l'.item start' end' d)
-    turned_there (Ok d) = within_there l.item l'.item start start' end end' (goes (fresh d)) (goes (fresh d)) (same_reading 0 0 0 0 d [] [] nows.Ready)
-    turned_there (Err e) = tt
+long_begun_on : (d : ℕ) (b : Option Begun) → is_long_begun (begun_on d b) ≡ is_long_begun b
+long_begun_on d None = refl
+long_begun_on d (Some b) = refl
 
-    ended_there : (fs : List Frame) (v : Value) → Turns (ended (under g l) (spot_at end start c) fs v) (ended (under g l') (spot_at end' start' c) fs v)
-    ended_there [] v = by (is_table v)
+longest_on : (d start used : ℕ) (now : Now) (ss : Symbols) (b : Option Begun) (n : ℕ)
+    → longest_top (start_on d now [] ss start) (used + d) (now_on d now) ss (begun_on d b) n ≡ longest_top start used now ss b n
+longest_on d s u nows.Ready [] None n = refl
+longest_on d s u nows.Ready [] (Some b) n = less_on b.end b.start d
+longest_on d s u nows.Ready (x ∷ ss) None n = less_on u s d
+longest_on d s u nows.Ready (x ∷ ss) (Some b) n = less_on b.end s d
+longest_on d s u (nows.Pending h e) ss b n = less_on e s d
+longest_on d s u (nows.Long w e) ss None n = less_on e s d
+longest_on d s u (nows.Long w e) ss (Some b) n = by (is_long_form b.form && not (n == 0))
+  where
+    by : (c : Bool) → (if c then (b.end + d) - (s + d) else (e + d) - (s + d)) ≡ (if c then b.end - s else e - s)
+    by true = less_on b.end s d
+    by false = less_on e s d
+longest_on d s u nows.After ss b n = refl
+longest_on d s u nows.Name ss b n = refl
+longest_on d s u (nows.LongName w) ss b n = refl
+longest_on d s u (nows.Keyed x) ss b n = refl
+
+inside_on : (d : ℕ) (now : Now) (f : Frame) (fs : List Frame) (ss : Symbols) (start : ℕ) → start_on d now (f ∷ fs) ss start ≡ start + d
+inside_on d nows.Ready f fs ss s = refl
+inside_on d (nows.Pending h e) f fs ss s = refl
+inside_on d (nows.Long w e) f fs ss s = refl
+inside_on d nows.After f fs ss s = refl
+inside_on d nows.Name f fs ss s = refl
+inside_on d (nows.LongName w) f fs ss s = refl
+inside_on d (nows.Keyed x) f fs ss s = refl
+
+reaches_on : (d start : ℕ) (c : List Slot) (fs : List Frame) (ss : Symbols) (now : Now) (s : Known) → behind s.mode ≤ s.used
+    → reaches fs (reading_on d (at start c fs ss now)) (known_on d s) ≡ reaches fs (at start c fs ss now) s
+reaches_on d start c [] ss now s h =
+    let b = begun_in_on d s h in
+    ap (λ x. longest_top (start_on d now [] ss start) (s.used + d) (now_on d now) ss x (is_long_begun x)) b
+    ∙ (ap (longest_top (start_on d now [] ss start) (s.used + d) (now_on d now) ss (begun_on d (begun_in s))) (long_begun_on d (begun_in s))
+    ∙ longest_on d start s.used now ss (begun_in s) (is_long_begun (begun_in s)))
+reaches_on d start c (f ∷ fs) ss now s h = ap (λ n. (s.used + d) - n) (inside_on d now f fs ss start) ∙ less_on s.used start d
+
+shut_on : (d : ℕ) (now : Now) → shut (now_on d now) ≡ shut now
+shut_on d nows.Ready = refl
+shut_on d (nows.Pending h e) = refl
+shut_on d (nows.Long w e) = refl
+shut_on d nows.After = refl
+shut_on d nows.Name = refl
+shut_on d (nows.LongName w) = refl
+shut_on d (nows.Keyed x) = refl
+
+-- 5. Tokens.
+
+begun_at_on : (d start begin : ℕ) (fs : List Frame) (ss : Symbols) → begun_at (ready_on d fs ss start) (begin + d) fs ss ≡ begun_at start begin fs ss + d
+begun_at_on d s i [] [] = refl
+begun_at_on d s i [] (x ∷ ss) = refl
+begun_at_on d s i (f ∷ fs) [] = refl
+begun_at_on d s i (f ∷ fs) (x ∷ ss) = refl
+
+module _ (g : Catalog) (l : Limits) (d : ℕ) where
+  within_on : (item start end : ℕ) (x y : Turn) → y ≡ turn_on d x → within item (start + d) (end + d) y ≡ turn_on d (within item start end x)
+  within_on i s e x y h = ap (λ b. if b then y else refuses reasons.ItemTooLong) (le_on e s i d) ∙ by (nat_le e (s + i))
+    where
+      by : (b : Bool) → (if b then y else refuses reasons.ItemTooLong) ≡ turn_on d (if b then x else refuses reasons.ItemTooLong)
+      by true = h
+      by false = refl
+
+  module _ (end start : ℕ) (c : List Slot) where
+    turned_on : (r : Result (List Slot) Reason) → turned l.item (start + d) (end + d) r ≡ turn_on d (turned l.item start end r)
+    turned_on (Ok c') = within_on l.item start end (goes (fresh c')) (goes (fresh c')) refl
+    turned_on (Err e) = refl
+
+    ended_on : (fs : List Frame) (v : Value)
+        → ended (under g l) (spot_at (end + d) (start + d) c) fs v ≡ turn_on d (ended (under g l) (spot_at end start c) fs v)
+    ended_on [] v = by (is_table v)
       where
-        by : (b : Bool) → Turns (if b then turned l.item start end (next c v g) else within l.item start end (gives v (fresh c)))
-            (if b then turned l'.item start' end' (next c v g) else within l'.item start' end' (gives v (fresh c)))
-        by true = turned_there (next c v g)
-        by false = within_there l.item l'.item start start' end end' (gives v (fresh c)) (gives v (fresh c)) (refl, same_reading 0 0 0 0 c [] [] nows.Ready)
-    ended_there (frames.Items listings.List ss vs ∷ fs) v = same_reading start 0 start' 0 c (frames.Items listings.List ss (vs ++ v ∷ []) ∷ fs) [] nows.After
-    ended_there (frames.Items listings.Sexp ss vs ∷ fs) v = same_reading start 0 start' 0 c (frames.Items listings.Sexp ss (vs ++ v ∷ []) ∷ fs) [] nows.Ready
-    ended_there (frames.Named ss ms name ∷ fs) v = record { begin = start'; end = 0; is = refl }
-    ended_there (frames.Fields ss ms ∷ fs) v = tt
+        by : (b : Bool) → (if b then turned l.item (start + d) (end + d) (next c v g) else within l.item (start + d) (end + d) (gives v (fresh c)))
+            ≡ turn_on d (if b then turned l.item start end (next c v g) else within l.item start end (gives v (fresh c)))
+        by true = turned_on (next c v g)
+        by false = within_on l.item start end (gives v (fresh c)) (gives v (fresh c)) refl
+    ended_on (frames.Items listings.List ss vs ∷ fs) v = refl
+    ended_on (frames.Items listings.Sexp ss vs ∷ fs) v = refl
+    ended_on (frames.Named ss ms name ∷ fs) v = refl
+    ended_on (frames.Fields ss ms ∷ fs) v = refl
 
-    paid_there : (fs : List Frame) (ss : Symbols) (q : Result Payload Reason)
-        → Turns (paid (under g l) (spot_at end start c) fs ss q) (paid (under g l') (spot_at end' start' c) fs ss q)
-    paid_there fs ss (Ok q) = ended_there fs (annotated ss q)
-    paid_there fs ss (Err e) = tt
+    paid_on : (fs : List Frame) (ss : Symbols) (q : Result Payload Reason)
+        → paid (under g l) (spot_at (end + d) (start + d) c) fs ss q ≡ turn_on d (paid (under g l) (spot_at end start c) fs ss q)
+    paid_on fs ss (Ok q) = ended_on fs (annotated ss q)
+    paid_on fs ss (Err e) = refl
 
-    released_there : (fs : List Frame) (ss : Symbols) (h : Held)
-        → Turns (released (under g l) (spot_at end start c) fs ss h) (released (under g l') (spot_at end' start' c) fs ss h)
-    released_there [] [] (helds.Version true s) = within_there l.item l'.item start start' end end' (goes (fresh system_slots)) (goes (fresh system_slots))
-        (same_reading 0 0 0 0 system_slots [] [] nows.Ready)
-    released_there [] [] (helds.Version false s) = tt
-    released_there [] [] (helds.Symbol s) = paid_there [] [] (held_payload (helds.Symbol s))
-    released_there [] [] (helds.Null k) = paid_there [] [] (held_payload (helds.Null k))
-    released_there [] [] (helds.Truth b) = paid_there [] [] (held_payload (helds.Truth b))
-    released_there [] [] helds.Nan = tt
-    released_there [] (s ∷ ss) h = paid_there [] (s ∷ ss) (held_payload h)
-    released_there (f ∷ fs) ss h = paid_there (f ∷ fs) ss (held_payload h)
+    released_on : (fs : List Frame) (ss : Symbols) (h : Held)
+        → released (under g l) (spot_at (end + d) (start + d) c) fs ss h ≡ turn_on d (released (under g l) (spot_at end start c) fs ss h)
+    released_on [] [] (helds.Version true s) = within_on l.item start end (goes (fresh system_slots)) (goes (fresh system_slots)) refl
+    released_on [] [] (helds.Version false s) = refl
+    released_on [] [] (helds.Symbol s) = paid_on [] [] (held_payload (helds.Symbol s))
+    released_on [] [] (helds.Null k) = paid_on [] [] (held_payload (helds.Null k))
+    released_on [] [] (helds.Truth b) = paid_on [] [] (held_payload (helds.Truth b))
+    released_on [] [] helds.Nan = refl
+    released_on [] (s ∷ ss) h = paid_on [] (s ∷ ss) (held_payload h)
+    released_on (f ∷ fs) ss h = paid_on (f ∷ fs) ss (held_payload h)
 
-    closed_there : (bracket : Bracket) (fs : List Frame)
-        → Turns (closed bracket (under g l) (spot_at end start c) fs) (closed bracket (under g l') (spot_at end' start' c) fs)
-    closed_there bracket fs = by bracket fs (closes_or_not bracket fs)
+    closed_on : (bracket : Bracket) (fs : List Frame)
+        → closed bracket (under g l) (spot_at (end + d) (start + d) c) fs ≡ turn_on d (closed bracket (under g l) (spot_at end start c) fs)
+    closed_on bracket fs = by bracket fs (closes_or_not bracket fs)
       where
         by : (bracket : Bracket) (fs : List Frame) → Closes bracket fs
-            → Turns (closed bracket (under g l) (spot_at end start c) fs) (closed bracket (under g l') (spot_at end' start' c) fs)
-        by _ _ (ends_list ss vs fs) = ended_there fs (annotated ss (payloads.List vs))
-        by _ _ (ends_sexp ss vs fs) = ended_there fs (annotated ss (payloads.Sexp vs))
-        by _ _ (ends_struct ss ms fs) = ended_there fs (annotated ss (payloads.Fields ms))
-        by _ _ (ends_none bracket fs e) = subst (λ x. Turns x (closed bracket (under g l') (spot_at end' start' c) fs))
-            (sym (e (under g l) (spot_at end start c)))
-            (subst (Turns unexpected) (sym (e (under g l') (spot_at end' start' c))) tt)
+            → closed bracket (under g l) (spot_at (end + d) (start + d) c) fs ≡ turn_on d (closed bracket (under g l) (spot_at end start c) fs)
+        by _ _ (ends_list ss vs fs) = ended_on fs (annotated ss (payloads.List vs))
+        by _ _ (ends_sexp ss vs fs) = ended_on fs (annotated ss (payloads.Sexp vs))
+        by _ _ (ends_struct ss ms fs) = ended_on fs (annotated ss (payloads.Fields ms))
+        by _ _ (ends_none bracket fs e) =
+            e (under g l) (spot_at (end + d) (start + d) c) ∙ sym (ap (turn_on d) (e (under g l) (spot_at end start c)))
 
-    bare_there : (ss : Symbols) (x y : Turn) → Turns x y → Turns (bare_close ss x) (bare_close ss y)
-    bare_there [] x y h = h
-    bare_there (s ∷ ss) x y h = tt
+    bare_on : (ss : Symbols) (x y : Turn) → y ≡ turn_on d x → bare_close ss y ≡ turn_on d (bare_close ss x)
+    bare_on [] x y h = h
+    bare_on (s ∷ ss) x y h = refl
 
-    deeper_there : (fs : List Frame) (r q : Reading) (x y : Turn) → Readings r q → Turns x (goes q) → ((t : Turn) → Turns t y)
-        → Turns (deeper l.depth fs (goes r) x) (deeper l'.depth fs (goes q) y)
-    deeper_there fs r q x y h k n = by (nat_lt (length fs) l.depth) (nat_lt (length fs) l'.depth)
+    opens_on : (fs : List Frame) (ss : Symbols) (bracket : Bracket)
+        → opening bracket l.depth (start + d) c fs ss ≡ turn_on d (opening bracket l.depth start c fs ss)
+    opens_on fs ss brackets.List = by (nat_lt (length fs) l.depth)
       where
-        by : (b d : Bool) → Turns (if b then goes r else x) (if d then goes q else y)
-        by true true = h
-        by true false = n (goes r)
-        by false true = k
-        by false false = n x
-
-    never : (e : Reason) (t : Turn) → Turns t (refuses e)
-    never e (goes r) = tt
-    never e (gives v r) = tt
-    never e (refuses f) = tt
-    never e (late f r) = tt
-
-    late_never : (e : Reason) (q : Reading) (t : Turn) → Turns t (late e q)
-    late_never e q (goes r) = tt
-    late_never e q (gives v r) = tt
-    late_never e q (refuses f) = tt
-    late_never e q (late f r) = tt
-
-    resolved_there : (f h : Option (List ℕ) → Turn) (r : Result (Option (List ℕ)) Reason) → ((s : Option (List ℕ)) → Turns (f s) (h s))
-        → Turns (resolved r f) (resolved r h)
-    resolved_there f h (Ok s) k = k s
-    resolved_there f h (Err e) k = tt
-
-    waiting : (fs : List Frame) (ss : Symbols) (now : Now) → Readings (at start c fs ss (now_at end now)) (at start' c fs ss (now_at end' now))
-    waiting fs ss now = same_reading start end start' end' c fs ss now
-
-    opens_there : (fs : List Frame) (ss : Symbols) (bracket : Bracket)
-        → ((t : Turn) → Turns t (beyond_depth bracket (at start' c (opened bracket ss ∷ fs) [] (first_now bracket))))
-        → Turns (opening bracket l.depth start c fs ss) (opening bracket l'.depth start' c fs ss)
-    opens_there fs ss bracket h =
-        deeper_there fs (at start c (opened bracket ss ∷ fs) [] (first_now bracket)) (at start' c (opened bracket ss ∷ fs) [] (first_now bracket)) _ _
-        (there bracket) (stops bracket) h
+        by : (b : Bool) → (if b then goes (at (start + d) c (opened brackets.List ss ∷ fs) [] nows.Ready) else refuses reasons.Depth)
+            ≡ turn_on d (if b then goes (at start c (opened brackets.List ss ∷ fs) [] nows.Ready) else refuses reasons.Depth)
+        by true = refl
+        by false = refl
+    opens_on fs ss brackets.Sexp = by (nat_lt (length fs) l.depth)
       where
-        there : (bracket : Bracket)
-            → Readings (at start c (opened bracket ss ∷ fs) [] (first_now bracket)) (at start' c (opened bracket ss ∷ fs) [] (first_now bracket))
-        there brackets.List = record { begin = start'; end = 0; is = refl }
-        there brackets.Sexp = record { begin = start'; end = 0; is = refl }
-        there brackets.Fields = record { begin = start'; end = 0; is = refl }
-
-        stops : (bracket : Bracket) → Turns (beyond_depth bracket (at start c (opened bracket ss ∷ fs) [] (first_now bracket)))
-            (goes (at start' c (opened bracket ss ∷ fs) [] (first_now bracket)))
-        stops brackets.List = tt
-        stops brackets.Sexp = tt
-        stops brackets.Fields = tt
-
-    ready_there : (fs : List Frame) (ss : Symbols) (x : Content)
-        → Turns (on_ready (under g l) (spot_at end start c) fs ss x) (on_ready (under g l') (spot_at end' start' c) fs ss x)
-    ready_there fs ss (Word w) = record { begin = start'; end = end'; is = refl }
-    ready_there fs ss (Id id) =
-        resolved_there (λ s. goes (at start c fs ss (nows.Pending (helds.Symbol s) end))) (λ s. goes (at start' c fs ss (nows.Pending (helds.Symbol s) end')))
-        (resolve c id) (λ s. record { begin = start'; end = end'; is = refl })
-    ready_there fs ss (Quoted w) = record { begin = start'; end = end'; is = refl }
-    ready_there fs ss (TypedNull k) = record { begin = start'; end = end'; is = refl }
-    ready_there fs ss (Long w) = record { begin = start'; end = end'; is = refl }
-    ready_there fs ss (Short w) = ended_there fs (annotated ss (payloads.Str w))
-    ready_there fs ss (Number' n) = ended_there fs (annotated ss (number_payload n))
-    ready_there fs ss (Operator w) = ended_there fs (annotated ss (payloads.Symbol (Some w)))
-    ready_there fs ss (Clob w) = ended_there fs (annotated ss (payloads.Clob w))
-    ready_there fs ss (Blob w) = ended_there fs (annotated ss (payloads.Blob w))
-    ready_there fs ss (Mark' marks.ListOpen) = opens_there fs ss brackets.List (never reasons.Depth)
-    ready_there fs ss (Mark' marks.SexpOpen) = opens_there fs ss brackets.Sexp (never reasons.Depth)
-    ready_there fs ss (Mark' marks.FieldsOpen) = opens_there fs ss brackets.Fields (late_never reasons.Depth _)
-    ready_there fs ss (Mark' marks.ListClose) = bare_there ss (closed brackets.List (under g l) (spot_at end start c) fs)
-        (closed brackets.List (under g l') (spot_at end' start' c) fs) (closed_there brackets.List fs)
-    ready_there fs ss (Mark' marks.SexpClose) = bare_there ss (closed brackets.Sexp (under g l) (spot_at end start c) fs)
-        (closed brackets.Sexp (under g l') (spot_at end' start' c) fs) (closed_there brackets.Sexp fs)
-    ready_there fs ss (Mark' _) = tt
-
-    noted_there : (fs : List Frame) (ss : Symbols) (s : Result (Option (List ℕ)) Reason) → Turns (noted start c fs ss s) (noted start' c fs ss s)
-    noted_there fs ss (Ok s) = record { begin = start'; end = 0; is = refl }
-    noted_there fs ss (Err e) = tt
-
-    comma_there : (fs : List Frame) → Turns (on_comma start c fs) (on_comma start' c fs)
-    comma_there [] = tt
-    comma_there (frames.Items listings.List ss vs ∷ fs) = record { begin = start'; end = 0; is = refl }
-    comma_there (frames.Fields ss ms ∷ fs) = record { begin = start'; end = 0; is = refl }
-    comma_there (frames.Items listings.Sexp ss vs ∷ fs) = tt
-    comma_there (frames.Named ss ms s ∷ fs) = tt
-
-    named_there : (fs : List Frame) (s : Option (List ℕ)) → Turns (named start c fs s) (named start' c fs s)
-    named_there [] s = tt
-    named_there (frames.Fields ss ms ∷ fs) s = record { begin = start'; end = 0; is = refl }
-    named_there (frames.Items listing ss vs ∷ fs) s = tt
-    named_there (frames.Named ss ms n ∷ fs) s = tt
-
-    pending_there : (fs : List Frame) (ss : Symbols) (h : Held) (x : Content) → Turns (on_pending start c fs ss h x) (on_pending start' c fs ss h x)
-    pending_there fs ss h (Mark' marks.Colons) = noted_there fs ss (held_symbol h)
-    pending_there fs ss h _ = tt
-
-    on_long_there : (fs : List Frame) (ss : Symbols) (w : List ℕ) (x : Content)
-        → Turns (on_long (spot_at end start c) fs ss w x) (on_long (spot_at end' start' c) fs ss w x)
-    on_long_there fs ss w (Long w') = record { begin = start'; end = end'; is = refl }
-    on_long_there fs ss w _ = tt
-
-    after_there : (fs : List Frame) (x : Content) → Turns (on_after (under g l) (spot_at end start c) fs x) (on_after (under g l') (spot_at end' start' c) fs x)
-    after_there fs (Mark' marks.FieldsClose) = closed_there brackets.Fields fs
-    after_there fs (Mark' marks.ListClose) = closed_there brackets.List fs
-    after_there fs (Mark' marks.Comma) = comma_there fs
-    after_there fs _ = tt
-
-    name_there : (fs : List Frame) (x : Content) → Turns (on_name (under g l) (spot_at end start c) fs x) (on_name (under g l') (spot_at end' start' c) fs x)
-    name_there fs (Word w') = by (is_keyword w')
+        by : (b : Bool) → (if b then goes (at (start + d) c (opened brackets.Sexp ss ∷ fs) [] nows.Ready) else refuses reasons.Depth)
+            ≡ turn_on d (if b then goes (at start c (opened brackets.Sexp ss ∷ fs) [] nows.Ready) else refuses reasons.Depth)
+        by true = refl
+        by false = refl
+    opens_on fs ss brackets.Fields = by (nat_lt (length fs) l.depth)
       where
-        by : (b : Bool) → Turns (if b then late reasons.KeywordAsName (keyed start c fs (Some w')) else goes (keyed start c fs (Some w')))
-            (if b then late reasons.KeywordAsName (keyed start' c fs (Some w')) else goes (keyed start' c fs (Some w')))
-        by true = tt
-        by false = record { begin = start'; end = 0; is = refl }
-    name_there fs (Id id) = resolved_there (λ s. goes (keyed start c fs s)) (λ s. goes (keyed start' c fs s)) (resolve c id)
-        (λ s. record { begin = start'; end = 0; is = refl })
-    name_there fs (Quoted w') = record { begin = start'; end = 0; is = refl }
-    name_there fs (Short w') = record { begin = start'; end = 0; is = refl }
-    name_there fs (Long w') = record { begin = start'; end = 0; is = refl }
-    name_there fs (Mark' marks.FieldsClose) = closed_there brackets.Fields fs
-    name_there fs _ = tt
+        by : (b : Bool) → (if b then goes (at (start + d) c (opened brackets.Fields ss ∷ fs) [] nows.Name)
+            else late reasons.Depth (at (start + d) c (opened brackets.Fields ss ∷ fs) [] nows.Name))
+            ≡ turn_on d (if b then goes (at start c (opened brackets.Fields ss ∷ fs) [] nows.Name)
+            else late reasons.Depth (at start c (opened brackets.Fields ss ∷ fs) [] nows.Name))
+        by true = refl
+        by false = refl
 
-    long_name_there : (fs : List Frame) (w : List ℕ) (x : Content) → Turns (on_long_name start c fs w x) (on_long_name start' c fs w x)
-    long_name_there fs w (Long w') = record { begin = start'; end = 0; is = refl }
-    long_name_there fs w _ = tt
+    resolved_on : (f h : Option (List ℕ) → Turn) (r : Result (Option (List ℕ)) Reason) → ((s : Option (List ℕ)) → h s ≡ turn_on d (f s))
+        → resolved r h ≡ turn_on d (resolved r f)
+    resolved_on f h (Ok s) k = k s
+    resolved_on f h (Err e) k = refl
 
-    keyed_there : (fs : List Frame) (s : Option (List ℕ)) (x : Content) → Turns (on_keyed start c fs s x) (on_keyed start' c fs s x)
-    keyed_there fs s (Mark' marks.Colon) = named_there fs s
-    keyed_there fs s _ = tt
+    on_ready_on : (fs : List Frame) (ss : Symbols) (x : Content)
+        → on_ready (under g l) (spot_at (end + d) (start + d) c) fs ss x ≡ turn_on d (on_ready (under g l) (spot_at end start c) fs ss x)
+    on_ready_on fs ss (Word w) = refl
+    on_ready_on fs ss (Id id) =
+        resolved_on (λ s. goes (at start c fs ss (nows.Pending (helds.Symbol s) end)))
+        (λ s. goes (at (start + d) c fs ss (nows.Pending (helds.Symbol s) (end + d)))) (resolve c id) (λ s. refl)
+    on_ready_on fs ss (Quoted w) = refl
+    on_ready_on fs ss (TypedNull k) = refl
+    on_ready_on fs ss (Long w) = refl
+    on_ready_on fs ss (Short w) = ended_on fs (annotated ss (payloads.Str w))
+    on_ready_on fs ss (Number' n) = ended_on fs (annotated ss (number_payload n))
+    on_ready_on fs ss (Operator w) = ended_on fs (annotated ss (payloads.Symbol (Some w)))
+    on_ready_on fs ss (Clob w) = ended_on fs (annotated ss (payloads.Clob w))
+    on_ready_on fs ss (Blob w) = ended_on fs (annotated ss (payloads.Blob w))
+    on_ready_on fs ss (Mark' marks.ListOpen) = opens_on fs ss brackets.List
+    on_ready_on fs ss (Mark' marks.SexpOpen) = opens_on fs ss brackets.Sexp
+    on_ready_on fs ss (Mark' marks.FieldsOpen) = opens_on fs ss brackets.Fields
+    on_ready_on fs ss (Mark' marks.ListClose) =
+        bare_on ss (closed brackets.List (under g l) (spot_at end start c) fs) (closed brackets.List (under g l) (spot_at (end + d) (start + d) c) fs)
+        (closed_on brackets.List fs)
+    on_ready_on fs ss (Mark' marks.SexpClose) =
+        bare_on ss (closed brackets.Sexp (under g l) (spot_at end start c) fs) (closed brackets.Sexp (under g l) (spot_at (end + d) (start + d) c) fs)
+        (closed_on brackets.Sexp fs)
+    on_ready_on fs ss (Mark' _) = refl
 
-  turn_there : (start begin : ℕ) (c : List Slot) (fs : List Frame) (ss : Symbols) (now : Now) (end from to from' to' : ℕ) (x : Content)
-      → Turns (turn g l (at start c fs ss now) (token_at from to x)) (turn g l' (at begin c fs ss (now_at end now)) (token_at from' to' x))
-  turn_there s t c fs ss nows.Ready e i j i' j' x = ready_there j (begun_at s i fs ss) j' (begun_at t i' fs ss) c fs ss x
-  turn_there s t c fs ss (nows.Pending h y) e i j i' j' x = pending_there j s j' t c fs ss h x
-  turn_there s t c fs ss (nows.Long w y) e i j i' j' x = on_long_there j s j' t c fs ss w x
-  turn_there s t c fs ss nows.After e i j i' j' x = after_there j s j' t c fs x
-  turn_there s t c fs ss nows.Name e i j i' j' x = name_there j s j' t c fs x
-  turn_there s t c fs ss (nows.LongName w) e i j i' j' x = long_name_there j s j' t c fs w x
-  turn_there s t c fs ss (nows.Keyed n) e i j i' j' x = keyed_there j s j' t c fs n x
+    noted_on : (fs : List Frame) (ss : Symbols) (s : Result (Option (List ℕ)) Reason) → noted (start + d) c fs ss s ≡ turn_on d (noted start c fs ss s)
+    noted_on [] [] (Ok s) = refl
+    noted_on [] (x ∷ ss) (Ok s) = refl
+    noted_on (f ∷ fs) ss (Ok s) = refl
+    noted_on [] [] (Err e) = refl
+    noted_on [] (x ∷ ss) (Err e) = refl
+    noted_on (f ∷ fs) ss (Err e) = refl
 
-  settle_there : (start begin : ℕ) (c : List Slot) (fs : List Frame) (ss : Symbols) (now : Now) (end : ℕ)
-      → Turns (settle g l (at start c fs ss now)) (settle g l' (at begin c fs ss (now_at end now)))
-  settle_there s t c fs ss (nows.Pending h y) e = released_there y s e t c fs ss h
-  settle_there s t c fs ss (nows.Long w y) e = ended_there y s e t c fs (annotated ss (payloads.Str w))
-  settle_there s t c fs ss (nows.LongName w) e = record { begin = t; end = 0; is = refl }
-  settle_there s t c fs ss nows.Ready e = record { begin = t; end = 0; is = refl }
-  settle_there s t c fs ss nows.After e = record { begin = t; end = 0; is = refl }
-  settle_there s t c fs ss nows.Name e = record { begin = t; end = 0; is = refl }
-  settle_there s t c fs ss (nows.Keyed n) e = record { begin = t; end = 0; is = refl }
+    comma_on : (fs : List Frame) → on_comma (start + d) c fs ≡ turn_on d (on_comma start c fs)
+    comma_on [] = refl
+    comma_on (frames.Items listings.List ss vs ∷ fs) = refl
+    comma_on (frames.Fields ss ms ∷ fs) = refl
+    comma_on (frames.Items listings.Sexp ss vs ∷ fs) = refl
+    comma_on (frames.Named ss ms s ∷ fs) = refl
 
-  -- 5. Octets.
+    named_on : (fs : List Frame) (s : Option (List ℕ)) → named (start + d) c fs s ≡ turn_on d (named start c fs s)
+    named_on [] s = refl
+    named_on (frames.Fields ss ms ∷ fs) s = refl
+    named_on (frames.Items listing ss vs ∷ fs) s = refl
+    named_on (frames.Named ss ms n ∷ fs) s = refl
 
-  or_fails : (x : Effect) (e : Reason) → Effects x (fails e)
-  or_fails (uses m) e = tt
-  or_fails (tells v m) e = tt
-  or_fails (leaves v m) e = tt
-  or_fails (fails f) e = tt
+    pending_on : (fs : List Frame) (ss : Symbols) (h : Held) (x : Content) → on_pending (start + d) c fs ss h x ≡ turn_on d (on_pending start c fs ss h x)
+    pending_on fs ss h (Mark' marks.Colons) = noted_on fs ss (held_symbol h)
+    pending_on fs ss h _ = refl
 
-  worse_here : (e : Reason) (x y : Effect) → Effects (or_worse e x) y
-  worse_here e (uses m) y = tt
-  worse_here e (tells v m) y = tt
-  worse_here e (leaves v m) y = tt
-  worse_here e (fails f) y = tt
+    on_long_on : (fs : List Frame) (ss : Symbols) (w : List ℕ) (x : Content)
+        → on_long (spot_at (end + d) (start + d) c) fs ss w x ≡ turn_on d (on_long (spot_at end start c) fs ss w x)
+    on_long_on fs ss w (Long w') = refl
+    on_long_on fs ss w _ = refl
 
-  worse_there : (e : Reason) (x y : Effect) → Effects x (or_worse e y)
-  worse_there e x (uses m) = or_fails x e
-  worse_there e x (tells v m) = or_fails x e
-  worse_there e x (leaves v m) = or_fails x e
-  worse_there e x (fails f) = or_fails x (lesser e f)
+    after_on : (fs : List Frame) (x : Content)
+        → on_after (under g l) (spot_at (end + d) (start + d) c) fs x ≡ turn_on d (on_after (under g l) (spot_at end start c) fs x)
+    after_on fs (Mark' marks.FieldsClose) = closed_on brackets.Fields fs
+    after_on fs (Mark' marks.ListClose) = closed_on brackets.List fs
+    after_on fs (Mark' marks.Comma) = comma_on fs
+    after_on fs _ = refl
 
-  states : (s : Known) (start used : ℕ) (r q : Reading) → Readings r q → States (with_scan s r) (with_scan (known_at start used s) q)
-  states s a b r q h = record { start = a; used = b; begin = h.begin; end = h.end; is = ap (with_scan (known_at a b s)) h.is }
+    name_on : (fs : List Frame) (x : Content)
+        → on_name (under g l) (spot_at (end + d) (start + d) c) fs x ≡ turn_on d (on_name (under g l) (spot_at end start c) fs x)
+    name_on fs (Word w) = by (is_keyword w)
+      where
+        by : (b : Bool) → (if b then late reasons.KeywordAsName (at (start + d) c fs [] (nows.Keyed (Some w)))
+            else goes (at (start + d) c fs [] (nows.Keyed (Some w))))
+            ≡ turn_on d (if b then late reasons.KeywordAsName (at start c fs [] (nows.Keyed (Some w))) else goes (at start c fs [] (nows.Keyed (Some w))))
+        by true = refl
+        by false = refl
+    name_on fs (TypedNull k) = refl
+    name_on fs (Id id) =
+        resolved_on (λ s. goes (at start c fs [] (nows.Keyed s))) (λ s. goes (at (start + d) c fs [] (nows.Keyed s))) (resolve c id) (λ s. refl)
+    name_on fs (Quoted w) = refl
+    name_on fs (Short w) = refl
+    name_on fs (Long w) = refl
+    name_on fs (Mark' marks.FieldsClose) = closed_on brackets.Fields fs
+    name_on fs _ = refl
 
-  noticed_there : (s : Known) (start used : ℕ) (r q : Reading) → Readings r q → Effects (noticed l r s) (noticed l' q (known_at start used s))
-  noticed_there s a b r q h = by (shut r.now && not (is_idle s.mode)) (nat_le (reaches r.frames r s) l.item) (shut q.now && not (is_idle s.mode))
-      (nat_le (reaches q.frames q (known_at a b s)) l'.item)
+    long_name_on : (fs : List Frame) (w : List ℕ) (x : Content) → on_long_name (start + d) c fs w x ≡ turn_on d (on_long_name start c fs w x)
+    long_name_on fs w (Long w') = refl
+    long_name_on fs w _ = refl
+
+    keyed_on : (fs : List Frame) (s : Option (List ℕ)) (x : Content) → on_keyed (start + d) c fs s x ≡ turn_on d (on_keyed start c fs s x)
+    keyed_on fs s (Mark' marks.Colon) = named_on fs s
+    keyed_on fs s _ = refl
+
+  turns_on : (start : ℕ) (c : List Slot) (fs : List Frame) (ss : Symbols) (now : Now) (from to : ℕ) (x : Content)
+      → turn g l (reading_on d (at start c fs ss now)) (token_at (from + d) (to + d) x) ≡ turn_on d (turn g l (at start c fs ss now) (token_at from to x))
+  turns_on s c fs ss nows.Ready i j x =
+      ap (λ n. on_ready (under g l) (spot_at (j + d) n c) fs ss x) (begun_at_on d s i fs ss) ∙ on_ready_on j (begun_at s i fs ss) c fs ss x
+  turns_on s c fs ss (nows.Pending h y) i j x = pending_on j s c fs ss h x
+  turns_on s c fs ss (nows.Long w y) i j x = on_long_on j s c fs ss w x
+  turns_on s c fs ss nows.After i j x = after_on j s c fs x
+  turns_on s c fs ss nows.Name i j x = name_on j s c fs x
+  turns_on s c fs ss (nows.LongName w) i j x = long_name_on j s c fs w x
+  turns_on s c fs ss (nows.Keyed n) i j x = keyed_on j s c fs n x
+
+  settles_on : (start : ℕ) (c : List Slot) (fs : List Frame) (ss : Symbols) (now : Now)
+      → settle g l (reading_on d (at start c fs ss now)) ≡ turn_on d (settle g l (at start c fs ss now))
+  settles_on s c fs ss (nows.Pending h y) = released_on y s c fs ss h
+  settles_on s c fs ss (nows.Long w y) = ended_on y s c fs (annotated ss (payloads.Str w))
+  settles_on s c fs ss (nows.LongName w) = refl
+  settles_on s c fs ss nows.Ready = refl
+  settles_on s c fs ss nows.After = refl
+  settles_on s c fs ss nows.Name = refl
+  settles_on s c fs ss (nows.Keyed n) = refl
+
+  -- 6. Octets.
+
+  worse_on : (e : Reason) (x : Effect) → or_worse e (effect_on d x) ≡ effect_on d (or_worse e x)
+  worse_on e (uses m) = refl
+  worse_on e (tells v m) = refl
+  worse_on e (leaves v m) = refl
+  worse_on e (fails f) = refl
+
+  noticed_on : (r : Reading) (s : Known) → behind s.mode ≤ s.used → noticed l (reading_on d r) (known_on d s) ≡ effect_on d (noticed l r s)
+  noticed_on r s h =
+      ap (λ b. if b && not (is_idle s.mode) then fails reasons.Unexpected
+      else (if nat_le (reaches r.frames (reading_on d r) (known_on d s)) l.item then uses (with_scan (known_on d s) (reading_on d r))
+      else fails reasons.ItemTooLong)) (shut_on d r.now)
+      ∙ (ap (λ n. if shut r.now && not (is_idle s.mode) then fails reasons.Unexpected
+      else (if nat_le n l.item then uses (with_scan (known_on d s) (reading_on d r)) else fails reasons.ItemTooLong))
+      (reaches_on d r.start r.context r.frames r.notes r.now s h)
+      ∙ by (shut r.now && not (is_idle s.mode)) (nat_le (reaches r.frames r s) l.item))
     where
-      by : (i j i' j' : Bool) → Effects (if i then fails reasons.Unexpected else (if j then uses (with_scan s r) else fails reasons.ItemTooLong))
-          (if i' then fails reasons.Unexpected else (if j' then uses (with_scan (known_at a b s) q) else fails reasons.ItemTooLong))
-      by true j i' j' = tt
-      by false false i' j' = tt
-      by false true true j' = tt
-      by false true false false = tt
-      by false true false true = states s a b r q h
+      by : (b c : Bool) → (if b then fails reasons.Unexpected
+          else (if c then uses (with_scan (known_on d s) (reading_on d r)) else fails reasons.ItemTooLong))
+          ≡ effect_on d (if b then fails reasons.Unexpected else (if c then uses (with_scan s r) else fails reasons.ItemTooLong))
+      by true c = refl
+      by false true = refl
+      by false false = refl
 
-  given_there : (s : Known) (start used : ℕ) (x y : Turn) → Turns x y → Effects (behind_given l s x) (behind_given l' (known_at start used s) y)
-  given_there s a b (goes r) (goes q) h = noticed_there s a b r q h
-  given_there s a b (goes r) (gives w q) h = absurd h
-  given_there s a b (goes r) (refuses e) h = or_fails (noticed l r s) e
-  given_there s a b (goes r) (late e q) h = worse_there e (noticed l r s) (noticed l' q (known_at a b s))
-  given_there s a b (gives v r) (gives w q) h = (h.0, states s a b r q h.1)
-  given_there s a b (gives v r) (goes q) h = absurd h
-  given_there s a b (gives v r) (refuses e) h = tt
-  given_there s a b (gives v r) (late e q) h = worse_there e (tells v (with_scan s r)) (noticed l' q (known_at a b s))
-  given_there s a b (refuses e) y h = tt
-  given_there s a b (late e r) y h = worse_here e (noticed l r s) (behind_given l' (known_at a b s) y)
+  behind_given_on : (s : Known) (t : Turn) → behind s.mode ≤ s.used → behind_given l (known_on d s) (turn_on d t) ≡ effect_on d (behind_given l s t)
+  behind_given_on s (goes r) h = noticed_on r s h
+  behind_given_on s (gives v r) h = refl
+  behind_given_on s (refuses e) h = refl
+  behind_given_on s (late e r) h = ap (or_worse e) (noticed_on r s h) ∙ worse_on e (noticed l r s)
 
-  module _ (again again' : State → Effect) (on : (m n : State) → States m n → Effects (again m) (again' n)) where
-    left_there : (s : Known) (start used : ℕ) (x y : Turn) → Turns x y → Effects (behind_left again s x) (behind_left again' (known_at start used s) y)
-    left_there s a b (goes r) (goes q) h = on (with_scan s r) (with_scan (known_at a b s) q) (states s a b r q h)
-    left_there s a b (goes r) (gives w q) h = absurd h
-    left_there s a b (goes r) (refuses e) h = or_fails (again (with_scan s r)) e
-    left_there s a b (goes r) (late e q) h = worse_there e (again (with_scan s r)) (again' (with_scan (known_at a b s) q))
-    left_there s a b (gives v r) (gives w q) h = (h.0, states s a b r q h.1)
-    left_there s a b (gives v r) (goes q) h = absurd h
-    left_there s a b (gives v r) (refuses e) h = tt
-    left_there s a b (gives v r) (late e q) h = worse_there e (leaves v (with_scan s r)) (again' (with_scan (known_at a b s) q))
-    left_there s a b (refuses e) y h = tt
-    left_there s a b (late e r) y h = worse_here e (again (with_scan s r)) (behind_left again' (known_at a b s) y)
+  said_on : (f h : Content → Effect) (q : Result Content Reason) → ((c : Content) → h c ≡ effect_on d (f c)) → on_said q h ≡ effect_on d (on_said q f)
+  said_on f h (Ok c) k = k c
+  said_on f h (Err e) k = refl
 
-    said_there : (f h : Content → Effect) (c : Result Content Reason) → ((c : Content) → Effects (f c) (h c)) → Effects (on_said c f) (on_said c h)
-    said_there f h (Ok c) k = k c
-    said_there f h (Err e) k = tt
+  module _ (again : State → Effect) where
+    -- what comes again does the same further on
+    abbrev Again : Known → Type 0
+    Again s = (r : Reading) → again (with_scan (known_on d s) (reading_on d r)) ≡ effect_on d (again (with_scan s r))
 
-    scan_there : (r : Reading) (begin end : ℕ) (x : Outcome) (start used from to : ℕ)
-        → Effects (on_scan g l again r x) (on_scan g l' again' (reading_at begin end r) (outcome_at start used from to x))
-    scan_there r t e (Next s) a b i j = noticed_there s a b r (reading_at t e r) (record { begin = t; end = e; is = refl })
-    scan_there r t e (Given x s) a b i j =
-        said_there (λ c. behind_given l s (turn g l r (token_of x c)))
-        (λ c. behind_given l' (known_at a b s) (turn g l' (reading_at t e r) (token_of (lexeme_at i j x) c))) (said x.kind x.octets)
-        (λ c. given_there s a b (turn g l r (token_of x c)) (turn g l' (reading_at t e r) (token_of (lexeme_at i j x) c))
-        (turn_there r.start t r.context r.frames r.notes r.now e x.start x.end i j c))
-    scan_there r t e (Left x s) a b i j =
-        said_there (λ c. behind_left again s (turn g l r (token_of x c)))
-        (λ c. behind_left again' (known_at a b s) (turn g l' (reading_at t e r) (token_of (lexeme_at i j x) c))) (said x.kind x.octets)
-        (λ c. left_there s a b (turn g l r (token_of x c)) (turn g l' (reading_at t e r) (token_of (lexeme_at i j x) c))
-        (turn_there r.start t r.context r.frames r.notes r.now e x.start x.end i j c))
-    scan_there r t e (Refused n y) a b i j = tt
+    -- as far as an outcome leads to what is noticed or comes again
+    abbrev Leads : Outcome → Type 0
+    Leads (Next s) = behind s.mode ≤ s.used
+    Leads (Given x s) = behind s.mode ≤ s.used
+    Leads (Left x s) = Again s
+    Leads (Refused n e) = Unit {0}
 
-    settled_there : (s : Known) (start used : ℕ) (x : Outcome) (start' used' from to : ℕ) (y z : Turn) → Turns y z
-        → Effects (on_settled g l again s x y) (on_settled g l' again' (known_at start used s) (outcome_at start' used' from to x) z)
-    settled_there s a b x a' b' i j (goes r) (goes q) h =
-        subst (λ q. Effects (on_scan g l again r x) (on_scan g l' again' q (outcome_at a' b' i j x))) (sym h.is) (scan_there r h.begin h.end x a' b' i j)
-    settled_there s a b x a' b' i j (goes r) (gives w q) h = absurd h
-    settled_there s a b x a' b' i j (goes r) (refuses e) h = or_fails (on_scan g l again r x) e
-    settled_there s a b x a' b' i j (goes r) (late e q) h = worse_there e (on_scan g l again r x) (on_scan g l' again' q (outcome_at a' b' i j x))
-    settled_there s a b x a' b' i j (gives v r) (gives w q) h = (h.0, states s a b r q h.1)
-    settled_there s a b x a' b' i j (gives v r) (goes q) h = absurd h
-    settled_there s a b x a' b' i j (gives v r) (refuses e) h = tt
-    settled_there s a b x a' b' i j (gives v r) (late e q) h = worse_there e (leaves v (with_scan s r)) (on_scan g l' again' q (outcome_at a' b' i j x))
-    settled_there s a b x a' b' i j (refuses e) z h = tt
-    settled_there s a b x a' b' i j (late e r) z h = worse_here e (on_scan g l again r x) (on_settled g l' again' (known_at a b s) (outcome_at a' b' i j x) z)
+    behind_left_on : (s : Known) (t : Turn) → Again s → behind_left again (known_on d s) (turn_on d t) ≡ effect_on d (behind_left again s t)
+    behind_left_on s (goes r) h = h r
+    behind_left_on s (gives v r) h = refl
+    behind_left_on s (refuses e) h = refl
+    behind_left_on s (late e r) h = ap (or_worse e) (h r) ∙ worse_on e (again (with_scan s r))
 
-    octet_there : (m : State) (start used begin end : ℕ) (x : Outcome) (start' used' from to : ℕ)
-        → Effects (on_octet g l again m x) (on_octet g l' again' (state_at start used begin end m) (outcome_at start' used' from to x))
-    octet_there m a b t e x a' b' i j =
-        subst (λ k. Effects (on_octet g l again m x) (if k then there else elsewhere))
-        (sym (waits_there (is_top m.reading.frames) m.reading.now m.scan x a b e a' b' i j)) (by (unsettled m.scan m.reading x))
+    scans_on : (r : Reading) (x : Outcome) → Leads x → on_scan g l again (reading_on d r) (outcome_on d x) ≡ effect_on d (on_scan g l again r x)
+    scans_on r (Next s) h = noticed_on r s h
+    scans_on r (Given x s) h =
+        said_on (λ c. behind_given l s (turn g l r (token_of x c)))
+        (λ c. behind_given l (known_on d s) (turn g l (reading_on d r) (token_of (lexeme_on d x) c))) (said x.kind x.octets)
+        (λ c. ap (behind_given l (known_on d s)) (turns_on r.start r.context r.frames r.notes r.now x.start x.end c)
+        ∙ behind_given_on s (turn g l r (token_of x c)) h)
+    scans_on r (Left x s) h =
+        said_on (λ c. behind_left again s (turn g l r (token_of x c)))
+        (λ c. behind_left again (known_on d s) (turn g l (reading_on d r) (token_of (lexeme_on d x) c))) (said x.kind x.octets)
+        (λ c. ap (behind_left again (known_on d s)) (turns_on r.start r.context r.frames r.notes r.now x.start x.end c)
+        ∙ behind_left_on s (turn g l r (token_of x c)) h)
+    scans_on r (Refused n e) h = refl
+
+    settled_on : (s : Known) (x : Outcome) (t : Turn) → Leads x
+        → on_settled g l again (known_on d s) (outcome_on d x) (turn_on d t) ≡ effect_on d (on_settled g l again s x t)
+    settled_on s x (goes r) h = scans_on r x h
+    settled_on s x (gives v r) h = refl
+    settled_on s x (refuses e) h = refl
+    settled_on s x (late e r) h = ap (or_worse e) (scans_on r x h) ∙ worse_on e (on_scan g l again r x)
+
+    octet_on : (m : State) (x : Outcome) → Leads x → on_octet g l again (state_on d m) (outcome_on d x) ≡ effect_on d (on_octet g l again m x)
+    octet_on m x h =
+        ap (λ k. if k then on_scan g l again (reading_on d m.reading) (outcome_on d x)
+        else on_settled g l again (known_on d m.scan) (outcome_on d x) (settle g l (reading_on d m.reading)))
+        (waits_on d (is_top m.reading.frames) m.reading.now m.scan x)
+        ∙ by (unsettled m.scan m.reading x)
       where
-        there : Effect
-        there = on_scan g l' again' (reading_at t e m.reading) (outcome_at a' b' i j x)
+        by : (k : Bool) → (if k then on_scan g l again (reading_on d m.reading) (outcome_on d x)
+            else on_settled g l again (known_on d m.scan) (outcome_on d x) (settle g l (reading_on d m.reading)))
+            ≡ effect_on d (if k then on_scan g l again m.reading x else on_settled g l again m.scan x (settle g l m.reading))
+        by true = scans_on m.reading x h
+        by false =
+            ap (on_settled g l again (known_on d m.scan) (outcome_on d x))
+            (settles_on m.reading.start m.reading.context m.reading.frames m.reading.notes m.reading.now) ∙ settled_on m.scan x (settle g l m.reading) h
 
-        elsewhere : Effect
-        elsewhere = on_settled g l' again' (known_at a b m.scan) (outcome_at a' b' i j x) (settle g l' (reading_at t e m.reading))
+-- 7. A scanner stays steady.
 
-        by : (k : Bool) → Effects (if k then on_scan g l again m.reading x else on_settled g l again m.scan x (settle g l m.reading))
-            (if k then there else elsewhere)
-        by true = scan_there m.reading t e x a' b' i j
-        by false = settled_there m.scan a b x a' b' i j (settle g l m.reading) (settle g l' (reading_at t e m.reading))
-            (settle_there m.reading.start t m.reading.context m.reading.frames m.reading.notes m.reading.now e)
+-- it is, and no more octets were used
+record Kept (most : ℕ) (s : Known) : Type 0 where
+  looked : ℕ
+  steady : IsSteady s looked
+  few : s.used ≤ most
 
-  abbrev Takes : ℕ → ℕ → Type 0
-  Takes k o = (m : State) (start used begin end : ℕ) → Effects (takes g l k m o) (takes g l' k (state_at start used begin end m) o)
+abbrev UsesOne : ℕ → Outcome → Type 0
+UsesOne n (Next s) = s.used ≤ n + 1
+UsesOne n (Given x s) = s.used ≤ n + 1
+UsesOne n (Left x s) = s.used ≤ n
+UsesOne n (Refused k e) = Unit {0}
 
-  once_more_there : (k o : ℕ) → Takes k o → Takes (suc k) o
-  once_more_there k o rest m a b t e =
-      subst (λ y. Effects (on_octet g l (λ n. takes g l k n o) m (feed (place m.reading) m.scan o))
-      (on_octet g l' (λ n. takes g l' k n o) (state_at a b t e m) y)) (sym is)
-      (octet_there (λ n. takes g l k n o) (λ n. takes g l' k n o) on m a b t e (feed (place m.reading) m.scan o) f.start f.used f.from f.to)
+abbrev KeptIn : ℕ → Outcome → Type 0
+KeptIn n (Next s) = Kept (n + 1) s
+KeptIn n (Given x s) = Kept (n + 1) s
+KeptIn n (Left x s) = Kept n s
+KeptIn n (Refused k e) = Unit {0}
+
+abbrev KeptBy : ℕ → Effect → Type 0
+KeptBy n (uses m) = Kept (n + 1) m.scan
+KeptBy n (tells v m) = Kept (n + 1) m.scan
+KeptBy n (leaves v m) = Kept n m.scan
+KeptBy n (fails e) = Unit {0}
+
+acts_one : (p : Place) (s : Known) (o n : ℕ) (x : Action) → s.used ≤ n → UsesOne n (acts p s o x)
+acts_one p s o n (actions.Go m k) h = omega arith
+acts_one p s o n (actions.Give kind k) h = omega arith
+acts_one p s o n (actions.Before kind k m) h = h
+acts_one p s o n actions.EndWord h = by ((o == 46) && bytes_eq s.kept (codes "null"))
+  where
+    by : (c : Bool) → UsesOne n (if c then Next (go_to s modes.KindName [])
+        else Left (cut s kinds.Word s.kept s.used) (past p kinds.Word modes.Blank [] s.used s.used))
+    by true = omega arith
+    by false = h
+acts_one p s o n (actions.Split k) h = h
+acts_one p s o n actions.EndBlob h = by (blob_of s.kept)
+  where
+    by : (c : Option (List ℕ)) → UsesOne n (blob_ends s c)
+    by None = tt
+    by (Some octets) = omega arith
+acts_one p s o n (actions.Refuse e) h = tt
+
+kept_in : (x : Outcome) (n looked : ℕ) → StaysSteady x looked → UsesOne n x → KeptIn n x
+kept_in (Next s) n k h u = record { looked = k; steady = h; few = u }
+kept_in (Given x s) n k h u = record { looked = k; steady = h; few = u }
+kept_in (Left x s) n k h u = record { looked = k; steady = h; few = u }
+kept_in (Refused i e) n k h u = tt
+
+feed_kept : (p : Place) (s : Known) (o n : ℕ) → Kept n s → n < 2 ^ 63 → KeptIn n (feed p s o)
+feed_kept p s o n h room =
+    let few = h.few in
+    kept_in (feed p s o) n (h.looked + 1) (feed_steady p s o h.looked h.steady (omega arith)) (acts_one p s o n (table.next p s.colon s.mode o) few)
+
+unkept_used : (n : ℕ) (s : Known) → Kept n s → unkept s.mode ≤ s.used
+unkept_used n s h = let w = h.steady.within in omega arith
+
+behind_used : (n : ℕ) (s : Known) → Kept n s → behind s.mode ≤ s.used
+behind_used n s h = let w = unkept_used n s h in let b = behind_before s.mode in omega arith
+
+kept_worse : (n : ℕ) (e : Reason) (x : Effect) → KeptBy n (or_worse e x)
+kept_worse n e (uses m) = tt
+kept_worse n e (tells v m) = tt
+kept_worse n e (leaves v m) = tt
+kept_worse n e (fails f) = tt
+
+module _ (g : Catalog) (l : Limits) where
+  noticed_kept : (n : ℕ) (r : Reading) (s : Known) → Kept (n + 1) s → KeptBy n (noticed l r s)
+  noticed_kept n r s h = by (shut r.now && not (is_idle s.mode)) (nat_le (reaches r.frames r s) l.item)
     where
-      f : Outcomes (feed (place m.reading) m.scan o) (feed (place m.reading) (known_at a b m.scan) o)
-      f = feed_there (place m.reading) m.scan a b o
+      by : (b c : Bool) → KeptBy n (if b then fails reasons.Unexpected else (if c then uses (with_scan s r) else fails reasons.ItemTooLong))
+      by true c = tt
+      by false true = h
+      by false false = tt
 
-      is : feed (place (reading_at t e m.reading)) (known_at a b m.scan) o ≡ outcome_at f.start f.used f.from f.to (feed (place m.reading) m.scan o)
-      is = ap (λ p. feed p (known_at a b m.scan) o) (place_there m.reading.frames m.reading.now e) ∙ f.is
+  given_kept : (n : ℕ) (s : Known) (t : Turn) → Kept (n + 1) s → KeptBy n (behind_given l s t)
+  given_kept n s (goes r) h = noticed_kept n r s h
+  given_kept n s (gives v r) h = h
+  given_kept n s (refuses e) h = tt
+  given_kept n s (late e r) h = kept_worse n e (noticed l r s)
 
-      on : (n q : State) → States n q → Effects (takes g l k n o) (takes g l' k q o)
-      on n q h = subst (λ q. Effects (takes g l k n o) (takes g l' k q o)) (sym h.is) (rest n h.start h.used h.begin h.end)
+  said_kept : (n : ℕ) (f : Content → Effect) (q : Result Content Reason) → ((c : Content) → KeptBy n (f c)) → KeptBy n (on_said q f)
+  said_kept n f (Ok c) k = k c
+  said_kept n f (Err e) k = tt
 
-  takes_there : (k o : ℕ) → Takes k o
-  takes_there zero o = λ m a b t e. tt
-  takes_there (suc k) o = once_more_there k o (takes_there k o)
+  module _ (n : ℕ) (again : State → Effect) (kept : (m : State) → Kept n m.scan → KeptBy n (again m)) where
+    left_kept : (s : Known) (t : Turn) → Kept n s → KeptBy n (behind_left again s t)
+    left_kept s (goes r) h = kept (with_scan s r) h
+    left_kept s (gives v r) h = h
+    left_kept s (refuses e) h = tt
+    left_kept s (late e r) h = kept_worse n e (again (with_scan s r))
 
-  -- 6. Runs.
+    scan_kept : (r : Reading) (x : Outcome) → KeptIn n x → KeptBy n (on_scan g l again r x)
+    scan_kept r (Next s) h = noticed_kept n r s h
+    scan_kept r (Given x s) h =
+        said_kept n (λ c. behind_given l s (turn g l r (token_of x c))) (said x.kind x.octets) (λ c. given_kept n s (turn g l r (token_of x c)) h)
+    scan_kept r (Left x s) h =
+        said_kept n (λ c. behind_left again s (turn g l r (token_of x c))) (said x.kind x.octets) (λ c. left_kept s (turn g l r (token_of x c)) h)
+    scan_kept r (Refused i e) h = tt
 
-  abbrev IsRead : Result State Refusal → Type 0
-  IsRead (Ok m) = Unit {0}
-  IsRead (Err refusal) = ⊥
+    settled_kept : (s : Known) (x : Outcome) (t : Turn) → Kept n s → KeptIn n x → KeptBy n (on_settled g l again s x t)
+    settled_kept s x (goes r) k h = scan_kept r x h
+    settled_kept s x (gives v r) k h = k
+    settled_kept s x (refuses e) k h = tt
+    settled_kept s x (late e r) k h = kept_worse n e (on_scan g l again r x)
+
+    octet_kept : (m : State) (x : Outcome) → Kept n m.scan → KeptIn n x → KeptBy n (on_octet g l again m x)
+    octet_kept m x k h = by (unsettled m.scan m.reading x)
+      where
+        by : (b : Bool) → KeptBy n (if b then on_scan g l again m.reading x else on_settled g l again m.scan x (settle g l m.reading))
+        by true = scan_kept m.reading x h
+        by false = settled_kept m.scan x (settle g l m.reading) k h
+
+  takes_kept : (n k o : ℕ) → n < 2 ^ 63 → (m : State) → Kept n m.scan → KeptBy n (takes g l k m o)
+  takes_kept n zero o room m h = tt
+  takes_kept n (suc k) o room m h =
+      octet_kept n (λ q. takes g l k q o) (takes_kept n k o room) m (feed (place m.reading) m.scan o) h (feed_kept (place m.reading) m.scan o n h room)
+
+  -- 8. Runs.
+
+  module _ (d : ℕ) where
+    abbrev TakesOn : ℕ → ℕ → ℕ → Type 0
+    TakesOn n k o = (m : State) → Kept n m.scan → takes g l k (state_on d m) o ≡ effect_on d (takes g l k m o)
+
+    leads_on : (n k o : ℕ) → TakesOn n k o → (x : Outcome) → KeptIn n x → Leads g l d (λ q. takes g l k q o) x
+    leads_on n k o rest (Next s) h = behind_used (n + 1) s h
+    leads_on n k o rest (Given x s) h = behind_used (n + 1) s h
+    leads_on n k o rest (Left x s) h = λ r. rest (with_scan s r) h
+    leads_on n k o rest (Refused i e) h = tt
+
+    takes_on : (n k o : ℕ) → n < 2 ^ 63 → TakesOn n k o
+    takes_on n zero o room m h = refl
+    takes_on n (suc k) o room m h =
+        ap (on_octet g l (λ q. takes g l k q o) (state_on d m))
+        (ap (λ p. feed p (known_on d m.scan) o) (place_on d m.reading.frames m.reading.now)
+        ∙ feed_on (place m.reading) m.scan d o (unkept_used n m.scan h))
+        ∙ octet_on g l d (λ q. takes g l k q o) m (feed (place m.reading) m.scan o)
+        (leads_on n k o (takes_on n k o room) (feed (place m.reading) m.scan o) (feed_kept (place m.reading) m.scan o n h room))
+
+    abbrev Runs : List ℕ → Type 0
+    Runs os = (n to : ℕ) (m : State) → Kept n m.scan → n + length os < 2 ^ 63 → run g l (to + d) (state_on d m) os ≡ ran_on d (run g l to m os)
+
+    module _ (o : ℕ) (os : List ℕ) (rest : Runs os) (n to : ℕ) (room : n + 1 + length os < 2 ^ 63) where
+      more : (to + d) + 1 ≡ (to + 1) + d
+      more = omega arith
+
+      used_on : (m : State) → Kept (n + 1) m.scan → run g l ((to + d) + 1) (state_on d m) os ≡ ran_on d (run g l (to + 1) m os)
+      used_on m h = ap (λ t. run g l t (state_on d m) os) more ∙ rest (n + 1) (to + 1) m h room
+
+      told_on : (v : Value) (m : State) → Kept (n + 1) m.scan
+          → with_value v ((to + d) + 1) (run g l ((to + d) + 1) (state_on d m) os) ≡ ran_on d (with_value v (to + 1) (run g l (to + 1) m os))
+      told_on v m h =
+          ap (λ t. with_value v t (run g l ((to + d) + 1) (state_on d m) os)) more ∙ ap (with_value v ((to + 1) + d)) (used_on m h)
+
+      failed_on : (e : Reason) → failed_at ((to + d) + 1) e ≡ ran_on d (failed_at (to + 1) e)
+      failed_on e = ap (λ t. failed_at t e) more
+
+      once_more_on : (x : Effect) → KeptBy n x
+          → once_more (to + d) (λ m. run g l ((to + d) + 1) m os) (effect_on d x) ≡ ran_on d (once_more to (λ m. run g l (to + 1) m os) x)
+      once_more_on (uses m) h = used_on m h
+      once_more_on (tells v m) h = told_on v m h
+      once_more_on (leaves v m) h = failed_on reasons.Unexpected
+      once_more_on (fails e) h = failed_on e
+
+      run_on_on : (x : Effect) → KeptBy n x
+          → run_on (to + d) (λ m. eats g l m o) (λ m. run g l ((to + d) + 1) m os) (effect_on d x)
+          ≡ ran_on d (run_on to (λ m. eats g l m o) (λ m. run g l (to + 1) m os) x)
+      run_on_on (uses m) h = used_on m h
+      run_on_on (tells v m) h = told_on v m h
+      run_on_on (leaves v m) h =
+          ap (with_value v (to + d)) (ap (once_more (to + d) (λ m. run g l ((to + d) + 1) m os)) (takes_on n 3 o (omega arith) m h)
+          ∙ once_more_on (eats g l m o) (takes_kept n 3 o (omega arith) m h))
+      run_on_on (fails e) h = failed_on e
+
+    runs_on : (os : List ℕ) → Runs os
+    runs_on [] n to m h room = refl
+    runs_on (o ∷ os) n to m h room =
+        ap (run_on (to + d) (λ m. eats g l m o) (λ m. run g l ((to + d) + 1) m os)) (takes_on n 3 o (omega arith) m h)
+        ∙ run_on_on o os (runs_on os) n to (omega arith) (eats g l m o) (takes_kept n 3 o (omega arith) m h)
+
+  -- 9. Where a scanner rests.
+
+  rest_acts : (p : Place) (colon : Bool) (x y used o : ℕ) (a : Action)
+      → acts p (known_of modes.Blank [] colon x used) o a ≡ acts p (known_of modes.Blank [] colon y used) o a
+  rest_acts p colon x y used o (actions.Go m k) = refl
+  rest_acts p colon x y used o (actions.Give kind k) = refl
+  rest_acts p colon x y used o (actions.Before kind k m) = refl
+  rest_acts p colon x y used o actions.EndWord = refl
+  rest_acts p colon x y used o (actions.Split n) = refl
+  rest_acts p colon x y used o actions.EndBlob = refl
+  rest_acts p colon x y used o (actions.Refuse e) = refl
+
+  -- it doesn't matter where the token before ended
+  rest_runs : (os : List ℕ) → 0 < length os → (colon : Bool) (x y used start to : ℕ) (c : List Slot)
+      → run g l to (rested (rest_at colon x used) start c [] [] nows.Ready) os ≡ run g l to (rested (rest_at colon y used) start c [] [] nows.Ready) os
+  rest_runs [] some colon x y used start to c = absurd (omega arith)
+  rest_runs (o ∷ os) some colon x y used start to c =
+      ap (run_on to (λ m. eats g l m o) (λ m. run g l (to + 1) m os)) same
+    where
+      same : eats g l (rested (rest_at colon x used) start c [] [] nows.Ready) o ≡ eats g l (rested (rest_at colon y used) start c [] [] nows.Ready) o
+      same = ap (on_scan g l (λ m. takes g l 2 m o) (at start c [] [] nows.Ready))
+          (rest_acts (place (at start c [] [] nows.Ready)) colon x y used o (table.next (place (at start c [] [] nows.Ready)) colon modes.Blank o))
+
+  kept_there : (colon : Bool) → Kept 0 (resting (rest_at colon 0 0))
+  kept_there colon = record {
+    looked = 0;
+    steady = record { each = omega arith; twice = omega arith; idle = λ _. refl; within = omega arith };
+    few = omega arith;
+  }
+
+  -- A run over the same octets does the same further on as where no octet was used before them.
+  elsewhere : (os : List ℕ) → 0 < length os → length os < 2 ^ 63 → (rest : Rest) (start : ℕ) (c : List Slot)
+      → run g l rest.used (rested rest start c [] [] nows.Ready) os
+      ≡ ran_on rest.used (run g l 0 (rested (rest_at rest.colon 0 0) start c [] [] nows.Ready) os)
+  elsewhere os some room rest start c =
+      let d = rest.used in
+      let none : d ≡ 0 + d = omega arith in
+      rest_runs os some rest.colon rest.start (0 + d) d start d c
+      ∙ (ap (λ u. run g l u (rested (rest_at rest.colon (0 + d) u) start c [] [] nows.Ready) os) none
+      ∙ runs_on d os 0 0 (rested (rest_at rest.colon 0 0) start c [] [] nows.Ready) (kept_there rest.colon) (omega arith))
 
   abbrev first_of : List (Value × ℕ) → Option Value
   first_of [] = None
   first_of (x ∷ xs) = Some x.0
 
-  abbrev first : Run → Option Value
-  first r = first_of r.given
+  first_on : (d : ℕ) (vs : List (Value × ℕ)) → first_of (given_on d vs) ≡ first_of vs
+  first_on d [] = refl
+  first_on d (x ∷ xs) = refl
 
-  abbrev Firsts : List ℕ → Type 0
-  Firsts os = (to to' : ℕ) (m : State) (start used begin end : ℕ) → IsRead (run g l to m os).now
-      → IsRead (run g l' to' (state_at start used begin end m) os).now → first (run g l to m os) ≡ first (run g l' to' (state_at start used begin end m) os)
+  abbrev front_run : List ℕ → Bool → Run
+  front_run os colon = run g l 0 (rested (rest_at colon 0 0) 0 [] [] [] nows.Ready) os
 
-  firsts_on : (o : ℕ) (os : List ℕ) → Firsts os → (to to' : ℕ) (x y : Effect) → Effects x y
-      → IsRead (run_on to (λ n. eats g l n o) (λ n. run g l (to + 1) n os) x).now
-      → IsRead (run_on to' (λ n. eats g l' n o) (λ n. run g l' (to' + 1) n os) y).now
-      → first (run_on to (λ n. eats g l n o) (λ n. run g l (to + 1) n os) x) ≡ first (run_on to' (λ n. eats g l' n o) (λ n. run g l' (to' + 1) n os) y)
-  firsts_on o os rest to to' (uses n) (uses q) w h k =
-      subst (λ q. IsRead (run g l' (to' + 1) q os).now → first (run g l (to + 1) n os) ≡ first (run g l' (to' + 1) q os)) (sym w.is)
-      (λ k. rest (to + 1) (to' + 1) n w.start w.used w.begin w.end h k) k
-  firsts_on o os rest to to' (uses n) (tells v q) w h k = absurd w
-  firsts_on o os rest to to' (uses n) (leaves v q) w h k = absurd w
-  firsts_on o os rest to to' (uses n) (fails f) w h k = absurd k
-  firsts_on o os rest to to' (tells v n) (tells u q) w h k = ap Some w.0
-  firsts_on o os rest to to' (tells v n) (uses q) w h k = absurd w
-  firsts_on o os rest to to' (tells v n) (leaves u q) w h k = absurd w
-  firsts_on o os rest to to' (tells v n) (fails f) w h k = absurd k
-  firsts_on o os rest to to' (leaves v n) (leaves u q) w h k = ap Some w.0
-  firsts_on o os rest to to' (leaves v n) (uses q) w h k = absurd w
-  firsts_on o os rest to to' (leaves v n) (tells u q) w h k = absurd w
-  firsts_on o os rest to to' (leaves v n) (fails f) w h k = absurd k
-  firsts_on o os rest to to' (fails f) y w h k = absurd h
+  -- the value that octets give where no octet was used before them is the one that they give further on
+  first_value : (os : List ℕ) → 0 < length os → length os < 2 ^ 63 → (rest : Rest) (v : Value) (n : ℕ) (m : State)
+      → run g l rest.used (rested rest 0 [] [] [] nows.Ready) os ≡ record { given = (v, n) ∷ []; now = Ok m }
+      → first_of (front_run os rest.colon).given ≡ Some v
+  first_value os some room rest v n m h =
+      sym (first_on rest.used (front_run os rest.colon).given) ∙ ap (λ (r : Run). first_of r.given) (sym (elsewhere os some room rest 0 []) ∙ h)
 
-  firsts : (os : List ℕ) → Firsts os
-  firsts [] to to' m a b t e h k = refl
-  firsts (o ∷ os) to to' m a b t e h k = firsts_on o os (firsts os) to to' (eats g l m o) (eats g l' (state_at a b t e m) o) (takes_there 3 o m a b t e) h k
-
-  -- Where both are read, the first of their values is the same.
-  pub one_value : (os : List ℕ) (to to' : ℕ) (m : State) (start used begin end : ℕ) (v w : Value) (n n' : ℕ) (p q : State)
-      → run g l to m os ≡ record { given = (v, n) ∷ []; now = Ok p } → run g l' to' (state_at start used begin end m) os
-      ≡ record { given = (w, n') ∷ []; now = Ok q } → v ≡ w
-  one_value os to to' m a b t e v w n n' p q h k =
-      let read : IsRead (run g l to m os).now = subst (λ (r : Run). IsRead r.now) (sym h) tt in
-      let read' : IsRead (run g l' to' (state_at a b t e m) os).now = subst (λ (r : Run). IsRead r.now) (sym k) tt in
-      let both : Some v ≡ Some w = sym (ap first h) ∙ (firsts os to to' m a b t e read read' ∙ ap first k) in
+  -- So the same octets give one value wherever they stand.
+  pub one_value : (os : List ℕ) → 0 < length os → length os < 2 ^ 63 → (rest there : Rest) → rest.colon ≡ there.colon → (v w : Value) (n k : ℕ)
+      (m q : State) → run g l rest.used (rested rest 0 [] [] [] nows.Ready) os ≡ record { given = (v, n) ∷ []; now = Ok m }
+      → run g l there.used (rested there 0 [] [] [] nows.Ready) os ≡ record { given = (w, k) ∷ []; now = Ok q } → v ≡ w
+  one_value os some room rest there colons v w n k m q h e =
+      let both : Some v ≡ Some w =
+      sym (first_value os some room rest v n m h)
+      ∙ (ap (λ b. first_of (front_run os b).given) colons ∙ first_value os some room there w k q e) in
       cc
+
+  -- So where it gives a value there, it gives it further on.
+  pub gives_on : (os : List ℕ) → 0 < length os → length os < 2 ^ 63 → (rest after : Rest) (start : ℕ) (c : List Slot) (v : Value) (n : ℕ)
+      → run g l 0 (rested (rest_at rest.colon 0 0) start c [] [] nows.Ready) os
+      ≡ record { given = (v, n) ∷ []; now = Ok (rested after 0 c [] [] nows.Ready) }
+      → run g l rest.used (rested rest start c [] [] nows.Ready) os
+      ≡ record {
+        given = (v, n + rest.used) ∷ [];
+        now = Ok (rested (rest_at after.colon (after.start + rest.used) (after.used + rest.used)) 0 c [] [] nows.Ready);
+      }
+  gives_on os some room rest after start c v n h = elsewhere os some room rest start c ∙ ap (ran_on rest.used) h
+
+  abbrev GivesNone : List (Value × ℕ) → Type 0
+  GivesNone [] = Unit {0}
+  GivesNone (x ∷ xs) = ⊥
+
+  abbrev IsRead : Result State Refusal → Type 0
+  IsRead (Ok m) = Unit {0}
+  IsRead (Err refusal) = ⊥
+
+  abbrev end_in : State → Result State Refusal → State
+  end_in m (Ok q) = q
+  end_in m (Err refusal) = m
+
+  abbrev RunKept : List ℕ → Type 0
+  RunKept os = (n to : ℕ) (m q : State) → Kept n m.scan → n + length os < 2 ^ 63 → run g l to m os ≡ led q → Kept (n + length os) q.scan
+
+  run_on_kept : (o : ℕ) (os : List ℕ) → RunKept os → (n to : ℕ) (q : State) → n + length (o ∷ os) < 2 ^ 63 → (x : Effect) → KeptBy n x
+      → run_on to (λ k. eats g l k o) (λ k. run g l (to + 1) k os) x ≡ led q → Kept (n + length (o ∷ os)) q.scan
+  run_on_kept o os rest n to q room (uses k) h e =
+      let one : (n + 1) + length os ≡ n + length (o ∷ os) = omega arith in
+      subst (λ i. Kept i q.scan) one (rest (n + 1) (to + 1) k q h (omega arith) e)
+  run_on_kept o os rest n to q room (tells v k) h e = absurd (subst (λ (r : Run). GivesNone r.given) (sym e) tt)
+  run_on_kept o os rest n to q room (leaves v k) h e = absurd (subst (λ (r : Run). GivesNone r.given) (sym e) tt)
+  run_on_kept o os rest n to q room (fails reason) h e = absurd (subst (λ (r : Run). IsRead r.now) (sym e) tt)
+
+  run_kept : (os : List ℕ) → RunKept os
+  run_kept [] n to m q h room e =
+      let none : n ≡ n + length {A = ℕ} [] = omega arith in
+      let here : m ≡ q = ap (λ (r : Run). end_in m r.now) e in
+      subst (λ k. Kept k q.scan) none (subst (λ (x : State). Kept n x.scan) here h)
+  run_kept (o ∷ os) n to m q h room e = run_on_kept o os (run_kept os) n to q room (eats g l m o) (takes_kept n 3 o (omega arith) m h) e
+
+  -- And where the octet behind them shows there that a value ended, it shows it further on.
+  pub leaves_on : (os : List ℕ) (o : ℕ) → 0 < length os → length os < 2 ^ 63 → (rest after : Rest) (start : ℕ) (c : List Slot) (v : Value) (m : State)
+      → run g l 0 (rested (rest_at rest.colon 0 0) start c [] [] nows.Ready) os ≡ led m
+      → eats g l m o ≡ leaves v (rested after 0 c [] [] nows.Ready)
+      → (n : State) × (run g l rest.used (rested rest start c [] [] nows.Ready) os ≡ led n)
+      × (eats g l n o ≡ leaves v (rested (rest_at after.colon (after.start + rest.used) (after.used + rest.used)) 0 c [] [] nows.Ready))
+  leaves_on os o some room rest after start c v m ran left =
+      let kept = run_kept os 0 0 (rested (rest_at rest.colon 0 0) start c [] [] nows.Ready) m (kept_there rest.colon) (omega arith) ran in (
+        state_on rest.used m,
+        elsewhere os some room rest start c ∙ ap (ran_on rest.used) ran,
+        takes_on rest.used (0 + length os) 3 o (omega arith) m kept ∙ ap (effect_on rest.used) left,
+      )

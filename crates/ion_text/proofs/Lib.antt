@@ -26,6 +26,7 @@ pub mod Tops
 pub mod TopLeft
 pub mod Elsewhere
 pub mod Alikes
+pub mod Reordered
 pub mod Visited
 mod Transcribed
 pub mod Built

@@ -1,46 +1,47 @@
--- Long strings of segments that lie whole in a piece, where a container is open.
-use Rattle.std.proofs.Common.{◌≡◌, ℕ, ◌+◌, ◌-◌, ◌<◌, ◌≤◌, Bool, true, false, List, [], ◌∷◌, ◌++◌, length, take, drop, get_or, Ok, refl, ap, sym, ◌∙◌, subst, arith, length-drop, inl, inr, min}
-use Rattle.std.specs.Prelude.{◌&&◌, ◌||◌, not, nat_le, if◌then◌else◌, ◌==◌, cond}
+-- Long strings of segments that lie whole in a piece.
+use Rattle.std.proofs.Common.{◌≡◌, ℕ, ◌+◌, ◌-◌, ◌<◌, ◌≤◌, Bool, true, false, List, [], ◌∷◌, ◌++◌, length, take, drop, get_or, Ok, refl, ap, sym, ◌∙◌, subst, arith, length-drop, ◌⊎◌, inl, inr, min}
+use Rattle.std.specs.Prelude.{◌&&◌, ◌||◌, not, if◌then◌else◌, ◌==◌, cond}
 use Rattle.std.proofs.lemmas.Bool.Decides.{nat_tests}
 use Rattle.std.proofs.lemmas.List.{length-take-le}
 use Rattle.ion_symtab.specs.declared.limits.Limits.{Limits}
 use Rattle.ion_symtab.specs.declared.catalog.Catalog.{Catalog}
 use Rattle.ion_tokens.specs.declared.mode.Place.{Place}
-use Rattle.ion_tokens.specs.machine.Scanning.{Known, Outcome, Next, Given, Left, Refused, feed, acts}
+use Rattle.ion_tokens.specs.machine.Scanning.{Known, Outcome, Next, Given, feed, acts}
 use Rattle.ion_tokens.proofs.runs.Runs.{feed_used, next_used}
 use Rattle.ion_tokens.specs.machine.Bounds.{is_idle}
 use Rattle.ion_tokens.specs.Bodies.{Long}
 use Rattle.ion_tokens.specs.machine.Said.{said}
 use Rattle.ion_tokens.specs.machine.Ahead.{OnNext, is_sane, is_quoting, long_waits}
 use Rattle.ion_text.specs.declared.state.Frame.{Frame}
-use Rattle.ion_text.specs.machine.EachToken.{Reading, Symbols, goes, place, settle, turn, Setting, under, spot_at, place_in, turn_now, ended, at}
-use Rattle.ion_text.specs.machine.Run.{State, Effect, uses, fails, is_top, shut, reaches, noticed, waits, waits_now, in_segment, unsettled, with_scan, eats, takes, on_scan, on_said, on_settled, behind_given, token_of}
-use Rattle.ion_text.specs.machine.Pieces.{followed, Quiet, Waiting, drive, go_on}
+use Rattle.ion_text.specs.machine.EachToken.{Reading, Symbols, goes, place, settle, turn, Setting, under, spot_at, place_in, turn_now, begun_at, ended, at}
+use Rattle.ion_text.specs.machine.Run.{State, Effect, uses, is_top, noticed, waits, waits_now, in_segment, unsettled, with_scan, eats, takes, on_scan, on_said, on_settled, behind_given, token_of}
+use Rattle.ion_text.specs.machine.Pieces.{followed, Quiet, Stays, Waiting, drive, go_on}
 use Rattle.ion_text.specs.laws.reading.complete.Meets.{follows_as}
-use Rattle.ion_text.specs.machine.Views.{setting_of, spot_of, reading_of, open_frames, SameSetting}
-use Rattle.ion_text.specs.machine.AtOnce.{Passes, Strides, TokenAhead}
+use Rattle.ion_text.specs.machine.Views.{lulls, ended_so_far, setting_of, spot_of, reading_of, open_frames, SameSetting}
+use Rattle.ion_text.specs.machine.AtOnce.{LeadsTo, Passes, Strides, TokenAhead}
 use Rattle.ion_model.specs.declared.value.Value.{Value}
 use Rattle.ion_tokens.specs.declared.scanner.Scanner.{Scanner}
 use Rattle.ion_tokens.specs.declared.plain_tokens.Rest.{Rest}
 use Rattle.ion_tokens.specs.Octets.{is_digit, is_white, begins_word, is_operator_octet}
 use Rattle.ion_tokens.specs.machine.Rests.{resting, past_blank, past_token, lexeme_at, IsFound}
 use Rattle.ion_text.specs.declared.reader.TextReader.{TextReader}
-use Rattle.ion_text.proofs.Passing.{calm_quiet, passes_none, passes_on, passes_same, passes_one, passes_led}
+use Rattle.ion_text.proofs.Lulls.{lull_noticed}
+use Rattle.ion_text.proofs.Passing.{calm_quiet, leads_on, leads_one, passes_none, passes_on, passes_same, passes_led}
 use Rattle.ion_text.proofs.Striding.{still_settles}
+use Rattle.ion_text.proofs.Tops.{top_quiet}
 use Rattle.ion_model.specs.Measures.{annotated}
 use Rattle.ion_symtab.specs.Slots.{Slot}
 use Rattle.ion_tokens.specs.Places.{is_name, is_sexp}
 use Rattle.ion_text.specs.declared.reader.walks.Tally.{Tally}
 use Rattle.ion_text.specs.machine.FrontTokens.{ends_symbol}
 use Rattle.ion_text.specs.machine.Walked.{most, rested, LeadsBehind, Walked}
-use Rattle.ion_text.proofs.Arms.{ready_turns, ended_stays, at_drop, blank_used, Moved, with_scanner, given_leads, ended_place, moved_strides, room}
+use Rattle.ion_text.proofs.Arms.{ended_stays, at_drop, blank_used, Moved, with_scanner, ended_place, moved_strides, room}
 use Rattle.ion_tokens.specs.declared.mode.Mode.{Mode}
 use Rattle.ion_tokens.specs.declared.mode.Action.{Action}
 use Rattle.ion_tokens.specs.machine.Table.{begins_value, in_blank}
 use Rattle.ion_text.specs.machine.LongStrings.{ends_long, PassedSegment, LongSoFar, LongThere}
 use Rattle.ion_text.proofs.Walks.{flat_text}
 use Rattle.ion_tokens.specs.machine.Scanning as scanning
-use Rattle.ion_atoms.specs.declared.refusal.Reason.TheVariants as reasons
 use Rattle.ion_text.specs.declared.state.Now.TheVariants as nows
 use Rattle.ion_tokens.specs.declared.mode.TokenKind.TheVariants as kinds
 use Rattle.ion_text.specs.declared.state.Frame.TheVariants as frames
@@ -91,29 +92,69 @@ run_sane p (o ∷ os) s t sane e =
     let x = follows_as p s o (Next f.0) sane f.1 in
     run_sane p os f.0 t x.0 f.2
 
-le_true : (x y : ℕ) → x ≤ y → nat_le x y ≡ true
-le_true x y h = grind (arith, nat_tests)
+-- Where a value may come, octets within the limit on items are no reason to refuse.
+ready_quiet : (g : Catalog) (l : Limits) (start : ℕ) (c : List Slot) (fs : List Frame) (ss : Symbols) (rest : Rest) (octets : List ℕ) (n : ℕ)
+    → n ≤ length octets → rest.used + n ≤ l.item + begun_at start rest.used fs ss
+    → Quiet g l (at start c fs ss nows.Ready) (place_in fs nows.Ready) (resting rest) (take n octets)
+ready_quiet g l start c [] ss rest octets n within room = top_quiet g l start c ss rest octets n within room
+ready_quiet g l start c (f ∷ fs) ss rest octets n within room =
+    calm_quiet g l (at start c (f ∷ fs) ss nows.Ready) refl tt (resting rest) refl octets n within room
 
-reaches_inner : (fs : List Frame) (r : Reading) (s : Known) → is_top fs ≡ false → reaches fs r s ≡ s.used - r.start
-reaches_inner [] r s h = absurd cc
-reaches_inner (f ∷ fs) r s h = refl
+-- a segment leads the run behind it where it settles nothing that waits, and nothing is refused then
+module _ (g : Catalog) (l : Limits) (r q : Reading) (rest : Rest) (octets kept : List ℕ) (n : ℕ)
+    (found : IsFound (place r) rest octets kinds.LongString kept n false) (more : List ℕ) (says : said kinds.LongString kept ≡ Ok (Long more))
+    (turns : turn g l r (token_of (lexeme_at rest kinds.LongString kept n) (Long more)) ≡ goes q) where
+  abbrev behind : Known
+  behind = resting (past_token (place r) rest kinds.LongString n)
 
-module _ (g : Catalog) (l : Limits) (r : Reading) (w : List ℕ) (end : ℕ) (now : r.now ≡ nows.Long w end) (inner : is_top r.frames ≡ false) where
-  -- behind a long string that waits nothing is refused but what is too long
-  long_noticed : (s : Known) → s.used ≤ l.item + r.start → noticed l r s ≡ uses (with_scan s r)
-  long_noticed s room =
-      let reach = reaches_inner r.frames r s inner in
-      ap (λ n. if shut n && not (is_idle s.mode) then fails reasons.Unexpected
-      else (if nat_le (reaches r.frames r s) l.item then uses (with_scan s r) else fails reasons.ItemTooLong)) now
-      ∙ ap (λ b. if b then uses (with_scan s r) else fails reasons.ItemTooLong) (le_true (reaches r.frames r s) l.item (omega arith))
+  abbrev octet : ℕ
+  octet = get_or octets (n - 1) 0
 
-  long_quiet : (p : Place) (os : List ℕ) (s t : Known) → scanning.run p os s ≡ Next t → s.used + length os ≤ l.item + r.start → Quiet g l r p s os
-  long_quiet p [] s t e room = tt
-  long_quiet p (o ∷ os) s t e room =
+  known_used : found.known.used ≡ rest.used + (n - 1)
+  known_used =
+      let some = found.some in
+      let shown = found.shown in
+      let size = length-take-le (n - 1) octets (omega arith) in
+      let counted = next_used (place r) (take (n - 1) octets) (resting rest) found.known (sym found.ran) in
+      omega arith
+
+  module _ (goes_on : (unsettled found.known r (feed (place r) found.known octet) ≡ true) ⊎ (settle g l r ≡ goes r))
+      (notices : noticed l q behind ≡ uses (with_scan behind q)) where
+    ends_it : eats g l (with_scan found.known r) octet ≡ uses (with_scan behind q)
+    ends_it =
+        go_on g l (λ m. takes g l 2 m octet) r found.known (feed (place r) found.known octet) (unsettled found.known r (feed (place r) found.known octet))
+        goes_on
+        ∙ (ap (on_scan g l (λ m. takes g l 2 m octet) r) found.ends
+        ∙ (ap (λ a. on_said a (λ c. behind_given l behind (turn g l r (token_of (lexeme_at rest kinds.LongString kept n) c)))) says
+        ∙ (ap (behind_given l behind) turns ∙ notices)))
+
+    segment_leads : Quiet g l r (place r) (resting rest) (take (n - 1) octets) → Stays g l r (place r) (resting rest) (take (n - 1) octets)
+        → LeadsTo g l (with_scan (resting rest) r) octets n (with_scan behind q)
+    segment_leads quiet stays =
+        let some = found.some in
+        let shown = found.shown in
+        let size = length-drop (n - 1) octets in
+        let all : n - 1 + 1 ≡ n = omega arith in
+        subst (λ k. LeadsTo g l (with_scan (resting rest) r) octets k (with_scan behind q)) all
+        (leads_on g l (with_scan (resting rest) r) (with_scan found.known r) (with_scan behind q) octets (n - 1) 1 (omega arith) known_used
+        (drive g l (take (n - 1) octets) rest.used r (resting rest) found.known found.ran quiet stays)
+        (leads_one g l (with_scan found.known r) (with_scan behind q) (drop (n - 1) octets) (omega arith)
+        (ap (λ o. eats g l (with_scan found.known r) o) (at_drop (n - 1) octets) ∙ ends_it)))
+
+-- where a long string waits for more
+module _ (g : Catalog) (l : Limits) (r : Reading) (w : List ℕ) (end : ℕ) (now : r.now ≡ nows.Long w end) (early : end ≤ r.start + l.item) where
+  long_noticed : (s : Known) → may_be_long s.mode ≡ true → s.used ≤ r.start + l.item → noticed l r s ≡ uses (with_scan s r)
+  long_noticed s long room = lull_noticed l r s (ap (λ n. lulls n s.mode) now ∙ long) (subst (λ n. ended_so_far n ≤ r.start + l.item) (sym now) early) room
+
+  long_quiet : (p : Place) (os : List ℕ) (s t : Known) → is_sane s.mode ≡ true → may_be_long t.mode ≡ true → scanning.run p os s ≡ Next t
+      → s.used + length os ≤ r.start + l.item → Quiet g l r p s os
+  long_quiet p [] s t sane long e room = tt
+  long_quiet p (o ∷ os) s t sane long e room =
       let f = followed (feed p s o) (λ k. scanning.run p os k) t e in
+      let x = follows_as p s o (Next f.0) sane f.1 in
       let used = feed_used p s f.0 o f.1 in
       subst (λ x. OnNext x (λ t. (noticed l r t ≡ uses (with_scan t r)) × Quiet g l r p t os)) (sym f.1)
-      (long_noticed f.0 (omega (arith, used, used)), long_quiet p os f.0 t f.2 (omega (arith, used)))
+      (long_noticed f.0 (long_first p os f.0 t x.0 long f.2) (omega (arith, used, used)), long_quiet p os f.0 t x.0 long f.2 (omega (arith, used)))
 
   long_waits_on : (p : Place) (os : List ℕ) (s t : Known) → is_sane s.mode ≡ true → may_be_long t.mode ≡ true → scanning.run p os s ≡ Next t
       → Waiting g l r p s os
@@ -126,26 +167,24 @@ module _ (g : Catalog) (l : Limits) (r : Reading) (w : List ℕ) (end : ℕ) (no
       )
 
   -- a blank behind a segment
-  pub long_blank : (s t : Known) (octets : List ℕ) (n : ℕ) → n ≤ length octets → is_sane s.mode ≡ true → may_be_long t.mode ≡ true
-      → scanning.run (place r) (take n octets) s ≡ Next t → s.used + n ≤ l.item + r.start → Passes g l (with_scan s r) octets n (with_scan t r)
+  long_blank : (s t : Known) (octets : List ℕ) (n : ℕ) → n ≤ length octets → is_sane s.mode ≡ true → may_be_long t.mode ≡ true
+      → scanning.run (place r) (take n octets) s ≡ Next t → s.used + n ≤ r.start + l.item → LeadsTo g l (with_scan s r) octets n (with_scan t r)
   long_blank s t octets n within sane long e room =
       let size = length-take-le n octets within in
-      let used = next_used (place r) (take n octets) s t (sym e) in
-      passes_led g l (with_scan s r) (with_scan t r) octets n within (omega arith)
-      (drive g l (take n octets) s.used r s t e (long_quiet (place r) (take n octets) s t e (omega arith))
-      (inr (long_waits_on (place r) (take n octets) s t sane long e)))
+      drive g l (take n octets) s.used r s t e (long_quiet (place r) (take n octets) s t sane long e (omega arith))
+      (inr (long_waits_on (place r) (take n octets) s t sane long e))
 
   -- a further segment
   module _ (rest : Rest) (octets kept : List ℕ) (n : ℕ) (found : IsFound (place r) rest octets kinds.LongString kept n false)
-      (more : List ℕ) (says : said kinds.LongString kept ≡ Ok (Long more)) (room : rest.used + length octets ≤ l.item + r.start) where
-    abbrev pub longer : Reading
+      (more : List ℕ) (says : said kinds.LongString kept ≡ Ok (Long more)) (room : rest.used + length octets ≤ r.start + l.item) where
+    abbrev longer : Reading
     longer = at r.start r.context r.frames r.notes (nows.Long (w ++ more) (rest.used + n))
 
-    abbrev behind : Known
-    behind = resting (past_token (place r) rest kinds.LongString n)
+    abbrev last_octet : ℕ
+    last_octet = get_or octets (n - 1) 0
 
-    abbrev octet : ℕ
-    octet = get_or octets (n - 1) 0
+    abbrev known_behind : Known
+    known_behind = resting (past_token (place r) rest kinds.LongString n)
 
     is_long_mode : may_be_long found.known.mode ≡ true
     is_long_mode = by (is_idle found.known.mode) (is_quoting found.known.mode) refl refl
@@ -154,81 +193,49 @@ module _ (g : Catalog) (l : Limits) (r : Reading) (w : List ℕ) (end : ℕ) (no
         by true b e f = ap (λ a. a || is_quoting found.known.mode) e
         by false true e f = ap (λ a. a || is_quoting found.known.mode) e ∙ f
         by false false e f =
-            let x = follows_as (place r) found.known octet (Given (lexeme_at rest kinds.LongString kept n) behind) known_sane found.ends in
+            let x = follows_as (place r) found.known last_octet (Given (lexeme_at rest kinds.LongString kept n) known_behind) known_sane found.ends in
             let never : true ≡ false = x.1 e f in absurd cc
           where
             known_sane : is_sane found.known.mode ≡ true
             known_sane = run_sane (place r) (take (n - 1) octets) (resting rest) found.known refl found.ran
 
-    turns : turn g l r (token_of (lexeme_at rest kinds.LongString kept n) (Long more)) ≡ goes longer
-    turns = ap (turn_now (under g l) r (token_of (lexeme_at rest kinds.LongString kept n) (Long more))) now
+    turns_longer : turn g l r (token_of (lexeme_at rest kinds.LongString kept n) (Long more)) ≡ goes longer
+    turns_longer = ap (turn_now (under g l) r (token_of (lexeme_at rest kinds.LongString kept n) (Long more))) now
 
-    known_used : found.known.used ≡ rest.used + (n - 1)
-    known_used =
+    waits_on : unsettled found.known r (feed (place r) found.known last_octet) ≡ true
+    waits_on = ap (λ y. unsettled found.known r y) found.ends
+        ∙ ap (λ k. waits_now (is_top r.frames) k (Given (lexeme_at rest kinds.LongString kept n) known_behind) || in_segment k found.known) now
+
+    -- behind a long string that waits another segment of it is joined to it
+    segment_joined : LeadsTo g l (with_scan (resting rest) r) octets n (with_scan known_behind longer)
+    segment_joined =
         let some = found.some in
         let shown = found.shown in
         let size = length-take-le (n - 1) octets (omega arith) in
-        let counted = next_used (place r) (take (n - 1) octets) (resting rest) found.known (sym found.ran) in
-        omega arith
-
-    up_to : Passes g l (with_scan (resting rest) r) octets (n - 1) (with_scan found.known r)
-    up_to =
-        let some = found.some in
-        let shown = found.shown in
-        long_blank (resting rest) found.known octets (n - 1) (omega arith) refl is_long_mode found.ran (omega arith)
-
-    ends_it : Passes g l (with_scan found.known r) (drop (n - 1) octets) 1 (with_scan behind longer)
-    ends_it =
-        let some = found.some in
-        let shown = found.shown in
-        let size = length-drop (n - 1) octets in
-        let counted = known_used in
-        passes_one g l (with_scan found.known r) (with_scan behind longer) (drop (n - 1) octets) (omega arith) (omega arith)
-        (ap (λ o. eats g l (with_scan found.known r) o) (at_drop (n - 1) octets)
-        ∙ (go_on g l (λ m. takes g l 2 m octet) r found.known (feed (place r) found.known octet) (unsettled found.known r (feed (place r) found.known octet))
-        (inl waits_on)
-        ∙ (ap (on_scan g l (λ m. takes g l 2 m octet) r) found.ends
-        ∙ (ap (λ a. on_said a (λ c. behind_given l behind (turn g l r (token_of (lexeme_at rest kinds.LongString kept n) c)))) says
-        ∙ (ap (behind_given l behind) turns ∙ longer_noticed)))))
-      where
-        waits_on : unsettled found.known r (feed (place r) found.known octet) ≡ true
-        waits_on = ap (λ y. unsettled found.known r y) found.ends
-            ∙ ap (λ k. waits_now (is_top r.frames) k (Given (lexeme_at rest kinds.LongString kept n) behind) || in_segment k found.known) now
-
-        longer_noticed : noticed l longer behind ≡ uses (with_scan behind longer)
-        longer_noticed =
-            let reach = reaches_inner r.frames longer behind inner in
-            let some = found.some in
-            let shown = found.shown in
-            ap (λ b. if b then uses (with_scan behind longer) else fails reasons.ItemTooLong) (le_true (reaches r.frames longer behind) l.item (omega arith))
-
-    -- behind a long string that waits another segment of it is joined to it
-    pub segment_joined : Passes g l (with_scan (resting rest) r) octets n (with_scan behind longer)
-    segment_joined =
-        let some = found.some in
-        let all : n - 1 + 1 ≡ n = omega arith in
-        subst (λ k. Passes g l (with_scan (resting rest) r) octets k (with_scan behind longer)) all
-        (passes_on g l (with_scan (resting rest) r) (with_scan found.known r) (with_scan behind longer) octets (n - 1) 1 up_to ends_it)
+        let ends : rest.used + n ≤ r.start + l.item = omega arith in
+        segment_leads g l r longer rest octets kept n found more says turns_longer (inl waits_on) (lull_noticed l longer known_behind refl ends ends)
+        (long_quiet (place r) (take (n - 1) octets) (resting rest) found.known refl is_long_mode found.ran (omega arith))
+        (inr (long_waits_on (place r) (take (n - 1) octets) (resting rest) found.known refl is_long_mode found.ran))
 
 -- The octet that shows that no segment follows.
 
-record ShowsNoSegment (p : Place) (r : Rest) (o : ℕ) (a : Action) : Type 0 where
-  is : long_waits false (acts p (resting r) o a) ≡ false
+record ShowsNoSegment (top : Bool) (p : Place) (r : Rest) (o : ℕ) (a : Action) : Type 0 where
+  is : long_waits top (acts p (resting r) o a) ≡ false
 
-module _ {p : Place} {r : Rest} {o : ℕ} where
-  yes : {a : Action} → long_waits false (acts p (resting r) o a) ≡ false → ShowsNoSegment p r o a
+module _ {top : Bool} {p : Place} {r : Rest} {o : ℕ} where
+  yes : {a : Action} → long_waits top (acts p (resting r) o a) ≡ false → ShowsNoSegment top p r o a
   yes h = record { is = h }
 
-  both : {x y : Action} (b : Bool) → ShowsNoSegment p r o x → ShowsNoSegment p r o y → ShowsNoSegment p r o (cond b x y)
+  both : {x y : Action} (b : Bool) → ShowsNoSegment top p r o x → ShowsNoSegment top p r o y → ShowsNoSegment top p r o (cond b x y)
   both true h k = h
   both false h k = k
 
-  skip : {y : Action} (x : Action) (b : Bool) → b ≡ false → ShowsNoSegment p r o y → ShowsNoSegment p r o (cond b x y)
+  skip : {y : Action} (x : Action) (b : Bool) → b ≡ false → ShowsNoSegment top p r o y → ShowsNoSegment top p r o (cond b x y)
   skip x true e h = absurd cc
   skip x false e h = h
 
-value_shows : (p : Place) (r : Rest) (o : ℕ) → ShowsNoSegment p r o (begins_value p o)
-value_shows p r o =
+value_shows : (top : Bool) (p : Place) (r : Rest) (o : ℕ) → ShowsNoSegment top p r o (begins_value p o)
+value_shows top p r o =
     both (is_digit o) (yes refl)
     (both (o == 123) (yes refl)
     (both (o == 91) (yes refl)
@@ -256,8 +263,8 @@ not_true : (b : Bool) → not b ≡ true → b ≡ false
 not_true false e = refl
 not_true true e = absurd cc
 
-long_shows : (p : Place) (r : Rest) (o : ℕ) → ends_long o ≡ true → ShowsNoSegment p r o (in_blank p r.colon o)
-long_shows p r o h =
+long_shows : (top : Bool) (p : Place) (r : Rest) (o : ℕ) → ends_long o ≡ true → ShowsNoSegment top p r o (in_blank p r.colon o)
+long_shows top p r o h =
     let f = front_true (ends_symbol o) (not (o == 39)) h in
     skip _ (is_white o) (no_white o f.0)
     (both (begins_word o) (yes refl)
@@ -267,14 +274,20 @@ long_shows p r o h =
     (both (o == 44) (yes refl)
     (both (o == 125) (yes refl)
     (skip _ (o == 58) (no_colon o f.0)
-    (both (is_name p) (yes refl) (value_shows p r o)))))))))
+    (both (is_name p) (yes refl) (value_shows top p r o)))))))))
 
--- the octet behind a long string that waits ends it
-pub long_ends : (p : Place) (r : Rest) (o : ℕ) → ends_long o ≡ true → long_waits false (feed p (resting r) o) ≡ false
-long_ends p r o h = (long_shows p r o h).is
+-- the octet behind a long string that waits ends it, at the top level and elsewhere
+long_ends : (top : Bool) (p : Place) (r : Rest) (o : ℕ) → ends_long o ≡ true → long_waits top (feed p (resting r) o) ≡ false
+long_ends top p r o h = (long_shows top p r o h).is
 
-module _ (g : Catalog) (l : Limits) (r : Reading) (w : List ℕ) (end : ℕ) (now : r.now ≡ nows.Long w end) (inner : is_top r.frames ≡ false) where
-  pub long_settled : (rest : Rest) (octets : List ℕ) (q : Reading) → 0 < length octets → ends_long (get_or octets 0 0) ≡ true → settle g l r ≡ goes q
+module _ (g : Catalog) (l : Limits) (r : Reading) (w : List ℕ) (end : ℕ) (now : r.now ≡ nows.Long w end) where
+  -- so nothing goes on there
+  pub long_unsettled : (rest : Rest) (o : ℕ) → ends_long o ≡ true → unsettled (resting rest) r (feed (place r) (resting rest) o) ≡ false
+  long_unsettled rest o ends =
+      ap (λ n. waits_now (is_top r.frames) n (feed (place r) (resting rest) o) || in_segment n (resting rest)) now
+      ∙ ap (λ b. b || false) (long_ends (is_top r.frames) (place r) rest o ends)
+
+  long_settled : (rest : Rest) (octets : List ℕ) (q : Reading) → 0 < length octets → ends_long (get_or octets 0 0) ≡ true → settle g l r ≡ goes q
       → settle g l q ≡ goes q → place q ≡ place r → Passes g l (with_scan (resting rest) r) octets 0 (with_scan (resting rest) q)
   long_settled rest octets q some ends settles still same =
       passes_same g l (with_scan (resting rest) r) (with_scan (resting rest) r) (with_scan (resting rest) q) octets 0 some refl (here ∙ sym there)
@@ -289,13 +302,8 @@ module _ (g : Catalog) (l : Limits) (r : Reading) (w : List ℕ) (end : ℕ) (no
       again : State → Effect
       again m = takes g l 2 m o
 
-      none : unsettled (resting rest) r x ≡ false
-      none =
-          ap (λ n. waits_now (is_top r.frames) n x || in_segment n (resting rest)) now
-          ∙ (ap (λ b. long_waits b x || false) inner ∙ ap (λ b. b || false) (long_ends (place r) rest o ends))
-
       here : eats g l (with_scan (resting rest) r) o ≡ on_scan g l again q x
-      here = ap (λ b. if b then on_scan g l again r x else on_settled g l again (resting rest) x (settle g l r)) none
+      here = ap (λ b. if b then on_scan g l again r x else on_settled g l again (resting rest) x (settle g l r)) (long_unsettled rest o ends)
           ∙ ap (on_settled g l again (resting rest) x) settles
 
       there : eats g l (with_scan (resting rest) q) o ≡ on_scan g l again q x
@@ -318,7 +326,7 @@ ended_anywhere setting start c (frames.Items listing ss vs ∷ fs) v i j h = ref
 ended_anywhere setting start c (frames.Named ss ms name ∷ fs) v i j h = refl
 ended_anywhere setting start c (frames.Fields ss ms ∷ fs) v i j h = refl
 
-module _ (g : Catalog) (l : Limits) (start : ℕ) (c : List Slot) (ss : Symbols) (fs : List Frame) (inner : is_top fs ≡ false) where
+module _ (g : Catalog) (l : Limits) (start : ℕ) (c : List Slot) (ss : Symbols) (fs : List Frame) where
   -- a long string waits
   abbrev waits_long : List ℕ → ℕ → Reading
   waits_long w end = at start c fs ss (nows.Long w end)
@@ -336,72 +344,81 @@ module _ (g : Catalog) (l : Limits) (start : ℕ) (c : List Slot) (ss : Symbols)
     mid = past_token p before kinds.LongString n
 
     -- behind the segment the blank is passed
-    behind_it : (m : State) (end : ℕ) → Passes g l m octets n (with_scan (resting mid) (waits_long text end))
-        → Passes g l m octets count (rested after start c fs ss (nows.Long new end))
-    behind_it m end h =
+    behind_it : (m : State) → m.scan.used ≡ before.used → LeadsTo g l m octets n (with_scan (resting mid) (waits_long text (before.used + n)))
+        → LeadsTo g l m octets count (rested after start c fs ss (nows.Long new (before.used + n)))
+    behind_it m from h =
         let size = length-drop n octets in
         let total = x.total in
         let within = x.within in
-        let blank : Passes g l (with_scan (resting mid) (waits_long text end)) (drop n octets) x.blank
-        (with_scan (resting (past_blank mid x.blank)) (waits_long text end)) =
-        long_blank g l (waits_long text end) text end refl inner (resting mid) (resting (past_blank mid x.blank)) (drop n octets) x.blank (omega arith) refl
-        refl (x.passed (place (waits_long text end)) mid) (omega arith) in
-        subst (λ t. Passes g l m octets count (rested after start c fs ss (nows.Long t end))) (sym x.segment.joined)
-        (subst (λ r. Passes g l m octets count (rested r start c fs ss (nows.Long text end))) (sym x.rests)
-        (subst (λ k. Passes g l m octets k (rested (past_blank mid x.blank) start c fs ss (nows.Long text end))) (sym x.total)
-        (passes_on g l m (with_scan (resting mid) (waits_long text end)) (rested (past_blank mid x.blank) start c fs ss (nows.Long text end)) octets n x.blank h
-        blank)))
+        let end = before.used + n in
+        let r = waits_long text end in
+        let blank : LeadsTo g l (with_scan (resting mid) r) (drop n octets) x.blank (with_scan (resting (past_blank mid x.blank)) r) =
+        long_blank g l r text end refl (omega arith) (resting mid) (resting (past_blank mid x.blank)) (drop n octets) x.blank (omega arith) refl
+        refl (x.passed (place r) mid) (omega arith) in
+        subst (λ t. LeadsTo g l m octets count (rested after start c fs ss (nows.Long t end))) (sym x.segment.joined)
+        (subst (λ r. LeadsTo g l m octets count (rested r start c fs ss (nows.Long text end))) (sym x.rests)
+        (subst (λ k. LeadsTo g l m octets k (rested (past_blank mid x.blank) start c fs ss (nows.Long text end))) (sym x.total)
+        (leads_on g l m (with_scan (resting mid) r) (rested (past_blank mid x.blank) start c fs ss (nows.Long text end)) octets n x.blank
+        (omega arith) (omega arith) h blank)))
 
-    -- where a value may come, the first segment
-    first_on : old ≡ [] → Passes g l (rested before start c fs ss nows.Ready) octets count (rested after start c fs ss (nows.Long new (before.used + n)))
-    first_on none =
-        let r = at start c fs ss nows.Ready in
+    -- the first segment, where a value may come of an item that begins there
+    first_on : (s : ℕ) → begun_at s before.used fs ss ≡ start → old ≡ []
+        → LeadsTo g l (rested before s c fs ss nows.Ready) octets count (rested after start c fs ss (nows.Long new (before.used + n)))
+    first_on s begins none =
+        let r = at s c fs ss nows.Ready in
         let f = x.segment in
+        let some = f.found.some in
         let shown = f.found.shown in
+        let end = before.used + n in
+        let early : end ≤ start + l.item = omega arith in
         let only : f.more ≡ text = ap (λ w. w ++ f.more) (sym none) in
         let found : IsFound (place r) before octets kinds.LongString f.kept n false =
         subst (λ p. IsFound p before octets kinds.LongString f.kept n false) (sym here) f.found in
-        let one = given_leads g l r inner (still_settles g l r tt) before octets kinds.LongString f.kept n (Long f.more) (waits_long f.more (before.used + n))
-        f.says (ready_turns g l r (lexeme_at before kinds.LongString f.kept n) (Long f.more) refl inner) room found
-        (calm_quiet g l r inner tt (resting before) refl octets (n - 1) (omega arith) (omega arith)) inner refl in
-        behind_it (rested before start c fs ss nows.Ready) (before.used + n)
-        (subst (λ w. Passes g l (rested before start c fs ss nows.Ready) octets n (with_scan (resting mid) (waits_long w (before.used + n)))) only
-        (subst (λ p. Passes g l (rested before start c fs ss nows.Ready) octets n
-        (with_scan (resting (past_token p before kinds.LongString n)) (waits_long f.more (before.used + n)))) here one))
+        let turns : turn g l r (token_of (lexeme_at before kinds.LongString f.kept n) (Long f.more)) ≡ goes (waits_long f.more end) =
+        ap (λ s. goes (at s c fs ss (nows.Long f.more end))) begins in
+        let one = segment_leads g l r (waits_long f.more end) before octets f.kept n found f.more f.says turns (inr refl)
+        (lull_noticed l (waits_long f.more end) (resting (past_token (place r) before kinds.LongString n)) refl early early)
+        (ready_quiet g l s c fs ss before octets (n - 1) (omega arith) (omega arith)) (inl refl) in
+        behind_it (rested before s c fs ss nows.Ready) refl
+        (subst (λ w. LeadsTo g l (rested before s c fs ss nows.Ready) octets n (with_scan (resting mid) (waits_long w end))) only
+        (subst (λ p. LeadsTo g l (rested before s c fs ss nows.Ready) octets n
+        (with_scan (resting (past_token p before kinds.LongString n)) (waits_long f.more end))) here one))
 
     -- where a long string waits, a further one
-    further_on : (end : ℕ) → Passes g l (rested before start c fs ss (nows.Long old end)) octets count
+    further_on : (end : ℕ) → end ≤ before.used → LeadsTo g l (rested before start c fs ss (nows.Long old end)) octets count
         (rested after start c fs ss (nows.Long new (before.used + n)))
-    further_on end =
+    further_on end early =
         let r = waits_long old end in
         let f = x.segment in
         let there : place r ≡ p = long_place fs old end ∙ here in
         let found : IsFound (place r) before octets kinds.LongString f.kept n false =
         subst (λ p. IsFound p before octets kinds.LongString f.kept n false) (sym there) f.found in
-        behind_it (rested before start c fs ss (nows.Long old end)) (before.used + n)
-        (subst (λ p. Passes g l (rested before start c fs ss (nows.Long old end)) octets n
+        behind_it (rested before start c fs ss (nows.Long old end)) refl
+        (subst (λ p. LeadsTo g l (rested before start c fs ss (nows.Long old end)) octets n
         (with_scan (resting (past_token p before kinds.LongString n)) (waits_long text (before.used + n)))) there
-        (segment_joined g l r old end refl inner before octets f.kept n found f.more f.says room))
+        (segment_joined g l r old end refl (omega arith) before octets f.kept n found f.more f.says (omega arith)))
 
-  -- behind a long string the octet shows that it is whole
-  module _ (p : Place) (before : Rest) (octets : List ℕ) (count : ℕ) (after : Rest) (text : List ℕ) (x : LongThere p before octets count after text)
-      (here : place_in fs nows.Ready ≡ p) (room : before.used + length octets ≤ l.item + start) (end : ℕ) (q : Reading)
-      (does : ended (under g l) (spot_at end start c) fs (annotated ss (payloads.Str text)) ≡ goes q) where
-    pub settled_on : Passes g l (rested before start c fs ss nows.Ready) octets count (with_scan (resting after) q)
-    settled_on =
-        let s = x.segments.leads g l start c ss fs inner here room in
-        let r = waits_long text s.0 in
-        let more = x.more in
-        let size = length-drop count octets in
-        let stays = ended_stays (under g l) (spot_at end start c) q fs (annotated ss (payloads.Str text)) inner does in
-        let none : count + 0 ≡ count = omega arith in
-        let whole : Passes g l (rested after start c fs ss (nows.Long text s.0)) (drop count octets) 0 (with_scan (resting after) q) =
-        long_settled g l r text s.0 refl inner after (drop count octets) q (omega arith) (ap ends_long (at_drop count octets) ∙ x.ends)
-        (ended_anywhere (under g l) start c fs (annotated ss (payloads.Str text)) s.0 end inner ∙ does) (still_settles g l q stays.2)
-        (ended_place (under g l) (spot_at end start c) q fs (annotated ss (payloads.Str text)) inner does ∙ sym (long_place fs text s.0)) in
-        subst (λ k. Passes g l (rested before start c fs ss nows.Ready) octets k (with_scan (resting after) q)) none
-        (passes_on g l (rested before start c fs ss nows.Ready) (rested after start c fs ss (nows.Long text s.0)) (with_scan (resting after) q) octets count 0
-        s.1 whole)
+-- behind a long string in an open container the octet shows that it is whole
+settled_on : (g : Catalog) (l : Limits) (start : ℕ) (c : List Slot) (ss : Symbols) (fs : List Frame) (p : Place) (before : Rest) (octets : List ℕ)
+    (count : ℕ) (after : Rest) (text : List ℕ) (x : LongThere p before octets count after text) → is_top fs ≡ false → place_in fs nows.Ready ≡ p
+    → before.used + length octets ≤ l.item + start → (end : ℕ) (q : Reading)
+    → ended (under g l) (spot_at end start c) fs (annotated ss (payloads.Str text)) ≡ goes q
+    → Passes g l (rested before start c fs ss nows.Ready) octets count (with_scan (resting after) q)
+settled_on g l start c ss [] p before octets count after text x inner here room end q does = absurd cc
+settled_on g l start c ss (f ∷ fs) p before octets count after text x inner here room end q does =
+    let s = x.segments.leads g l start c ss (f ∷ fs) here room in
+    let r = at start c (f ∷ fs) ss (nows.Long text s.0) in
+    let more = x.more in
+    let size = length-drop count octets in
+    let stays = ended_stays (under g l) (spot_at end start c) q (f ∷ fs) (annotated ss (payloads.Str text)) refl does in
+    let none : count + 0 ≡ count = omega arith in
+    let up_to = passes_led g l (rested before start c (f ∷ fs) ss nows.Ready) (with_scan (resting after) r) octets count (omega arith) x.segments.used s.2 in
+    let whole : Passes g l (with_scan (resting after) r) (drop count octets) 0 (with_scan (resting after) q) =
+    long_settled g l r text s.0 refl after (drop count octets) q (omega arith) (ap ends_long (at_drop count octets) ∙ x.ends)
+    (ended_anywhere (under g l) start c (f ∷ fs) (annotated ss (payloads.Str text)) s.0 end refl ∙ does) (still_settles g l q stays.2)
+    (ended_place (under g l) (spot_at end start c) q (f ∷ fs) (annotated ss (payloads.Str text)) refl does ∙ sym (long_place (f ∷ fs) text s.0)) in
+    subst (λ k. Passes g l (rested before start c (f ∷ fs) ss nows.Ready) octets k (with_scan (resting after) q)) none
+    (passes_on g l (rested before start c (f ∷ fs) ss nows.Ready) (with_scan (resting after) r) (with_scan (resting after) q) octets count 0 up_to whole)
 
 -- behind a segment and a blank so many octets are used
 segment_used : (p : Place) (before : Rest) (octets : List ℕ) (count : ℕ) (after : Rest) (old new : List ℕ) → PassedSegment p before octets count after old new
@@ -415,32 +432,45 @@ segment_used p before octets count after old new x =
 -- a segment is a long string so far
 pub first_segment : (p : Place) (before : Rest) (octets : List ℕ) (count : ℕ) (after : Rest) (old new : List ℕ) → old ≡ []
     → PassedSegment p before octets count after old new → LongSoFar p before octets count after new
-first_segment p before octets count after old new none x = record {
-  leads = λ g l start c ss fs inner here room.
-      (before.used + x.size, first_on g l start c ss fs inner p before octets count after old new x here room none);
-  within = x.within;
-  used = segment_used p before octets count after old new x;
-}
+first_segment p before octets count after old new none x =
+    let some = x.segment.found.some in
+    let total = x.total in
+    let used = segment_used p before octets count after old new x in
+    record {
+      leads = λ g l start c ss fs here room. (
+        before.used + x.size,
+        omega arith,
+        first_on g l (begun_at start before.used fs ss) c ss fs p before octets count after old new x here room start refl none,
+      );
+      some = omega arith;
+      within = x.within;
+      used = used;
+    }
 
 -- and with a further one
 pub more_segments : (p : Place) (before mid after : Rest) (octets behind : List ℕ) (i j : ℕ) (old new : List ℕ) → behind ≡ drop i octets
     → LongSoFar p before octets i mid old → PassedSegment p mid behind j after old new → LongSoFar p before octets (i + j) after new
 more_segments p before mid after octets behind i j old new is s x =
     let size : length behind ≡ length octets - i = ap (λ (w : List ℕ). length w) is ∙ length-drop i octets in
+    let some = s.some in
     let first = s.within in
     let more = x.within in
+    let total = x.total in
     let used = s.used in
     let further = segment_used p mid behind j after old new x in
     record {
-      leads = λ g l start c ss fs inner here room.
-          let begun = s.leads g l start c ss fs inner here room in (
+      leads = λ g l start c ss fs here room.
+          let begun = s.leads g l start c ss fs here room in
+          let start' = begun_at start before.used fs ss in (
             mid.used + x.size,
-            passes_on g l (rested before start c fs ss nows.Ready) (rested mid start c fs ss (nows.Long old begun.0))
-                (rested after start c fs ss (nows.Long new (mid.used + x.size))) octets i j begun.1
-                (subst (λ w. Passes g l (rested mid start c fs ss (nows.Long old begun.0)) w j
-                (rested after start c fs ss (nows.Long new (mid.used + x.size)))) is
-                (further_on g l start c ss fs inner p mid behind j after old new x here (omega arith) begun.0)),
+            omega arith,
+            leads_on g l (rested before start c fs ss nows.Ready) (rested mid start' c fs ss (nows.Long old begun.0))
+                (rested after start' c fs ss (nows.Long new (mid.used + x.size))) octets i j first used begun.2
+                (subst (λ w. LeadsTo g l (rested mid start' c fs ss (nows.Long old begun.0)) w j
+                (rested after start' c fs ss (nows.Long new (mid.used + x.size)))) is
+                (further_on g l start' c ss fs p mid behind j after old new x here (omega arith) begun.0 begun.1)),
           );
+      some = omega arith;
       within = omega arith;
       used = omega arith;
     }
@@ -449,7 +479,7 @@ more_segments p before mid after octets behind i j old new is s x =
 pub long_leads : (p : Place) (level : ℕ) (before : Rest) (octets : List ℕ) (count : ℕ) (after : Rest) (text : List ℕ)
     → LongThere p before octets count after text → LeadsBehind p level before octets count after (payloads.Str text)
 long_leads p level before octets count after text x = λ g l start c ss fs those n inner here deep room puts.
-    settled_on g l start c ss fs inner p before octets count after text x here room 0 (at start c those [] n) (puts (under g l) (spot_at 0 start c))
+    settled_on g l start c ss fs p before octets count after text x inner here room 0 (at start c those [] n) (puts (under g l) (spot_at 0 start c))
 
 -- with what is noted
 pub walked_long : (p : Place) (level : ℕ) (octets : List ℕ) (count : ℕ) (before after : Tally) (rest : Rest) (text : List ℕ) → before.level ≤ level
@@ -489,5 +519,5 @@ long_strides old new moved rest behind octets count end text ahead move setting 
     (ended_stays (setting_of old) (spot_of old end) (reading_of new) (open_frames old) v inside.inner does)
     (subst (λ n. Passes g l (with_scan (resting rest) (at old.start old.context (open_frames old) old.notes n)) octets count
     (with_scan (resting behind) (reading_of new))) (sym ahead.stage)
-    (settled_on g l old.start old.context old.notes (open_frames old) inside.inner (place (reading_of old)) rest octets count behind text x there
+    (settled_on g l old.start old.context old.notes (open_frames old) (place (reading_of old)) rest octets count behind text x inside.inner there
     (room old new moved rest behind octets inside ahead.rests move setting) end (reading_of new) does))

@@ -76,7 +76,8 @@ reach_within : (l : Limits) (r : Reading) (s : Known) (fs : List Frame) → lull
 reach_within l r s [] w e u = top_within r.start l.item r.now s r.notes (is_long_begun (begun_in s)) w e u
 reach_within l r s (f ∷ fs) w e u = omega arith
 
-lull_noticed : (l : Limits) (r : Reading) (s : Known) → lulls r.now s.mode ≡ true → ended_so_far r.now ≤ r.start + l.item → s.used ≤ r.start + l.item
+-- over them the open item isn't too long, and nothing is refused
+pub lull_noticed : (l : Limits) (r : Reading) (s : Known) → lulls r.now s.mode ≡ true → ended_so_far r.now ≤ r.start + l.item → s.used ≤ r.start + l.item
     → noticed l r s ≡ uses (with_scan s r)
 lull_noticed l r s w e u =
     ap (λ b. if b then fails reasons.Unexpected else (if nat_le (reaches r.frames r s) l.item then uses (with_scan s r) else fails reasons.ItemTooLong))

@@ -28,7 +28,7 @@ use Rattle.ion_text.specs.machine.Pieces.{led, then_run, run-append, followed, Q
 use Rattle.ion_text.specs.laws.reading.complete.Fuel.{UsedThen, Twice, twice_fuel}
 use Rattle.ion_text.specs.laws.reading.complete.Meets.{follows_as}
 use Rattle.ion_text.specs.machine.Views.{floor, base, IsCalm}
-use Rattle.ion_text.specs.machine.AtOnce.{Passes}
+use Rattle.ion_text.specs.machine.AtOnce.{LeadsTo, Passes}
 use Rattle.ion_text.proofs.Stretches.{quiet_within}
 
 agree_less : (j k : ℕ) (w os : List ℕ) → j ≤ k → take k w ≡ take k os → take j w ≡ take j os
@@ -85,7 +85,7 @@ module _ (g : Catalog) (l : Limits) where
 
   -- octets that are used and give nothing
   pub passes_led : (m n : State) (octets : List ℕ) (count : ℕ) → count ≤ length octets → n.scan.used ≡ m.scan.used + count
-      → run g l m.scan.used m (take count octets) ≡ led n → Passes g l m octets count n
+      → LeadsTo g l m octets count n → Passes g l m octets count n
   passes_led m n octets count within counted e = λ w same.
       let front = agree_less count (count + 1) w octets (omega arith) same in
       let size = length-take-le count octets within in
@@ -93,11 +93,28 @@ module _ (g : Catalog) (l : Limits) where
       ∙ (run-append g l m.scan.used n.scan.used (take count octets) (drop count w) (omega arith) m
       ∙ ap (λ r. then_run r (λ k. run g l n.scan.used k (drop count w))) e)
 
+  -- octets that lead somewhere, and more of them behind these
+  pub leads_on : (m n p : State) (octets : List ℕ) (a b : ℕ) → a ≤ length octets → n.scan.used ≡ m.scan.used + a → LeadsTo g l m octets a n
+      → LeadsTo g l n (drop a octets) b p → LeadsTo g l m octets (a + b) p
+  leads_on m n p octets a b within counted h k =
+      let size = length-take-le a octets within in
+      ap (run g l m.scan.used m) (sym (take-append-drop a (take (a + b) octets)) ∙ (ap (λ w. w ++ drop a (take (a + b) octets)) (front a b octets)
+      ∙ ap (λ w. take a octets ++ w) (drop-take a b octets)))
+      ∙ (run-append g l m.scan.used n.scan.used (take a octets) (take b (drop a octets)) (omega arith) m
+      ∙ (ap (λ r. then_run r (λ q. run g l n.scan.used q (take b (drop a octets)))) h ∙ k))
+    where
+      front : (a b : ℕ) (w : List ℕ) → take a (take (a + b) w) ≡ take a w
+      front a b w = grind (arith, common_steps)
+
   -- one octet that is used and gives nothing
+  pub leads_one : (m n : State) (octets : List ℕ) → 0 < length octets → eats g l m (get_or octets 0 0) ≡ uses n → LeadsTo g l m octets 1 n
+  leads_one m n [] some h = absurd (omega arith)
+  leads_one m n (o ∷ os) some h = ap (run_on m.scan.used (λ j. eats g l j o) (λ j. led j)) h
+
+  -- a run over octets behind it goes on from there
   pub passes_one : (m n : State) (octets : List ℕ) → 0 < length octets → n.scan.used ≡ m.scan.used + 1 → eats g l m (get_or octets 0 0) ≡ uses n
       → Passes g l m octets 1 n
-  passes_one m n [] some counted h = absurd (omega arith)
-  passes_one m n (o ∷ os) some counted h = passes_led m n (o ∷ os) 1 (omega arith) counted (ap (run_on m.scan.used (λ j. eats g l j o) (λ j. led j)) h)
+  passes_one m n octets some counted h = passes_led m n octets 1 (omega arith) counted (leads_one m n octets some h)
 
   -- the octet there does the same from another state
   pub passes_same : (m n p : State) (octets : List ℕ) (k : ℕ) → k < length octets → n.scan.used ≡ p.scan.used → eats g l n (get_or octets k 0)

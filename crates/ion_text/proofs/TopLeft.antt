@@ -1,4 +1,4 @@
--- Numbers and symbols of the top level, whose end the octet behind them shows.
+-- Numbers, symbols and long strings of the top level, whose end the octet behind them shows.
 use Rattle.std.proofs.Common.{◌≡◌, ℕ, ◌+◌, ◌-◌, ◌^◌, ◌<◌, ◌≤◌, min, zero, suc, Bool, true, false, List, [], ◌∷◌, length, take, drop, get_or, inl, inr, Some, Result, Ok, Err, refl, ap, sym, ◌∙◌, subst, arith, length-drop}
 use Rattle.std.specs.Prelude.{◌||◌, if◌then◌else◌}
 use Rattle.std.specs.Option.{is_some}
@@ -7,6 +7,7 @@ use Rattle.std.proofs.lemmas.List.{length-take-le}
 use Rattle.ion_atoms.specs.declared.kind.Kind.{Kind}
 use Rattle.ion_atoms.specs.declared.refusal.Reason.{Reason}
 use Rattle.ion_model.specs.declared.value.Payload.{Payload}
+use Rattle.ion_model.specs.declared.value.Payload.TheVariants as payloads
 use Rattle.ion_model.specs.declared.value.Value.{Value}
 use Rattle.ion_model.specs.Kinds.{is_table, kind_of}
 use Rattle.ion_model.specs.Measures.{bare, depth, nodes}
@@ -34,6 +35,7 @@ use Rattle.ion_text.specs.declared.state.Now.TheVariants as nows
 use Rattle.ion_text.specs.machine.AtOnce.{Passes}
 use Rattle.ion_text.specs.machine.EachToken.{Reading, Setting, Spot, at, fresh, gives, goes, held_payload, paid, place, released, settle, spot_at, turn, under}
 use Rattle.ion_text.specs.machine.FrontTokens.{ends_symbol, held_of, is_marker, IsValue}
+use Rattle.ion_text.specs.machine.LongStrings.{LongThere}
 use Rattle.ion_text.specs.machine.Pieces.{led, drive, go_on}
 use Rattle.ion_text.specs.machine.Progress.{Advances}
 use Rattle.ion_text.specs.machine.Run.{State, Effect, takes, on_scan, on_said, on_settled, behind_left, unsettled, token_of, run, with_scan}
@@ -43,7 +45,8 @@ use Rattle.ion_text.specs.visiting.Walks.{FoundNumber, FoundSymbol, ItemAhead}
 use Rattle.ion_text.proofs.Arms.{blank_used, given_found, left_found}
 use Rattle.ion_text.proofs.Passing.{NoticesNothing, blank_quiet, blank_waits}
 use Rattle.ion_text.proofs.Symbols.{ends_waits, held_in, waits_so}
-use Rattle.ion_text.proofs.Walks.{flat_number}
+use Rattle.ion_text.proofs.LongStrings.{long_unsettled}
+use Rattle.ion_text.proofs.Walks.{flat_number, flat_text}
 use Rattle.ion_text.proofs.Tops.{on_top, gone_on, passes_then, resumed_same, same_outline, state_there, top_blank, top_ended, top_quiet, waits_notices}
 
 -- a number is no local symbol table
@@ -265,3 +268,33 @@ module _ (rest : Rest) (item : List ℕ) (s : Scalar) (q : Payload) (f : FoundSy
     where
       more : (a b c : ℕ) → a + b + c ≡ a + (b + c)
       more a b c = omega arith
+
+-- so does the octet behind the segments of a long string
+module _ (rest : Rest) (item : List ℕ) (count : ℕ) (after : Rest) (text : List ℕ) (x : LongThere places.Top rest item count after text) where
+  long_leaves : (g : Catalog) (l : Limits) (start : ℕ) (c : List Slot) → length item ≤ l.item
+      → LeavesTop g l rest start c item count after (bare (payloads.Str text))
+  long_leaves g l start c few =
+      let more = x.more in
+      let used = x.segments.used in
+      let s = x.segments.leads g l start c [] [] refl (omega arith) in
+      let end = s.0 in
+      let early = s.1 in
+      let waiting = at rest.used c [] [] (nows.Long text end) in
+      let o = get_or item count 0 in
+      let known = feed (place waiting) (resting after) o in
+      let again : State → Effect = λ m. takes g l 2 m o in
+      let settles : settle g l waiting ≡ gives (bare (payloads.Str text)) (fresh c) =
+      top_ended g l end rest.used c (bare (payloads.Str text)) refl (omega arith) in (
+        with_scan (resting after) waiting,
+        s.2,
+        ap (λ b. if b then on_scan g l again waiting known else on_settled g l again (resting after) known (settle g l waiting))
+            (long_unsettled g l waiting text end refl after o x.ends)
+            ∙ ap (on_settled g l again (resting after) known) settles,
+      )
+
+  pub found_long : FoundLeft item count rest after (payloads.Str text)
+  found_long = record {
+    leaves = record { leaves = long_leaves; some = x.segments.some; within = x.more; used = x.segments.used };
+    flat = (flat_text text).deep;
+    plain = refl;
+  }

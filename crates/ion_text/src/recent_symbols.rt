@@ -10,6 +10,9 @@ use std::mem;
 /// How many symbols are kept at most.
 const PLACES: usize = 128;
 
+/// So many symbols are made before any is kept, since a small document has few and wouldn't gain.
+const FEW: u8 = 8;
+
 /// How many octets the text of a kept symbol has at most, so that what is kept stays small.
 const LONGEST: usize = 64;
 
@@ -21,7 +24,9 @@ const LONGEST: usize = 64;
 #[derive(Drop)]
 pub struct RecentSymbols {
     alloc: Global,
-    /// None before the first symbol; then that of each place, or the unknown one.
+    /// How many symbols were made while none was kept.
+    made: u8,
+    /// None yet; or that of each place, or the unknown one.
     kept: Vec<Symbol>,
 }
 
@@ -36,6 +41,7 @@ impl RecentSymbols {
     pub(crate) fn new(alloc: Global) -> RecentSymbols {
         RecentSymbols {
             alloc,
+            made: 0,
             kept: Vec::new(alloc),
         }
     }
@@ -64,11 +70,11 @@ impl RecentSymbols {
         Ok(symbol)
     }
 
-    // Keeps a symbol at its place, in place of the one that was there. Without memory nothing is
-    // kept.
+    // Keeps a symbol at its place, in place of the one that was there. The first ones aren't kept,
+    // nor any without memory.
     fn keep(&mut self, place: usize, symbol: &Symbol) {
-        if self.kept.is_empty() {
-            self.make_places();
+        if self.kept.is_empty() && !self.makes_places() {
+            return;
         }
         if place >= self.kept.len() {
             return;
@@ -78,16 +84,21 @@ impl RecentSymbols {
         }
     }
 
-    // Every place, with the unknown symbol.
-    fn make_places(&mut self) {
+    // Makes every place, with the unknown symbol, unless few symbols came yet. Whether it did.
+    fn makes_places(&mut self) -> bool {
+        if self.made < FEW {
+            self.made += 1;
+            return false;
+        }
         if self.kept.reserve(PLACES).is_err() {
-            return;
+            return false;
         }
         for _ in 0..PLACES {
             if self.kept.push(Symbol::unknown()).is_err() {
-                return;
+                return false;
             }
         }
+        true
     }
 }
 

@@ -1,13 +1,13 @@
-//! Quoted texts with escapes of two octets, and typed nulls, that lie whole in memory: what stands
-//! between two escapes is kept at once.
+//! Quoted texts with escapes, and typed nulls, that lie whole in memory: what stands between two
+//! escapes is kept at once.
 ghost use Rattle.std.specs.Prelude.{◌≡◌, ◌<◌, ◌≤◌, [], ◌∷◌, length, slice_index, take, IfSome};
 ghost use Rattle.ion_tokens.specs.Styles.{quote_of};
 ghost use Rattle.ion_tokens.specs.machine.Contents.{LeadsOn, StandsWhole};
 
+use crate::escapes::escape;
 use crate::front::{characters, of_word};
 use crate::machine::Machine;
 use crate::mode::{Style, TokenKind};
-use crate::octets::escaped;
 use crate::quoted::quote_of;
 use crate::token_reader::FoundToken;
 use std::mem;
@@ -23,12 +23,7 @@ fn part(style: Style, octets: &[u8], kept: &mut Vec<u8>) -> Option<usize>
         LeadsOn style (take count octets.now) kept.old.items kept.new.items) }
 {
     if octets[0] == b'\\' {
-        if octets.len() < 2 {
-            return None;
-        }
-        let meant = escaped(octets[1])?;
-        kept.push(meant).ok()?;
-        return Some(2);
+        return escape(style, octets, kept);
     }
     let count = characters(style, octets);
     if count == 0 {
@@ -38,15 +33,20 @@ fn part(style: Style, octets: &[u8], kept: &mut Vec<u8>) -> Option<usize>
     Some(count)
 }
 
-// Keeps what stands before the first quote, and counts its octets.
-fn before_quote(style: Style, octets: &[u8], kept: &mut Vec<u8>) -> Option<usize>
+/// Keeps what stands before the first quote, and counts its octets.
+pub fn before_quote(style: Style, octets: &[u8], kept: &mut Vec<u8>) -> Option<usize>
     ensures within { IfSome result (λ count. count < length octets.now) }
     ensures quote { IfSome result (λ count. slice_index octets.now count ≡ quote_of style) }
     ensures leads { IfSome result (λ count.
         LeadsOn style (take count octets.now) kept.old.items kept.new.items) }
 {
     let quote = quote_of(style);
-    let mut at = 0;
+    let mut at = characters(style, octets);
+    if octets[at..].first() == Some(&b'\\') {
+        // room for more than the escape, so that most texts take memory once
+        kept.reserve(at + 32).ok()?;
+    }
+    kept.extend_from_slice(&octets[..at]).ok()?;
     while at < octets.len() {
         if octets[at] == quote {
             return Some(at);
@@ -58,8 +58,8 @@ fn before_quote(style: Style, octets: &[u8], kept: &mut Vec<u8>) -> Option<usize
 
 impl Machine {
     /// The token at the front of octets where the machine rests, if it is a typed null or a quoted
-    /// text whose characters stand as they are or are escapes of two octets. `None` also of the
-    /// empty symbol, of a segment of a long string with quotes in it, and where memory runs out.
+    /// text whose characters stand as they are or are escapes. `None` also of hidden line ends, of
+    /// a segment of a long string with quotes in it, and where memory runs out.
     pub fn found_at_once(&mut self, octets: &[u8]) -> Option<FoundToken>
         ensures { IfSome result (λ found. StandsWhole octets.now self.new.ended.items found) }
     {
@@ -88,14 +88,26 @@ impl Machine {
         ensures { IfSome result (λ found.
             StandsWhole (39 ∷ behind.now) self.new.ended.items found) }
     {
-        if let Some(content) = behind.strip_prefix(b"''") {
-            return self.escaped_segment(content);
+        let (first, after) = behind.split_first()?;
+        if *first == b'\'' {
+            return self.behind_quotes(after);
         }
         let count = before_quote(Style::QuotedSymbol, behind, &mut self.kept)?;
-        if behind[0] == b'\'' {
-            return None;
-        }
         Some(self.whole(TokenKind::QuotedSymbol, count + 2, false))
+    }
+
+    // The same behind two single quotes, of which a third makes those of a long string. Else they
+    // are the empty symbol, whose end the octet behind it shows.
+    fn behind_quotes(&mut self, behind: &[u8]) -> Option<FoundToken>
+        requires { self.old.kept.items ≡ [] }
+        ensures { IfSome result (λ found.
+            StandsWhole (39 ∷ 39 ∷ behind.now) self.new.ended.items found) }
+    {
+        let (first, content) = behind.split_first()?;
+        if *first == b'\'' {
+            return self.escaped_segment(content);
+        }
+        Some(self.whole(TokenKind::QuotedSymbol, 2, true))
     }
 
     // The same behind the three quotes of a segment of a long string.
@@ -123,8 +135,8 @@ impl Machine {
         Some(self.whole(TokenKind::KindName, count + 5, true))
     }
 
-    // What was kept is that of a token.
-    fn whole(&mut self, kind: TokenKind, count: usize, left: bool) -> FoundToken
+    /// What was kept is that of a token.
+    pub fn whole(&mut self, kind: TokenKind, count: usize, left: bool) -> FoundToken
         ensures token { result ≡ record { kind = kind; count = count; left = left } }
         ensures ended { self.new.ended.items ≡ self.old.kept.items }
     {

@@ -6,7 +6,7 @@ ghost use Rattle.ion_tokens.specs.Lexemes.{Each};
 ghost use Rattle.ion_tokens.specs.machine.AtOnce.{is_between, is_plain, is_raw, is_numeric, is_plain_operator, goes_on, keeps_them, gone_on, AreKept, GoesOver};
 ghost use Rattle.ion_tokens.specs.machine.Machines.{known};
 
-use crate::lanes::{number_ends, raw_ends, text_ends, word_ends};
+use crate::lanes::{base64_ends, number_ends, raw_ends, text_ends, word_ends};
 use crate::machine::{Machine, start_of};
 use crate::mode::{Lob, Mode, Style, Within};
 use crate::octets::{is_base64, is_line_end, is_operator_octet, is_stop, is_white, is_word_octet};
@@ -219,7 +219,24 @@ pub fn of_operator(octets: &[u8]) -> usize
 }
 
 /// How many octets of base64 there are at the front.
+#[inline(always)]
 pub fn of_base64(octets: &[u8]) -> usize
+    ensures { result ≡ length (take_while is_base64 octets.now) }
+{
+    let mut at = 0;
+    while octets.len() - at >= 16 {
+        let ends = base64_ends(u8x16::from_slice(&octets[at..]));
+        if ends != 0 {
+            return at + ends.trailing_zeros() as usize;
+        }
+        at += 16;
+    }
+    at + each_of_base64(&octets[at..])
+}
+
+// The same, one by one.
+#[inline(never)]
+fn each_of_base64(octets: &[u8]) -> usize
     ensures { result ≡ length (take_while is_base64 octets.now) }
 {
     octets

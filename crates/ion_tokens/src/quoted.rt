@@ -147,13 +147,15 @@ fn grow(number: u32, digit: u8) -> u32
     }
 }
 
-fn is_high(unit: u32) -> bool
+/// The first half of a surrogate pair.
+pub fn is_high(unit: u32) -> bool
     ensures { result ≡ is_high unit }
 {
     0xd800 <= unit && unit <= 0xdbff
 }
 
-fn is_low(unit: u32) -> bool
+/// The second half of one.
+pub fn is_low(unit: u32) -> bool
     ensures { result ≡ is_low unit }
 {
     0xdc00 <= unit && unit <= 0xdfff

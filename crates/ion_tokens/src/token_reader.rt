@@ -103,7 +103,7 @@ impl Machine {
         if let Some(found) = self.found_at_once(octets) {
             return Some(found);
         }
-        if let Some(found) = self.blob_at_once(place, octets) {
+        if let Some(found) = self.lob_at_once(place, octets) {
             return Some(found);
         }
         self.rest(rest);

@@ -20,10 +20,10 @@ const B_AND_A: [u8; 17] = [
 ];
 
 /// Two values, and how many octets of each are taken up.
-type Row = (&'static [u8], &'static [u8], Option<(usize, usize)>);
+pub(crate) type Row = (&'static [u8], &'static [u8], Option<(usize, usize)>);
 
 /// What is taken up, or why a table was refused.
-type Taken = Result<Option<(usize, usize)>, Reason>;
+pub(crate) type Taken = Result<Option<(usize, usize)>, Reason>;
 
 /// A reader takes up a table.
 fn takes<R: Items>(reader: &mut R, table: &[u8; 17]) -> Result<(), Reason>
@@ -35,6 +35,20 @@ fn takes<R: Items>(reader: &mut R, table: &[u8; 17]) -> Result<(), Reason>
         Ok(_) => Ok(()),
         Err(refusal) => Err(refusal.reason),
     }
+}
+
+/// Two readers take up a table each, the first one of `a` and `b`, the other one of `b` and `a`.
+pub(crate) fn take_tables<'a>(
+    reader: &mut BinaryReader<'a>,
+    other: &mut BinaryReader<'a>,
+) -> Result<(), Reason>
+    requires used { ⟦<BinaryReader<'a> as Items>⟧.taken reader.old ≡ 0 }
+    requires other_used { ⟦<BinaryReader<'a> as Items>⟧.taken other.old ≡ 0 }
+    ensures taken { IfOk result (λ _. ⟦<BinaryReader<'a> as Items>⟧.taken reader.new ≤ 17) }
+    ensures other_taken { IfOk result (λ _. ⟦<BinaryReader<'a> as Items>⟧.taken other.new ≤ 17) }
+{
+    takes(reader, &A_AND_B)?;
+    takes(other, &B_AND_A)
 }
 
 /// What is taken up of the two values, the first behind a table of `a` and `b`, the other behind
@@ -50,8 +64,7 @@ fn behind_tables<'a>(
     if row.0.len() > 80 || row.1.len() > 80 {
         return Err(Reason::TooLarge);
     }
-    takes(reader, &A_AND_B)?;
-    takes(other, &B_AND_A)?;
+    take_tables(reader, other)?;
     Ok(reader.pass_alike(row.0, other, row.1))
 }
 

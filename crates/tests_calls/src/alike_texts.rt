@@ -41,27 +41,42 @@ fn beside<'a>(
     taken
 }
 
-/// The same, where the first's reader has the usual ones.
-fn taken_up(alloc: Global, catalog: &Catalog, other_limits: Limits, row: &Row) -> Taken {
-    let mut reader = TextReader::new(alloc, catalog, Limits::usual())?;
+/// The same, where the first's reader has these.
+fn taken_up(
+    alloc: Global,
+    catalog: &Catalog,
+    limits: Limits,
+    other_limits: Limits,
+    row: &Row,
+) -> Taken {
+    let mut reader = TextReader::new(alloc, catalog, limits)?;
     let taken = beside(&mut reader, alloc, catalog, other_limits, row);
     drop(reader);
     taken
 }
 
-static ROWS: [Row; 17] = [
+static ROWS: [Row; 24] = [
     // containers and short strings of equal octets, behind any blank
     (b"[1,true]", b"[1,true]", Some((8, 8))),
     (b" {a:1} 2", b"{a:1}", Some((6, 5))),
     (b"\n(+ b)", b"  \t(+ b)", Some((6, 8))),
     (b"\"ab\"", b"\"ab\"\"ab\"", Some((4, 4))),
     (b"a::'b c'::[d]", b"a::'b c'::[d]", Some((13, 13))),
+    // a value that ends with its own last octet, where one of the pieces ends
+    (b"[1,true] 2", b"[1,true]", Some((8, 8))),
+    (b"[1,true]", b"[1,true]//", Some((8, 8))),
     // and behind any comment; one in the value has to be the same
     (b"/* x */ [1]", b"// y\n[1]", Some((11, 8))),
     (b"[1 /**/]", b"[1 /**/]", Some((8, 8))),
-    // numbers of equal octets and equal symbols, with the blank behind a symbol; the next octet
-    // shows their end
+    // numbers and long strings of equal octets and equal symbols, with the blank behind strings
+    // and symbols; the next octet shows their end
     (b"1 ", b"1 ", Some((1, 1))),
+    (b"'''a''' 1", b"\t'''a''' 1", Some((8, 9))),
+    (
+        b"'''a\\n''' '''b'''[",
+        b"'''a\\n''' '''b'''[",
+        Some((17, 17)),
+    ),
     (b"a b", b"'a' b", Some((2, 4))),
     // other octets, also where the values are the same
     (b"\"ab\"", b"\"ac\"", None),
@@ -70,7 +85,10 @@ static ROWS: [Row; 17] = [
     (b"1 ", b"2 ", None),
     // what isn't whole, or goes by symbol tables
     (b"a ", b"a ", None),
+    (b"a b", b"a ", None),
+    (b"1 ", b"1", None),
     (b"[1", b"[1", None),
+    (b"[1]", b"[1", None),
     (b"[$4]", b"[$4]", None),
     (b"$ion_symbol_table::{}", b"$ion_symbol_table::{}", None),
 ];
@@ -79,7 +97,7 @@ static ROWS: [Row; 17] = [
 fn same_octets(rt: HostRuntime) {
     let catalog = Catalog::new(rt.alloc());
     for row in &ROWS {
-        let found = taken_up(rt.alloc(), &catalog, Limits::usual(), row);
+        let found = taken_up(rt.alloc(), &catalog, Limits::usual(), Limits::usual(), row);
         same(&rt, *row, found, Ok(row.2));
     }
     drop(catalog);
@@ -91,23 +109,38 @@ const LISTS: &[u8] = b"[[[5]]]";
 /// A string of 16 octets.
 const STRING: &[u8] = b"\"abcdefghijklmn\"";
 
-/// The greatest depth and the most octets of an item on the other side.
-static LIMITED: [(u32, u64, Row); 4] = [
-    (3, 16, (LISTS, LISTS, Some((7, 7)))),
-    (3, 16, (STRING, STRING, Some((16, 16)))),
-    (2, 16, (LISTS, LISTS, None)),
-    (3, 15, (STRING, STRING, None)),
+/// The greatest depth and the most octets of an item.
+type Bounds = (u32, u64);
+
+/// Those of three levels and 16 octets.
+const ENOUGH: Bounds = (3, 16);
+
+/// The bounds of both texts.
+static LIMITED: [(Bounds, Bounds, Row); 6] = [
+    (ENOUGH, ENOUGH, (LISTS, LISTS, Some((7, 7)))),
+    (ENOUGH, ENOUGH, (STRING, STRING, Some((16, 16)))),
+    (ENOUGH, (2, 16), (LISTS, LISTS, None)),
+    ((2, 16), ENOUGH, (LISTS, LISTS, None)),
+    (ENOUGH, (3, 15), (STRING, STRING, None)),
+    ((3, 15), ENOUGH, (STRING, STRING, None)),
 ];
 
+/// The limits with these bounds.
+fn bounded(bounds: Bounds) -> Option<Limits> {
+    Limits::new(bounds.0, bounds.1, 1)
+}
+
 #[test]
-fn limits_of_the_other_text(rt: HostRuntime) {
+fn limits_of_either_text(rt: HostRuntime) {
     let catalog = Catalog::new(rt.alloc());
-    for (depth, item, row) in &LIMITED {
-        let found = match Limits::new(*depth, *item, 1) {
-            Some(limits) => taken_up(rt.alloc(), &catalog, limits, row),
-            None => Err(Reason::TooLarge),
+    for (bounds, other_bounds, row) in &LIMITED {
+        let found = match (bounded(*bounds), bounded(*other_bounds)) {
+            (Some(limits), Some(other_limits)) => {
+                taken_up(rt.alloc(), &catalog, limits, other_limits, row)
+            }
+            _ => Err(Reason::TooLarge),
         };
-        same(&rt, (*depth, *item, *row), found, Ok(row.2));
+        same(&rt, (*bounds, *other_bounds, *row), found, Ok(row.2));
     }
     drop(catalog);
 }

@@ -30,6 +30,10 @@ mod parts;
 #[cfg(test)]
 mod readers;
 #[cfg(test)]
+mod reordered;
+#[cfg(test)]
+mod reordered_texts;
+#[cfg(test)]
 mod scanner;
 #[cfg(test)]
 mod shelves;
@@ -39,6 +43,8 @@ mod starved;
 mod steps;
 #[cfg(test)]
 mod streams;
+#[cfg(test)]
+mod tokens;
 mod wanted;
 #[cfg(test)]
 mod words;

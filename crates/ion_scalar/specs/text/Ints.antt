@@ -1,5 +1,5 @@
 -- Numbers as tokens (Ion 1.0, "Ion Text Encoding" and its grammar, int literals). Octets stand as numbers: 48 is `0`, 45 `-`, 95 `_`.
-use Rattle.std.specs.Prelude.{ℕ, ◌≡◌, ◌≢◌, ◌<◌, ◌≤◌, ◌⊎◌, ◌==◌, not, Bool, true, false, IsTrue, ◌↔◌, List, [], ◌∷◌, map, slice_index}
+use Rattle.std.specs.Prelude.{ℕ, ◌≡◌, ◌≢◌, ◌<◌, ◌≤◌, ◌⊎◌, ◌==◌, not, Bool, false, IsTrue, ◌↔◌, List, [], ◌∷◌, map, slice_index}
 use Rattle.std.specs.List.{filter}
 use Rattle.std.specs.Char.{digit_value}
 pub use Rattle.ion_atoms.specs.Texts.{minus}

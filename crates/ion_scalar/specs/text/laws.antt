@@ -5,6 +5,8 @@ pub mod Signs
 pub mod DecimalTails
 pub mod DecimalCuts
 pub mod Unsigned
+pub mod ShortNumbers
+pub mod UsualTokens
 pub mod TimestampForms
 pub mod OneNumber
 pub mod Texts

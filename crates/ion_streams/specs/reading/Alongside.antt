@@ -27,9 +27,10 @@ StandingPast I (Open before) (Refused refusal) v = ⊥
 StandingPast I Ended after v = ⊥
 StandingPast I (Refused refusal) after v = ⊥
 
--- both gave one value, which the course took for the same
+-- both gave a value, and the course took the two for equivalent
 pub record GoAlike {X Y : Type 0} (I : Items X) (J : Items Y) (course after : Course) (left left_now : Standing X) (right right_now : Standing Y) : Type 0 where
   pub value : Value
+  pub other : Value
   pub left_past : StandingPast I left left_now value
-  pub right_past : StandingPast J right right_now value
-  pub met : IsMet course (Some value) (Some value) after
+  pub right_past : StandingPast J right right_now other
+  pub met : IsMet course (Some value) (Some other) after

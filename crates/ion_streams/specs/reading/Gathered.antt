@@ -1,8 +1,10 @@
 -- Pieces that are joined to what is left.
-use Rattle.std.specs.Prelude.{◌≡◌, ℕ, ◌+◌, ◌-◌, ◌<◌, ◌≤◌, ◌⊎◌, List, length, false}
+use Rattle.std.specs.Prelude.{◌≡◌, ℕ, ◌+◌, ◌-◌, ◌<◌, ◌≤◌, ◌⊎◌, ⊤, List, length, true, false}
 use Rattle.ion_model.specs.declared.value.Value.{Value}
 use Rattle.ion_symtab.specs.declared.catalog.Catalog.{Catalog}
 use Rattle.ion_symtab.specs.declared.limits.Limits.{Limits}
+use Rattle.ion_symtab.specs.declared.fault.Fault.{Fault}
+use Rattle.ion_symtab.specs.declared.fault.Fault.TheVariants.{Memory, Read}
 use Rattle.ion_symtab.specs.declared.inlet.Inlet.{Ghosts as Inlet}
 use Rattle.ion_symtab.specs.declared.items.Items.{Ghosts as Items}
 use Rattle.ion_streams.specs.reading.Read.{left_of, IsReady, IsWithin, work, ReadsEach}
@@ -56,3 +58,9 @@ GathersAt R I old now (Open before) Ended = ⊥
 GathersAt R I old now (Open before) (Refused refusal) = ⊥
 GathersAt R I old now Ended after = (now ≡ old) × (after ≡ Ended)
 GathersAt R I old now (Refused refusal) after = (now ≡ old) × (after ≡ Refused refusal)
+
+-- what a fault says where pieces are joined: memory was refused, or a read of the device failed
+abbrev pub IsJoinCause : {S : Type 0} → Inlet S → S → Fault → Type 0
+IsJoinCause R now Memory = ⊤
+IsJoinCause R now Read = R.has_failed now ≡ true
+IsJoinCause R now _ = ⊥

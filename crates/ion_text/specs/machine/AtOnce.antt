@@ -11,6 +11,7 @@ use Rattle.ion_tokens.specs.machine.Views.{scanned}
 use Rattle.ion_text.specs.declared.state.Now.{Now}
 use Rattle.ion_text.specs.declared.state.Now.TheVariants as nows
 use Rattle.ion_text.specs.declared.reader.TextReader.{TextReader}
+use Rattle.ion_text.specs.machine.Pieces.{led}
 use Rattle.ion_text.specs.machine.Run.{State, is_top, run}
 use Rattle.ion_text.specs.machine.Views.{state_of, open_frames, IsFine, SameReader}
 use Rattle.ion_text.specs.machine.Progress.{StaysSteady}
@@ -18,6 +19,10 @@ use Rattle.ion_text.specs.machine.Progress.{StaysSteady}
 -- Over octets that agree with these up to the one behind so many, whatever comes then, a run from m goes on there from n.
 abbrev pub Passes : Catalog → Limits → State → List ℕ → ℕ → State → Type 0
 Passes g l m octets count n = (w : List ℕ) → take (count + 1) w ≡ take (count + 1) octets → run g l m.scan.used m w ≡ run g l n.scan.used n (drop count w)
+
+-- A run over so many octets gives nothing, and leads from m to n.
+abbrev pub LeadsTo : Catalog → Limits → State → List ℕ → ℕ → State → Type 0
+LeadsTo g l m octets count n = run g l m.scan.used m (take count octets) ≡ led n
 
 -- nothing waits
 abbrev pub IsStill : Now → Type 0

@@ -1,4 +1,4 @@
--- Long strings at the front of octets where a container is open: segments, each with a blank behind it.
+-- Long strings at the front of octets: segments, each with a blank behind it.
 use Rattle.std.specs.Prelude.{◌≡◌, ℕ, ◌+◌, ◌==◌, ◌&&◌, ◌<◌, ◌≤◌, Bool, true, false, not, List, ◌++◌, length, drop, get_or, Ok}
 use Rattle.ion_symtab.specs.declared.catalog.Catalog.{Catalog}
 use Rattle.ion_symtab.specs.declared.limits.Limits.{Limits}
@@ -11,10 +11,9 @@ use Rattle.ion_tokens.specs.machine.Rests.{past_blank, past_token, IsFound, IsPa
 use Rattle.ion_tokens.specs.machine.Said.{said}
 use Rattle.ion_text.specs.declared.state.Frame.{Frame}
 use Rattle.ion_text.specs.declared.state.Now.TheVariants as nows
-use Rattle.ion_text.specs.machine.AtOnce.{Passes}
-use Rattle.ion_text.specs.machine.EachToken.{Symbols, place_in}
+use Rattle.ion_text.specs.machine.AtOnce.{LeadsTo}
+use Rattle.ion_text.specs.machine.EachToken.{Symbols, begun_at, place_in}
 use Rattle.ion_text.specs.machine.FrontTokens.{ends_symbol}
-use Rattle.ion_text.specs.machine.Run.{is_top}
 use Rattle.ion_text.specs.machine.Walked.{rested}
 
 -- the octet shows that no segment of a long string follows: it is no blank and no quote, and begins no colon and no comment
@@ -41,9 +40,11 @@ pub record PassedSegment (p : Place) (before : Rest) (octets : List ℕ) (count 
 
 -- where a value may come in such a place, so many octets lead to where a long string of this text waits for more
 pub record LongSoFar (p : Place) (before : Rest) (octets : List ℕ) (count : ℕ) (after : Rest) (text : List ℕ) : Type 0 where
-  pub leads : (g : Catalog) (l : Limits) (start : ℕ) (c : List Slot) (ss : Symbols) (fs : List Frame) → is_top fs ≡ false
-      → place_in fs nows.Ready ≡ p → before.used + length octets ≤ l.item + start
-      → (end : ℕ) × Passes g l (rested before start c fs ss nows.Ready) octets count (rested after start c fs ss (nows.Long text end))
+  pub leads : (g : Catalog) (l : Limits) (start : ℕ) (c : List Slot) (ss : Symbols) (fs : List Frame) → place_in fs nows.Ready ≡ p
+      → before.used + length octets ≤ l.item + begun_at start before.used fs ss
+      → (end : ℕ) × (end ≤ after.used) × LeadsTo g l (rested before start c fs ss nows.Ready) octets count
+      (rested after (begun_at start before.used fs ss) c fs ss (nows.Long text end))
+  pub some : 0 < count
   pub within : count ≤ length octets
   pub used : after.used ≡ before.used + count
 

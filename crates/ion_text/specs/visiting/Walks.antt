@@ -91,7 +91,7 @@ module _ {S M : Type 0} (h : Visits S M) where
     pub some : 0 < count → 0 < length walked.notes
     pub visited : VisitedAnnotations h walked.notes a b
 
-  -- octets at the top level begin with a number or a symbol, which the visitor took, and the octet behind so many shows its end
+  -- octets at the top level begin with a number, a symbol or a long string, which the visitor took, and the octet behind so many shows its end
   pub record VisitedLeft (octets : List ℕ) (count : ℕ) (before after : Rest) (a b : S) : Type 0 where
     pub payload : Payload
     pub found : FoundLeft octets count before after payload

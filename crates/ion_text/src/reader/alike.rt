@@ -1,5 +1,5 @@
 //! Items of the top level that lie whole in two pieces with the same octets: they are gone over on
-//! both sides, compared as they stand, and not built. What is cut, refused, unusual or spelled in
+//! one side, compared as they stand, and not built. What is cut, refused, unusual or spelled in
 //! different ways isn't told here: the readers take it up.
 ghost use Rattle.std.specs.Prelude.{◌≡◌, ◌+◌, ◌-◌, ◌≤◌, ◌<◌, ◌^◌, true, length, take, drop, min, IfSome, IsNone, None, Ok, Some};
 ghost use Rattle.std.specs.Option.{is_some};
@@ -9,14 +9,15 @@ ghost use Rattle.ion_symtab.specs.declared.catalog.Catalog.{Catalog};
 ghost use Rattle.ion_tokens.specs.machine.Views.{scanned};
 ghost use Rattle.ion_model.specs.declared.value.Payload.{Payload};
 ghost use Rattle.ion_visiting.specs.Parts.{payload_of};
-ghost use Rattle.ion_text.specs.machine.Alike.{IsFront, IsTop};
+ghost use Rattle.ion_text.specs.machine.Alike.{rest_at, rest_behind, IsFront, IsTop};
 ghost use Rattle.ion_text.specs.machine.Walked.{FoundLeft};
 ghost use Rattle.ion_text.specs.machine.Progress.{Advances, BeginsWith, SameSettings, StaysSteady};
 ghost use Rattle.ion_text.specs.machine.Views.{state_of, IsFine};
 
 use super::TextReader;
 use super::finders::{begins_number, begins_symbol};
-use super::left_values::{number_left, symbol_left};
+use super::left_values::{left_at, symbol_left};
+use super::long_strings::begins_long;
 use super::passing::up_to;
 use super::top_values::walk_top;
 use super::walks::Tally;
@@ -24,6 +25,7 @@ use crate::visitor::Unheeding;
 use ion_symtab::Items;
 use ion_tokens::{Rest, TokenReader, blank_with_comments};
 use ion_visiting::Part;
+use std::alloc::Global;
 use std::simd::prelude::*;
 
 /// How many octets of a line are compared at most before an item is gone over.
@@ -97,17 +99,48 @@ fn fronts_alike(octets: &[u8], other: &[u8], count: usize) -> bool
     count <= other.len() && octets[..count] == other[..count]
 }
 
-/// The item at the front of octets where a scanner rests, of at most so many levels.
-fn top_at(tokens: &mut TokenReader, octets: &[u8], rest: Rest, depth: u32) -> Option<Top>
-    requires room { rest.used + length octets.now < 2 ^ 63 }
-    ensures { IfSome result (λ top. (v : Value)
-        × IsTop depth octets.now top.count rest top.rest v) }
+/// Where a scanner rests before the first octet.
+fn at_front(colon: bool) -> Rest
+    ensures { result ≡ rest_at colon 0 0 }
 {
-    let mut tally = Tally::new(depth, rest);
+    Rest {
+        start: 0,
+        used: 0,
+        colon,
+    }
+}
+
+/// The item at the front of octets before which none was used, of at most so many levels.
+fn top_at(tokens: &mut TokenReader, octets: &[u8], colon: bool, depth: u32) -> Option<Top>
+    requires room { length octets.now < 2 ^ 63 }
+    ensures { IfSome result (λ top. (v : Value)
+        × IsTop depth octets.now top.count (rest_at colon 0 0) top.rest v) }
+{
+    let mut tally = Tally::new(depth, at_front(colon));
     let count = walk_top(tokens, octets, depth, &mut tally, &mut Unheeding)?;
     Some(Top {
         count,
         rest: tally.rest,
+    })
+}
+
+/// The same item where the scanner rests before it.
+#[inline(always)]
+fn behind(rest: Rest, top: Top) -> Option<Top>
+    requires room { rest.used + top.count < 2 ^ 63 }
+    ensures { IfSome result (λ there. there ≡ record {
+      count = top.count;
+      rest = rest_behind rest top.rest top.count;
+    }) }
+{
+    let start = top.rest.start.checked_add(rest.used)?;
+    Some(Top {
+        count: top.count,
+        rest: Rest {
+            start,
+            used: rest.used + top.count as u64,
+            colon: top.rest.colon,
+        },
     })
 }
 
@@ -123,28 +156,32 @@ fn parts_alike(said: &Part<'_>, other: &Part<'_>) -> bool
     }
 }
 
-/// The number at both fronts, where it has the same octets.
-fn numbers_alike(octets: &[u8], rest: Rest, beside: &[u8], other_rest: Rest) -> Option<(Top, Top)>
+/// The number or the long string at both fronts, where it has the same octets and the one behind
+/// them, which shows its end, is the same too.
+fn left_alike(
+    alloc: Global,
+    octets: &[u8],
+    rest: Rest,
+    beside: &[u8],
+    other_rest: Rest,
+) -> Option<(Top, Top)>
     requires room { rest.used + length octets.now < 2 ^ 63 }
     requires other_room { other_rest.used + length beside.now < 2 ^ 63 }
     ensures { IfSome result (λ tops. (payload : Payload)
         × FoundLeft octets.now tops.0.count rest tops.0.rest payload
         × FoundLeft beside.now tops.1.count other_rest tops.1.rest payload) }
 {
-    let (count, behind, _) = number_left(octets, rest)?;
-    let (other_count, other_behind, _) = number_left(beside, other_rest)?;
-    if count > octets.len() || count != other_count || !fronts_alike(octets, beside, count) {
+    if rest.colon != other_rest.colon {
         return None;
     }
-    let top = Top {
-        count,
-        rest: behind,
-    };
-    let other_top = Top {
-        count: other_count,
-        rest: other_behind,
-    };
-    Some((top, other_top))
+    let most = octets.len().min(beside.len());
+    let mut tokens = TokenReader::new(alloc);
+    let (count, after, _) = left_at(&mut tokens, &octets[..most], at_front(rest.colon))?;
+    if !fronts_alike(octets, beside, count + 1) {
+        return None;
+    }
+    let left = Top { count, rest: after };
+    Some((behind(rest, left)?, behind(other_rest, left)?))
 }
 
 /// The symbol at both fronts, where it is the same.
@@ -171,16 +208,22 @@ fn symbols_alike(octets: &[u8], rest: Rest, beside: &[u8], other_rest: Rest) -> 
     Some((top, other_top))
 }
 
-/// The number or the symbol at both fronts, where it is the same.
-fn lefts_alike(octets: &[u8], rest: Rest, beside: &[u8], other_rest: Rest) -> Option<(Top, Top)>
+/// The number, the long string or the symbol at both fronts, where it is the same.
+fn lefts_alike(
+    alloc: Global,
+    octets: &[u8],
+    rest: Rest,
+    beside: &[u8],
+    other_rest: Rest,
+) -> Option<(Top, Top)>
     requires room { rest.used + length octets.now < 2 ^ 63 }
     requires other_room { other_rest.used + length beside.now < 2 ^ 63 }
     ensures { IfSome result (λ tops. (payload : Payload)
         × FoundLeft octets.now tops.0.count rest tops.0.rest payload
         × FoundLeft beside.now tops.1.count other_rest tops.1.rest payload) }
 {
-    if begins_number(octets) {
-        return numbers_alike(octets, rest, beside, other_rest);
+    if begins_number(octets) || begins_long(octets) {
+        return left_alike(alloc, octets, rest, beside, other_rest);
     }
     if begins_symbol(octets) {
         return symbols_alike(octets, rest, beside, other_rest);
@@ -208,7 +251,8 @@ impl TextReader<'_> {
         up_to(&piece[blank..], self.limits.item)
     }
 
-    /// The items at both fronts, where they have the same octets; then they give the same value.
+    /// The items at both fronts, where they have the same octets. They are gone over once: the same
+    /// octets give the same value on the other side.
     fn alike_tops(
         &self,
         other: &Self,
@@ -223,21 +267,21 @@ impl TextReader<'_> {
         requires few { length octets.now ≤ self.now.limits.item }
         requires other_few { length beside.now ≤ other.now.limits.item }
         ensures { IfSome result (λ tops. (v : Value)
-            × IsTop self.now.limits.depth octets.now tops.0.count rest tops.0.rest v
-            × IsTop other.now.limits.depth beside.now tops.1.count other_rest tops.1.rest v) }
+            × IsTop (min self.now.limits.depth other.now.limits.depth) octets.now tops.0.count rest
+            tops.0.rest v
+            × IsTop (min self.now.limits.depth other.now.limits.depth) beside.now tops.1.count
+            other_rest tops.1.rest v) }
     {
         if rest.colon != other_rest.colon || !may_be_alike(octets, beside) {
             return None;
         }
-        let top = top_at(tokens, octets, rest, self.limits.depth)?;
+        let depth = self.limits.depth.min(other.limits.depth);
+        let most = octets.len().min(beside.len());
+        let top = top_at(tokens, &octets[..most], rest.colon, depth)?;
         if !fronts_alike(octets, beside, top.count) {
             return None;
         }
-        let other_top = top_at(tokens, beside, other_rest, other.limits.depth)?;
-        if other_top.count != top.count {
-            return None;
-        }
-        Some((top, other_top))
+        Some((behind(rest, top)?, behind(other_rest, top)?))
     }
 
     /// Takes up a blank and the item behind it at the front of a piece and at the front of another
@@ -283,7 +327,13 @@ impl TextReader<'_> {
         let other_front = other.front(beside)?;
         let octets = self.item(piece, front.blank);
         let other_octets = other.item(beside, other_front.blank);
-        let lefts = lefts_alike(octets, front.rest, other_octets, other_front.rest);
+        let lefts = lefts_alike(
+            self.alloc,
+            octets,
+            front.rest,
+            other_octets,
+            other_front.rest,
+        );
         if let Some((left, other_left)) = lefts {
             self.scanner.move_to(left.rest);
             self.start = 0;

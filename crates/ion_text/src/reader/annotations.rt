@@ -36,7 +36,7 @@ impl Tally {
 #[derive(Clone, Copy)]
 pub(super) struct Note<'a> {
     token: FoundToken,
-    text: &'a str,
+    pub text: &'a str,
     /// How many octets of a blank stand before the `::`.
     between: usize,
 }
@@ -92,8 +92,8 @@ fn symbol_note(octets: &[u8]) -> Option<(FoundToken, &str)>
     }
 }
 
-// The annotation there.
-fn note_at(octets: &[u8]) -> Option<Note<'_>>
+/// The annotation there.
+pub(super) fn note_at(octets: &[u8]) -> Option<Note<'_>>
     ensures { IfSome result (λ note. NoteThere octets.now note) }
 {
     let (token, text) = symbol_note(octets)?;
@@ -105,7 +105,26 @@ fn note_at(octets: &[u8]) -> Option<Note<'_>>
     })
 }
 
-// Goes over this annotation, `::` and a blank.
+/// Goes over this annotation, `::` and a blank.
+#[inline(always)]
+pub(super) fn pass_annotation(
+    here: Place,
+    octets: &[u8],
+    note: Note<'_>,
+    tally: &mut Tally,
+) -> usize
+    requires there { NoteThere octets.now note }
+    requires room { tally.old.rest.used + length octets.now < 2 ^ 63 }
+    ensures walked { (walked : WalkedNote here octets.now result tally.old tally.new)
+        × (walked.name ≡ Some note.entry.text.now) }
+    ensures some { 0 < result }
+{
+    let count = tally.pass_note(here, note.token, note.between);
+    let blank = walk_blank(&octets[count..], tally);
+    count + blank
+}
+
+// Goes over this annotation, `::` and a blank, and tells a visitor of it.
 #[inline(always)]
 fn walk_note<T: TextVisitor>(
     here: Place,
@@ -124,9 +143,7 @@ fn walk_note<T: TextVisitor>(
     if !visitor.annotation(note.text) {
         return None;
     }
-    let count = tally.pass_note(here, note.token, note.between);
-    let blank = walk_blank(&octets[count..], tally);
-    Some(count + blank)
+    Some(pass_annotation(here, octets, note, tally))
 }
 
 /// Goes over the annotations there: how many octets they have.

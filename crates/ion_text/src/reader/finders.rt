@@ -141,6 +141,7 @@ pub(super) fn number_kind(number: Number) -> Kind
 }
 
 /// The number there, whose end the octet behind it shows.
+#[inline(always)]
 pub(super) fn number_at(octets: &[u8]) -> Option<(FoundToken, Number)>
     ensures found { IfSome result (λ found. (here : Place) (rest : Rest) → is_name here ≡ false →
         FoundNumber here rest octets.now found.0 found.1) }

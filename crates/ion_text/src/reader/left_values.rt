@@ -1,7 +1,8 @@
-//! Numbers and symbols of the top level, which end before the octet behind them. That one shows
-//! their end, and comes again.
-ghost use Rattle.std.specs.Prelude.{◌≡◌, ◌+◌, ◌<◌, ◌^◌, length, IfSome, IsNone, take, Ok};
+//! Numbers, symbols and long strings of the top level, which end before the octet behind them. That
+//! one shows their end, and comes again.
+ghost use Rattle.std.specs.Prelude.{◌≡◌, ℕ, ◌+◌, ◌<◌, ◌^◌, List, length, IfSome, IsNone, take, Ok};
 ghost use Rattle.ion_model.specs.declared.value.Payload.{Payload};
+ghost use Rattle.ion_model.specs.declared.value.Payload.TheVariants as payloads;
 ghost use Rattle.ion_tokens.specs.Bodies.{Number'};
 ghost use Rattle.ion_tokens.specs.machine.Said.{said};
 ghost use Rattle.ion_visiting.specs.Parts.{number_payload, payload_of};
@@ -9,11 +10,13 @@ ghost use Rattle.ion_text.specs.machine.Walked.{FoundLeft, IsFlat};
 ghost use Rattle.ion_text.specs.visiting.Walks.{VisitedLeft};
 
 use super::finders::{begins_number, begins_symbol, number_at, number_kind, symbol_at};
+use super::long_strings::{begins_long, join_segments, one_segment};
 use super::symbols::behind_symbol;
 use ion_model::Kind;
 use ion_scalar::Number;
-use ion_tokens::{Place, Rest, TokenKind};
+use ion_tokens::{Place, Rest, TokenKind, TokenReader};
 use ion_visiting::{Part, TextVisitor};
+use std::alloc::Global;
 
 /// The number there, where the octet behind it shows its end: how many octets it has, and where a
 /// scanner rests behind them.
@@ -50,9 +53,29 @@ pub(super) fn symbol_left(octets: &[u8], rest: Rest) -> Option<(usize, Rest, Kin
     Some((scalar.token.count + between, behind, scalar.kind, said))
 }
 
-/// The number or the symbol there: how many octets it has, with the blank behind a symbol, where a
-/// scanner rests behind them, and of which kind it is.
-pub(super) fn left_at(octets: &[u8], rest: Rest) -> Option<(usize, Rest, Kind)>
+// The long string there and the blanks behind its segments, where the octet behind them shows that
+// no other follows: how many octets they have, and where a scanner rests behind them.
+#[inline(never)]
+fn long_left(beside: &mut TokenReader, octets: &[u8], rest: Rest) -> Option<(usize, Rest)>
+    requires room { rest.used + length octets.now < 2 ^ 63 }
+    ensures { IfSome result (λ left. (text : List ℕ)
+        × FoundLeft octets.now left.0 rest left.1 (payloads.Str text)) }
+{
+    if let Some((count, behind, _)) = one_segment(Place::Top, rest, octets) {
+        return Some((count, behind));
+    }
+    let mut text = String::new(beside.alloc());
+    let (count, behind) = join_segments(beside, Place::Top, rest, octets, &mut text)?;
+    Some((count, behind))
+}
+
+/// The number, the symbol or the long string there: how many octets it has, with the blank behind a
+/// symbol or a long string, where a scanner rests behind them, and of which kind it is.
+pub(super) fn left_at(
+    beside: &mut TokenReader,
+    octets: &[u8],
+    rest: Rest,
+) -> Option<(usize, Rest, Kind)>
     requires room { rest.used + length octets.now < 2 ^ 63 }
     ensures { IfSome result (λ left. (payload : Payload) × IsFlat payload left.2
         × FoundLeft octets.now left.0 rest left.1 payload) }
@@ -61,6 +84,10 @@ pub(super) fn left_at(octets: &[u8], rest: Rest) -> Option<(usize, Rest, Kind)>
         let (count, behind, number) = number_left(octets, rest)?;
         return Some((count, behind, number_kind(number)));
     }
+    if begins_long(octets) {
+        let (count, behind) = long_left(beside, octets, rest)?;
+        return Some((count, behind, Kind::Str));
+    }
     if begins_symbol(octets) {
         let (count, behind, kind, _) = symbol_left(octets, rest)?;
         return Some((count, behind, kind));
@@ -68,10 +95,57 @@ pub(super) fn left_at(octets: &[u8], rest: Rest) -> Option<(usize, Rest, Kind)>
     None
 }
 
-/// Tells a visitor the number or the symbol there: how many octets it has, with the blank behind a
-/// symbol, and where a scanner rests behind them. `None` in place of these, with nothing told,
-/// where none is found, and `None` for all where the visitor can't go on.
+// Tells a visitor the long string there, as `tell_left` does, where its segments have to be joined.
+#[inline(never)]
+fn tell_joined<T: TextVisitor>(
+    alloc: Global,
+    octets: &[u8],
+    rest: Rest,
+    visitor: &mut T,
+) -> Option<Option<(usize, Rest)>>
+    requires room { rest.used + length octets.now < 2 ^ 63 }
+    ensures told { IfSome result (λ found. IfSome found (λ left.
+        VisitedLeft T.visits octets.now left.0 rest left.1 visitor.old visitor.new)) }
+    ensures none { IfSome result (λ found. IsNone found → visitor.new ≡ visitor.old) }
+{
+    let mut tokens = TokenReader::new(alloc);
+    let mut text = String::new(alloc);
+    let joined = join_segments(&mut tokens, Place::Top, rest, octets, &mut text);
+    let Some((count, behind)) = joined else {
+        return Some(None);
+    };
+    if !visitor.part(&Part::Str(text.as_str())) {
+        return None;
+    }
+    Some(Some((count, behind)))
+}
+
+// Tells a visitor the long string there, as `tell_left` does.
+fn tell_long<T: TextVisitor>(
+    alloc: Global,
+    octets: &[u8],
+    rest: Rest,
+    visitor: &mut T,
+) -> Option<Option<(usize, Rest)>>
+    requires room { rest.used + length octets.now < 2 ^ 63 }
+    ensures told { IfSome result (λ found. IfSome found (λ left.
+        VisitedLeft T.visits octets.now left.0 rest left.1 visitor.old visitor.new)) }
+    ensures none { IfSome result (λ found. IsNone found → visitor.new ≡ visitor.old) }
+{
+    let Some((count, behind, text)) = one_segment(Place::Top, rest, octets) else {
+        return tell_joined(alloc, octets, rest, visitor);
+    };
+    if !visitor.part(&Part::Str(text)) {
+        return None;
+    }
+    Some(Some((count, behind)))
+}
+
+/// Tells a visitor the number, the symbol or the long string there: how many octets it has, with the
+/// blank behind a symbol or a long string, and where a scanner rests behind them. `None` in place of
+/// these, with nothing told, where none is found, and `None` for all where the visitor can't go on.
 pub(super) fn tell_left<T: TextVisitor>(
+    alloc: Global,
     octets: &[u8],
     rest: Rest,
     visitor: &mut T,
@@ -89,6 +163,9 @@ pub(super) fn tell_left<T: TextVisitor>(
             return None;
         }
         return Some(Some((count, behind)));
+    }
+    if begins_long(octets) {
+        return tell_long(alloc, octets, rest, visitor);
     }
     if !begins_symbol(octets) {
         return Some(None);

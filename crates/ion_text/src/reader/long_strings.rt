@@ -1,6 +1,9 @@
-//! Long strings that lie whole in a piece, with all their segments, where a container is open. One
-//! with a comment between or behind its segments is left to the octets.
-ghost use Rattle.std.specs.Prelude.{◌≡◌, ◌+◌, ◌<◌, ◌≤◌, ◌^◌, [], false, length, string_bytes, IfSome};
+//! Long strings that lie whole in a piece, with all their segments and the octet behind these, which
+//! shows that no other follows. One with a comment between or behind its segments is left to the
+//! octets.
+ghost use Rattle.std.specs.Prelude.{◌≡◌, ℕ, ◌+◌, ◌<◌, ◌≤◌, ◌^◌, List, ◌++◌, [], false, length, string_bytes, IfSome};
+ghost use Rattle.ion_tokens.specs.declared.mode.Place.{Place};
+ghost use Rattle.ion_tokens.specs.declared.plain_tokens.Rest.{Rest};
 ghost use Rattle.ion_text.specs.declared.state.Now.TheVariants as nows;
 ghost use Rattle.ion_text.specs.machine.AtOnce.{StridesBy, TokenAhead};
 ghost use Rattle.ion_text.specs.machine.EachToken.{place};
@@ -15,6 +18,14 @@ use crate::state::Effect;
 use ion_model::{Payload, Reason, Text};
 use ion_tokens::{Body, Place, Rest, TokenKind, TokenReader, blanks, long_segment};
 use ion_visiting::{Part, TextVisitor};
+
+/// Whether a long string may begin there.
+pub(super) fn begins_long(octets: &[u8]) -> bool {
+    match octets.first() {
+        Some(b'\'') => octets.strip_prefix(b"'''").is_some(),
+        _ => false,
+    }
+}
 
 // Whether an octet shows that no segment of a long string follows: it is no blank and no quote, and
 // begins no colon and no comment.
@@ -54,6 +65,18 @@ fn join_escaped(
     Some(token.count)
 }
 
+// The segment there, if its characters stand as they are: how many octets it has, and what it says.
+#[inline(always)]
+fn plain_segment(octets: &[u8]) -> Option<(usize, &str)>
+    ensures found { IfSome result (λ found. (here : Place) (rest : Rest) (old : List ℕ) →
+        JoinedSegment here rest octets.now found.0 old (old ++ found.1.now)) }
+    ensures within { IfSome result (λ found. found.0 ≤ length octets.now) }
+{
+    let size = long_segment(octets)?;
+    let content = &octets[3..][..size - 6];
+    Some((size, unsafe { str::from_utf8_unchecked(content) }))
+}
+
 // Joins to a text what the segment there says: how many octets it has.
 fn join_segment(
     beside: &mut TokenReader,
@@ -66,14 +89,10 @@ fn join_segment(
     ensures { IfSome result (λ size.
         JoinedSegment here rest octets.now size (string_bytes text.old) (string_bytes text.new)) }
 {
-    let Some(size) = long_segment(octets) else {
+    let Some((size, said)) = plain_segment(octets) else {
         return join_escaped(beside, here, rest, octets, text);
     };
-    let content = &octets[3..][..size - 6];
-    if text
-        .push_str(unsafe { str::from_utf8_unchecked(content) })
-        .is_err()
-    {
+    if text.push_str(said).is_err() {
         return None;
     }
     Some(size)
@@ -103,9 +122,9 @@ fn pass_segment(
     Some((size + between, behind))
 }
 
-// Joins to an empty text the segments of the long string there, where the octet behind them and a
-// blank shows that they are all: how many octets they have, and where a scanner rests behind them.
-fn join_segments(
+/// Joins to an empty text the segments of the long string there, where the octet behind them and a
+/// blank shows that they are all: how many octets they have, and where a scanner rests behind them.
+pub(super) fn join_segments(
     beside: &mut TokenReader,
     here: Place,
     rest: Rest,
@@ -132,6 +151,79 @@ fn join_segments(
     None
 }
 
+/// The long string of one segment there, if its characters stand as they are: how many octets it has
+/// with the blank behind it, where a scanner rests behind them, and what it says.
+#[inline(always)]
+pub(super) fn one_segment(here: Place, rest: Rest, octets: &[u8]) -> Option<(usize, Rest, &str)>
+    requires room { rest.used + length octets.now < 2 ^ 63 }
+    ensures { IfSome result (λ found.
+        LongThere here rest octets.now found.0 found.1 found.2.now) }
+{
+    let (size, said) = plain_segment(octets)?;
+    let between = blanks(&octets[size..]);
+    let count = size + between;
+    if count >= octets.len() || !ends_long(octets[count]) {
+        return None;
+    }
+    let behind = rest
+        .past_token(here, TokenKind::LongString, size)
+        .past_blank(between);
+    Some((count, behind, said))
+}
+
+// Goes over this long string of so many octets.
+#[inline(always)]
+fn walk_text<T: TextVisitor>(
+    here: Place,
+    octets: &[u8],
+    count: usize,
+    behind: Rest,
+    text: &str,
+    level: u32,
+    tally: &mut Tally,
+    visitor: &mut T,
+) -> Option<usize>
+    requires long { LongThere here tally.old.rest octets.now count behind text.now }
+    requires low { tally.old.level ≤ level }
+    ensures { IfSome result (λ count. VisitedValue T.visits here level octets.now count
+        tally.old tally.new visitor.old visitor.new) }
+{
+    if !visitor.part(&Part::Str(text)) {
+        return None;
+    }
+    tally.pass_long(behind);
+    Some(count)
+}
+
+// Goes over the long string there, whose segments have to be joined.
+#[inline(never)]
+fn walk_joined<T: TextVisitor>(
+    beside: &mut TokenReader,
+    here: Place,
+    octets: &[u8],
+    level: u32,
+    tally: &mut Tally,
+    visitor: &mut T,
+) -> Option<usize>
+    requires low { tally.old.level ≤ level }
+    requires room { tally.old.rest.used + length octets.now < 2 ^ 63 }
+    ensures { IfSome result (λ count. VisitedValue T.visits here level octets.now count
+        tally.old tally.new visitor.old visitor.new) }
+{
+    let mut text = String::new(beside.alloc());
+    let (count, behind) = join_segments(beside, here, tally.rest, octets, &mut text)?;
+    walk_text(
+        here,
+        octets,
+        count,
+        behind,
+        text.as_str(),
+        level,
+        tally,
+        visitor,
+    )
+}
+
 /// Goes over the long string there.
 #[inline(never)]
 pub(super) fn walk_long<T: TextVisitor>(
@@ -147,13 +239,10 @@ pub(super) fn walk_long<T: TextVisitor>(
     ensures { IfSome result (λ count. VisitedValue T.visits here level octets.now count
         tally.old tally.new visitor.old visitor.new) }
 {
-    let mut text = String::new(beside.alloc());
-    let (count, behind) = join_segments(beside, here, tally.rest, octets, &mut text)?;
-    if !visitor.part(&Part::Str(text.as_str())) {
-        return None;
-    }
-    tally.pass_long(behind);
-    Some(count)
+    let Some((count, behind, text)) = one_segment(here, tally.rest, octets) else {
+        return walk_joined(beside, here, octets, level, tally, visitor);
+    };
+    walk_text(here, octets, count, behind, text, level, tally, visitor)
 }
 
 impl TextReader<'_> {

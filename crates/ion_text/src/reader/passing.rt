@@ -84,9 +84,10 @@ impl TextReader<'_> {
     }
 
     /// Takes up a blank and the item behind it at the front of a piece without building that: how
-    /// many octets they have, and the outline of its value. Behind a number or a symbol the octet
-    /// that shows its end comes again. `None`, with nothing taken up, where an item is open, or the
-    /// value isn't whole, may be a local symbol table, may not stand here or is in any way unusual.
+    /// many octets they have, and the outline of its value. Behind a number, a symbol or a long
+    /// string the octet that shows its end comes again. `None`, with nothing taken up, where an
+    /// item is open, or the value isn't whole, may be a local symbol table, may not stand here or is
+    /// in any way unusual.
     pub(super) fn walk(&mut self, piece: &[u8]) -> Option<(usize, Outline)>
         requires room { (scanned self.old.scanner).used + length piece.now < 2 ^ 63 }
         ensures gives { IfSome result (λ found. (v : Value) × (outline_of v ≡ found.1)
@@ -101,7 +102,7 @@ impl TextReader<'_> {
         ensures setting { SameSettings self.old self.new }
     {
         let (before, item, begun) = self.item_ahead(piece)?;
-        if let Some((count, rest, kind)) = left_at(item, begun.rest) {
+        if let Some((count, rest, kind)) = left_at(&mut self.beside, item, begun.rest) {
             self.scanner.move_to(rest);
             self.start = 0;
             self.awaited = Some(item[count]);

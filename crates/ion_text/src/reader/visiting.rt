@@ -47,7 +47,7 @@ impl TextReader<'_> {
             return None;
         }
         let (before, item, begun) = self.item_ahead(piece)?;
-        let found = tell_left(item, begun.rest, visitor)?;
+        let found = tell_left(self.alloc, item, begun.rest, visitor)?;
         if let Some((left, rest)) = found {
             self.scanner.move_to(rest);
             self.start = 0;

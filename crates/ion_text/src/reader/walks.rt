@@ -11,7 +11,7 @@ ghost use Rattle.ion_tokens.specs.declared.mode.TokenKind.TheVariants as tokens;
 ghost use Rattle.ion_tokens.specs.machine.Rests.{past_blank, past_token, IsPassed, RestsBehind};
 ghost use Rattle.ion_text.specs.machine.FrontTokens.{ends_symbol, BeginsName};
 ghost use Rattle.ion_text.specs.machine.Nested.{close_octet, OpensAt};
-ghost use Rattle.ion_text.specs.machine.Walked.{kind_in, behind_key, has_commas, place_within, OnlyRests, WalkedBetween};
+ghost use Rattle.ion_text.specs.machine.Walked.{kind_in, behind_close, behind_key, behind_open, has_commas, place_within, OnlyRests, WalkedBetween};
 ghost use Rattle.ion_visiting.specs.declared.bracket.Bracket.TheVariants as brackets;
 ghost use Rattle.ion_visiting.specs.Parts.{payload_of};
 ghost use Rattle.ion_text.specs.visiting.Walks.{FoundPart, FoundNumber, VisitedValue, VisitedItem, VisitedContainer, VisitedInside, VisitedName};
@@ -149,7 +149,7 @@ impl Tally {
     /// Notes a field's name, and rests behind its token, a blank and a colon: how many octets they
     /// have.
     #[inline(always)]
-    fn pass_key(&mut self, token: FoundToken, blank: usize) -> usize
+    pub(super) fn pass_key(&mut self, token: FoundToken, blank: usize) -> usize
         requires room { self.old.rest.used + token.count + blank + 1 < 2 ^ 63 }
         ensures total { result ≡ token.count + blank + 1 }
         ensures noted { self.new ≡ record {
@@ -164,6 +164,25 @@ impl Tally {
         self.pass_token(Place::Name, TokenKind::Mark(Mark::Colon), 1);
         self.nodes = self.nodes.saturating_add(1);
         token.count + blank + 1
+    }
+
+    /// Rests behind the open of a struct, in which there may be one level less than so many.
+    pub(super) fn open_struct(&mut self, here: Place, level: u32)
+        requires some { 0 < level }
+        requires room { self.old.rest.used + 1 < 2 ^ 63 }
+        ensures { self.new ≡ behind_open here brackets.Fields level self.old }
+    {
+        self.level = self.level.min(level - 1);
+        self.pass_token(here, TokenKind::Mark(Mark::FieldsOpen), 1);
+    }
+
+    /// Notes a struct, behind whose close it rests.
+    pub(super) fn close_struct(&mut self, here: Place)
+        requires room { self.old.rest.used + 1 < 2 ^ 63 }
+        ensures { self.new ≡ behind_close here brackets.Fields self.old }
+    {
+        self.pass_token(here, TokenKind::Mark(Mark::FieldsClose), 1);
+        self.count_node(Kind::Fields);
     }
 
     /// The outline of one value that was walked over, where there might be so many levels.
@@ -466,7 +485,7 @@ fn walk_comma(bracket: Bracket, octets: &[u8], tally: &mut Tally) -> Option<usiz
 // item stands directly before it a comma and one more blank. Also says whether the close stands
 // there.
 #[inline(always)]
-fn walk_between(
+pub(super) fn walk_between(
     bracket: Bracket,
     behind: bool,
     octets: &[u8],

@@ -23,11 +23,12 @@ use Rattle.base64.specs.GeneralPurpose.{decode_of, decoded_of}
 use Rattle.std.specs.Result.{result_ok}
 use Rattle.base64.proofs.EngineFacts.{decode_of-encode_of}
 use Rattle.ion_tokens.specs.machine.Scanning.{follow, run, kept_after, blob_ends}
+use Rattle.ion_tokens.specs.machine.Contents.{BeginsSegment}
 use Rattle.ion_tokens.specs.Quoted.{IsQuoted}
 use Rattle.ion_tokens.specs.Lexemes.{Each, IsBlobContent, Segment, IsSegment, segment_spelling, IsClobContent, ShortText, LongTexts}
 use Rattle.ion_tokens.proofs.complete.Moves.{at, Moves, moves_none, moves_one, moves_then, moves_to, moves_past, Opens, opens_then, Takes, takes_now}
 use Rattle.ion_tokens.proofs.complete.TakesWords.{opens_brace}
-use Rattle.ion_tokens.proofs.complete.TakesTexts.{long_content, drops_two}
+use Rattle.ion_tokens.proofs.complete.TakesTexts.{long_quotes, drops_two}
 use Rattle.ion_tokens.proofs.texts.TextsComplete.{Ended, read_content}
 
 abbrev lob : Lob → Mode
@@ -39,6 +40,10 @@ opens_lob p colon n = opens_then p colon (123 ∷ []) (123 ∷ []) modes.Brace (
 
 start_white : (o : ℕ) → is_white o ≡ true → lob_start o ≡ actions.Go (lob lobs.Start) keeps.Nothing
 start_white o h = rw h
+
+-- white space behind the braces is passed
+pub white_moves : (p : Place) (before : List ℕ) → Each is_white before → Moves p (lob lobs.Start) [] before (lob lobs.Start) []
+white_moves p before b = moves_past p (lob lobs.Start) is_white before [] (λ s u. refl) (λ o h c. start_white o h) b
 
 short_white : (o : ℕ) → is_white o ≡ true → after_short o ≡ actions.Go (lob lobs.AfterShort) keeps.Nothing
 short_white o h = rw h
@@ -57,30 +62,30 @@ short_closes (within.Hexadecimal _ _ _) h = absurd h
 short_closes (within.HighSurrogate _) h = absurd h
 short_closes (within.HighSurrogateEscape _) h = absurd h
 
--- a short clob's content up to the first brace of its close
+-- a short clob's content up to the first brace of its close, where its text leads from between two characters to between two
+pub short_leads : (p : Place) (before text after octets : List ℕ) (v : Within) → Each is_white before → Ended v
+    → Moves p (modes.Text styles.ShortClob within.Plain) [] text (modes.Text styles.ShortClob v) octets → Each is_white after
+    → Moves p (lob lobs.Start) [] ((before ++ (34 ∷ text) ++ 34 ∷ after) ++ 125 ∷ []) (lob lobs.ClobClose) octets
+short_leads p before text after octets v b ended leads a =
+    moves_then p (lob lobs.Start) (lob lobs.AfterShort) (lob lobs.ClobClose) ((before ++ (34 ∷ text)) ++ 34 ∷ after) (125 ∷ []) [] octets octets
+    (moves_then p (lob lobs.Start) (modes.Text styles.ShortClob v) (lob lobs.AfterShort) (before ++ (34 ∷ text)) (34 ∷ after) [] octets octets
+    (moves_then p (lob lobs.Start) (lob lobs.Start) (modes.Text styles.ShortClob v) before (34 ∷ text) [] [] octets
+    (white_moves p before b)
+    (moves_then p (lob lobs.Start) (modes.Text styles.ShortClob within.Plain) (modes.Text styles.ShortClob v) (34 ∷ []) text [] [] octets
+    (moves_one p (lob lobs.Start) 34 [] (modes.Text styles.ShortClob within.Plain) keeps.Nothing (λ s u. refl) (λ c. refl)) leads))
+    (moves_then p (modes.Text styles.ShortClob v) (lob lobs.AfterShort) (lob lobs.AfterShort) (34 ∷ []) after octets octets octets
+    (moves_one p (modes.Text styles.ShortClob v) 34 octets (lob lobs.AfterShort) keeps.Nothing (λ s u. refl) (λ c. short_closes v ended))
+    (moves_past p (lob lobs.AfterShort) is_white after octets (λ s u. refl) (λ o h c. short_white o h) a)))
+    (moves_one p (lob lobs.AfterShort) 125 octets (lob lobs.ClobClose) keeps.Nothing (λ s u. refl) (λ c. refl))
+
 short_moves : (p : Place) (before text after octets : List ℕ) → Each is_white before → IsQuoted styles.ShortClob text octets → Each is_white after
     → Moves p (lob lobs.Start) [] ((before ++ (34 ∷ text) ++ 34 ∷ after) ++ 125 ∷ []) (lob lobs.ClobClose) octets
 short_moves p before text after octets b q a =
     let c = read_content p styles.ShortClob text octets [] q in
-    moves_then p (lob lobs.Start) (lob lobs.AfterShort) (lob lobs.ClobClose) ((before ++ (34 ∷ text)) ++ 34 ∷ after) (125 ∷ []) [] octets octets
-    (moves_then p (lob lobs.Start) (modes.Text styles.ShortClob c.0) (lob lobs.AfterShort) (before ++ (34 ∷ text)) (34 ∷ after) [] octets octets
-    (moves_then p (lob lobs.Start) (lob lobs.Start) (modes.Text styles.ShortClob c.0) before (34 ∷ text) [] [] octets
-    (moves_past p (lob lobs.Start) is_white before [] (λ s u. refl) (λ o h c. start_white o h) b)
-    (moves_then p (lob lobs.Start) (modes.Text styles.ShortClob within.Plain) (modes.Text styles.ShortClob c.0) (34 ∷ []) text [] [] octets
-    (moves_one p (lob lobs.Start) 34 [] (modes.Text styles.ShortClob within.Plain) keeps.Nothing (λ s u. refl) (λ c. refl)) c.2))
-    (moves_then p (modes.Text styles.ShortClob c.0) (lob lobs.AfterShort) (lob lobs.AfterShort) (34 ∷ []) after octets octets octets
-    (moves_one p (modes.Text styles.ShortClob c.0) 34 octets (lob lobs.AfterShort) keeps.Nothing (λ s u. refl) (λ b. short_closes c.0 c.1))
-    (moves_past p (lob lobs.AfterShort) is_white after octets (λ s u. refl) (λ o h c. short_white o h) a)))
-    (moves_one p (lob lobs.AfterShort) 125 octets (lob lobs.ClobClose) keeps.Nothing (λ s u. refl) (λ c. refl))
-
--- where a segment of a long clob may begin
-abbrev Begins : Lob → Type 0
-Begins lobs.Start = Unit {0}
-Begins lobs.AfterLong = Unit {0}
-Begins _ = ⊥
+    short_leads p before text after octets c.0 b c.1 c.2 a
 
 -- the quotes that open a segment
-three_quotes : (p : Place) (l : Lob) (kept : List ℕ) → Begins l → Moves p (lob l) kept (39 ∷ 39 ∷ 39 ∷ []) (modes.Text styles.LongClob within.Plain) kept
+three_quotes : (p : Place) (l : Lob) (kept : List ℕ) → BeginsSegment l → Moves p (lob l) kept (39 ∷ 39 ∷ 39 ∷ []) (modes.Text styles.LongClob within.Plain) kept
 three_quotes p lobs.Start kept b = λ colon start used r. let three : ((used + 1) + 1) + 1 ≡ used + 3 = omega arith in
     ap (λ (n : ℕ). run p r (at (modes.Text styles.LongClob within.Plain) kept colon start n)) three
 three_quotes p lobs.AfterLong kept b = λ colon start used r. let three : ((used + 1) + 1) + 1 ≡ used + 3 = omega arith in
@@ -97,26 +102,33 @@ three_quotes p lobs.ClobClose kept b = absurd b
 segment_cut : (text white : List ℕ) → (39 ∷ 39 ∷ 39 ∷ []) ++ (((text ++ 39 ∷ 39 ∷ []) ++ 39 ∷ []) ++ white) ≡ codes "'''" ++ text ++ codes "'''" ++ white
 segment_cut text white = ap (λ l. 39 ∷ 39 ∷ 39 ∷ (l ++ white)) (append_assoc text (39 ∷ 39 ∷ []) (39 ∷ []))
 
-segment_moves : (p : Place) (l : Lob) (kept : List ℕ) (g : Segment) → Begins l → IsSegment g
+-- a segment of a long clob and white space behind it, where its text leads from between two characters to where it may end
+pub segment_leads : (p : Place) (l : Lob) (v : Within) (text white kept kept' : List ℕ) → BeginsSegment l → Ended v
+    → Moves p (modes.Text styles.LongClob within.Plain) kept text (modes.Text styles.LongClob v) kept' → Each is_white white
+    → Moves p (lob l) kept (codes "'''" ++ text ++ codes "'''" ++ white) (lob lobs.AfterLong) kept'
+segment_leads p l v text white kept kept' b ended leads w =
+    let open_end : List ℕ = (kept' ++ 39 ∷ []) ++ 39 ∷ [] in
+    subst (λ os. Moves p (lob l) kept os (lob lobs.AfterLong) kept') (segment_cut text white)
+    (moves_then p (lob l) (modes.Text styles.LongClob within.Plain) (lob lobs.AfterLong) (39 ∷ 39 ∷ 39 ∷ [])
+    (((text ++ 39 ∷ 39 ∷ []) ++ 39 ∷ []) ++ white) kept kept kept'
+    (three_quotes p l kept b)
+    (moves_then p (modes.Text styles.LongClob within.Plain) (lob lobs.AfterLong) (lob lobs.AfterLong) ((text ++ 39 ∷ 39 ∷ []) ++ 39 ∷ []) white kept kept'
+    kept'
+    (moves_then p (modes.Text styles.LongClob within.Plain) (modes.Text styles.LongClob within.TwoQuotes) (lob lobs.AfterLong) (text ++ 39 ∷ 39 ∷ [])
+    (39 ∷ []) kept open_end kept'
+    (long_quotes p styles.LongClob v text kept kept' refl ended leads)
+    (moves_to p (modes.Text styles.LongClob within.TwoQuotes) (lob lobs.AfterLong) (39 ∷ []) open_end (kept_after keeps.DropQuotes open_end) kept'
+    (drops_two kept' 39 39)
+    (moves_one p (modes.Text styles.LongClob within.TwoQuotes) 39 open_end (lob lobs.AfterLong) keeps.DropQuotes (λ s u. refl) (λ c. refl))))
+    (moves_past p (lob lobs.AfterLong) is_white white kept' (λ s u. refl) (λ o h c. long_white o h) w)))
+
+segment_moves : (p : Place) (l : Lob) (kept : List ℕ) (g : Segment) → BeginsSegment l → IsSegment g
     → Moves p (lob l) kept (segment_spelling g) (lob lobs.AfterLong) (kept ++ g.octets)
 segment_moves p l kept g b (q, w) =
-    let end : List ℕ = kept ++ g.octets in
-    let open_end : List ℕ = (end ++ 39 ∷ []) ++ 39 ∷ [] in
-    subst (λ os. Moves p (lob l) kept os (lob lobs.AfterLong) end) (segment_cut g.content g.white)
-    (moves_then p (lob l) (modes.Text styles.LongClob within.Plain) (lob lobs.AfterLong) (39 ∷ 39 ∷ 39 ∷ [])
-    (((g.content ++ 39 ∷ 39 ∷ []) ++ 39 ∷ []) ++ g.white) kept kept end
-    (three_quotes p l kept b)
-    (moves_then p (modes.Text styles.LongClob within.Plain) (lob lobs.AfterLong) (lob lobs.AfterLong) ((g.content ++ 39 ∷ 39 ∷ []) ++ 39 ∷ []) g.white kept end
-    end
-    (moves_then p (modes.Text styles.LongClob within.Plain) (modes.Text styles.LongClob within.TwoQuotes) (lob lobs.AfterLong) (g.content ++ 39 ∷ 39 ∷ [])
-    (39 ∷ []) kept open_end end
-    (long_content p styles.LongClob g.content g.octets kept refl q)
-    (moves_to p (modes.Text styles.LongClob within.TwoQuotes) (lob lobs.AfterLong) (39 ∷ []) open_end (kept_after keeps.DropQuotes open_end) end
-    (drops_two end 39 39)
-    (moves_one p (modes.Text styles.LongClob within.TwoQuotes) 39 open_end (lob lobs.AfterLong) keeps.DropQuotes (λ s u. refl) (λ c. refl))))
-    (moves_past p (lob lobs.AfterLong) is_white g.white end (λ s u. refl) (λ o h c. long_white o h) w)))
+    let c = read_content p styles.LongClob g.content g.octets kept q in
+    segment_leads p l c.0 g.content g.white kept (kept ++ g.octets) b c.1 c.2 w
 
-segments_move : (p : Place) (l : Lob) (kept : List ℕ) (g : Segment) (gs : List Segment) → Begins l → IsSegment g → AllByRecursion IsSegment gs
+segments_move : (p : Place) (l : Lob) (kept : List ℕ) (g : Segment) (gs : List Segment) → BeginsSegment l → IsSegment g → AllByRecursion IsSegment gs
     → Moves p (lob l) kept (flat_map segment_spelling (g ∷ gs)) (lob lobs.AfterLong) (kept ++ flat_map (λ (s : Segment). s.octets) (g ∷ gs))
 segments_move p l kept g [] b h hs =
     subst (λ os. Moves p (lob l) kept os (lob lobs.AfterLong) (kept ++ (g.octets ++ []))) (sym (append-nil (segment_spelling g)))
@@ -137,7 +149,7 @@ long_moves p before (g ∷ gs) b some h =
     let octets : List ℕ = flat_map (λ (s : Segment). s.octets) (g ∷ gs) in
     moves_then p (lob lobs.Start) (lob lobs.AfterLong) (lob lobs.ClobClose) (before ++ flat_map segment_spelling (g ∷ gs)) (125 ∷ []) [] octets octets
     (moves_then p (lob lobs.Start) (lob lobs.Start) (lob lobs.AfterLong) before (flat_map segment_spelling (g ∷ gs)) [] [] octets
-    (moves_past p (lob lobs.Start) is_white before [] (λ s u. refl) (λ o h c. start_white o h) b)
+    (white_moves p before b)
     (segments_move p lobs.Start [] g gs tt h.0 h.1))
     (moves_one p (lob lobs.AfterLong) 125 octets (lob lobs.ClobClose) keeps.Nothing (λ s u. refl) (λ c. refl))
 

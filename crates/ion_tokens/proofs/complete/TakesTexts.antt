@@ -116,10 +116,12 @@ from_quote p (o ∷ os) octets v some other f = λ colon start used r.
     (no_quote o other)
     ∙ same_quote p colon start used o (λ t. run p (os ++ r) t) (raw styles.QuotedSymbol o) ∙ f colon start used r
 
-quotes_end : (x : ℕ) → (x == 39) ≡ false → (c : Bool) (p : Place) → next p c modes.Quotes x ≡ actions.Before kinds.QuotedSymbol keeps.Nothing modes.Blank
+-- behind two single quotes an octet that is none ends the empty symbol
+pub quotes_end : (x : ℕ) → (x == 39) ≡ false → (c : Bool) (p : Place) → next p c modes.Quotes x ≡ actions.Before kinds.QuotedSymbol keeps.Nothing modes.Blank
 quotes_end x h c p = rw h
 
-opens_quotes : (p : Place) (colon : Bool) → Opens p colon (39 ∷ 39 ∷ []) modes.Quotes []
+-- two single quotes open the empty symbol or a segment of a long string
+pub opens_quotes : (p : Place) (colon : Bool) → Opens p colon (39 ∷ 39 ∷ []) modes.Quotes []
 opens_quotes p colon = opens_then p colon (39 ∷ []) (39 ∷ []) modes.Quote modes.Quotes [] [] (opens_quote p colon)
     (moves_one p modes.Quote 39 [] modes.Quotes keeps.Nothing (λ s u. refl) (λ c. refl))
 
@@ -166,17 +168,24 @@ ended_quote s (within.Hexadecimal _ _ _) l h = absurd h
 ended_quote s (within.HighSurrogate _) l h = absurd h
 ended_quote s (within.HighSurrogateEscape _) l h = absurd h
 
+-- the content of a long text, behind which it may end, and two of the quotes that close it
+pub long_quotes : (p : Place) (s : Style) (v : Within) (content kept kept' : List ℕ) → is_long s ≡ true → Ended v
+    → Moves p (modes.Text s within.Plain) kept content (modes.Text s v) kept'
+    → Moves p (modes.Text s within.Plain) kept (content ++ 39 ∷ 39 ∷ []) (modes.Text s within.TwoQuotes) ((kept' ++ 39 ∷ []) ++ 39 ∷ [])
+long_quotes p s v content kept kept' l ended moves =
+    moves_then p (modes.Text s within.Plain) (modes.Text s v) (modes.Text s within.TwoQuotes) content (39 ∷ 39 ∷ []) kept kept'
+    ((kept' ++ 39 ∷ []) ++ 39 ∷ []) moves
+    (moves_then p (modes.Text s v) (modes.Text s within.OneQuote) (modes.Text s within.TwoQuotes) (39 ∷ []) (39 ∷ []) kept'
+    (kept' ++ 39 ∷ []) ((kept' ++ 39 ∷ []) ++ 39 ∷ [])
+    (moves_one p (modes.Text s v) 39 kept' (modes.Text s within.OneQuote) (keeps.One 39) (λ a b. refl) (λ b. ended_quote s v l ended))
+    (moves_one p (modes.Text s within.OneQuote) 39 (kept' ++ 39 ∷ []) (modes.Text s within.TwoQuotes) (keeps.One 39) (λ a b. refl) (λ b. refl)))
+
 -- the content of a long text and two of the quotes that close it
 pub long_content : (p : Place) (s : Style) (content octets kept : List ℕ) → is_long s ≡ true → IsQuoted s content octets
     → Moves p (modes.Text s within.Plain) kept (content ++ 39 ∷ 39 ∷ []) (modes.Text s within.TwoQuotes) (((kept ++ octets) ++ 39 ∷ []) ++ 39 ∷ [])
 long_content p s content octets kept l q =
     let c = read_content p s content octets kept q in
-    moves_then p (modes.Text s within.Plain) (modes.Text s c.0) (modes.Text s within.TwoQuotes) content (39 ∷ 39 ∷ []) kept (kept ++ octets)
-    (((kept ++ octets) ++ 39 ∷ []) ++ 39 ∷ []) c.2
-    (moves_then p (modes.Text s c.0) (modes.Text s within.OneQuote) (modes.Text s within.TwoQuotes) (39 ∷ []) (39 ∷ []) (kept ++ octets)
-    ((kept ++ octets) ++ 39 ∷ []) (((kept ++ octets) ++ 39 ∷ []) ++ 39 ∷ [])
-    (moves_one p (modes.Text s c.0) 39 (kept ++ octets) (modes.Text s within.OneQuote) (keeps.One 39) (λ a b. refl) (λ b. ended_quote s c.0 l c.1))
-    (moves_one p (modes.Text s within.OneQuote) 39 ((kept ++ octets) ++ 39 ∷ []) (modes.Text s within.TwoQuotes) (keeps.One 39) (λ a b. refl) (λ b. refl)))
+    long_quotes p s c.0 content kept (kept ++ octets) l c.1 c.2
 
 -- the last two octets that are kept are dropped, as the quotes of a long text's close
 pub drops_two : (k : List ℕ) (a b : ℕ) → kept_after keeps.DropQuotes ((k ++ a ∷ []) ++ b ∷ []) ≡ k

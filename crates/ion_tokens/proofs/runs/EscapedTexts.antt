@@ -1,10 +1,15 @@
 -- How octets in memory show that a quoted text with escapes, or a typed null, stands whole at their front.
-use Rattle.std.proofs.Common.{◌≡◌, ◌≢◌, ℕ, ◌+◌, ◌<◌, zero, suc, Bool, true, false, List, [], ◌∷◌, ◌++◌, length, take, drop, refl, sym, ap, ◌∙◌, subst, arith, length-append, take-append-drop}
+use Rattle.std.proofs.Common.{◌≡◌, ◌≢◌, ℕ, ◌+◌, ◌-◌, ◌*◌, ◌<◌, ◌≤◌, zero, suc, Bool, true, false, cond, List, [], ◌∷◌, ◌++◌, length, take, drop, refl, sym, ap, ◌∙◌, subst, arith, length-append, take-append-drop, IsTrue}
 use Rattle.std.specs.Prelude.{slice_index, Some, codes}
 use Rattle.std.specs.List.{take_while}
+use Rattle.std.proofs.lemmas.Bool.Decides.{nat_tests}
 use Rattle.std.proofs.Math.Seq.{take-add, take-nil}
+use Rattle.std.specs.Char.{IsScalar}
 use Rattle.std.proofs.lemmas.List.{length-take, length-take-le}
+use lib.Utf8.{encode}
 use Rattle.ion_tokens.specs.Octets.{escaped, is_word_octet}
+use Rattle.ion_tokens.specs.Quoted.{Hex, IsElement, IsHexAfter, hex_length}
+use Rattle.ion_tokens.specs.Styles.{is_clob}
 use Rattle.ion_tokens.specs.declared.mode.Place.{Place}
 use Rattle.ion_tokens.specs.declared.mode.Style.{Style}
 use Rattle.ion_tokens.specs.declared.mode.Mode.{Mode}
@@ -17,15 +22,15 @@ use Rattle.ion_tokens.specs.declared.mode.Style.TheVariants as styles
 use Rattle.ion_tokens.specs.declared.mode.TokenKind.TheVariants as kinds
 use Rattle.ion_tokens.specs.declared.mode.Keep.TheVariants as keeps
 use Rattle.ion_tokens.specs.machine.AtOnce.{AreKept}
-use Rattle.ion_tokens.specs.machine.Table.{next}
+use Rattle.ion_tokens.specs.machine.Table.{next, is_high, is_low}
 use Rattle.ion_tokens.specs.machine.Contents.{LeadsOn, StandsWhole}
 use Rattle.ion_tokens.specs.machine.Rests.{IsFound}
 use Rattle.ion_tokens.proofs.complete.Moves.{Opens, opens_one, opens_then}
-use Rattle.ion_tokens.proofs.complete.TakesTexts.{BeginsOther, opens_quote, from_quote}
+use Rattle.ion_tokens.proofs.complete.TakesTexts.{BeginsOther, opens_quote, opens_quotes, quotes_end, from_quote}
 use Rattle.ion_tokens.proofs.complete.TakesWords.{opens_kind, kind_ends}
-use Rattle.ion_tokens.proofs.runs.WholeTokens.{opened_left, opened_given, front_each, front_stops, long_closes}
+use Rattle.ion_tokens.proofs.runs.WholeTokens.{opened_left, opened_given, front_each, front_stops, long_closes, not_same}
 use Rattle.ion_tokens.proofs.texts.Characters.{kept_goes}
-use Rattle.ion_tokens.proofs.texts.TextElements.{goes_one, goes_then}
+use Rattle.ion_tokens.proofs.texts.TextElements.{goes_one, goes_then, read_hex, read_pair}
 use Rattle.ion_tokens.proofs.texts.TextSteps.{in_simple}
 
 -- octets that a text keeps as they are lead on, and are kept
@@ -44,6 +49,67 @@ escape_leads s (x ∷ letter ∷ octets) kept kept' o more slash means e =
     (goes_one p s within.Plain 92 kept within.Escape keeps.Nothing refl)
     (goes_one p s within.Escape letter kept within.Plain (keeps.One o) (in_simple s letter o means))))
 
+-- a backslash, a letter and digits lead on, and what their number means is kept
+pub digits_lead : (s : Style) (octets digits kept kept' : List ℕ) (n c : ℕ) → slice_index octets 0 ≡ 92 → n + 2 ≤ length octets
+    → digits ≡ take n (drop 2 octets) → hex_length (slice_index octets 1) ≡ Some n → (IsTrue (is_clob s) → slice_index octets 1 ≡ 120)
+    → IsHexAfter 0 digits c → IsScalar c → kept' ≡ kept ++ cond (is_clob s) (c ∷ []) (encode c) → LeadsOn s (take (n + 2) octets) kept kept'
+digits_lead s [] digits kept kept' n c slash fits are size clob number scalar e = absurd (omega arith)
+digits_lead s (x ∷ []) digits kept kept' n c slash fits are size clob number scalar e = absurd (omega arith)
+digits_lead s (x ∷ letter ∷ octets) digits kept kept' n c slash fits are size clob number scalar e =
+    let os : List ℕ = take n octets in
+    let end : List ℕ = kept ++ cond (is_clob s) (c ∷ []) (encode c) in
+    let two : suc (suc n) ≡ n + 2 = omega arith in
+    let all : length os ≡ n = length-take-le n octets (omega arith) in
+    let element : IsElement s (Hex letter os c) =
+    (size ∙ ap (λ (i : ℕ). Some i) (sym all), subst (λ ds. IsHexAfter 0 ds c) are number, scalar, clob) in
+    subst (λ l. LeadsOn s (take (n + 2) (x ∷ letter ∷ octets)) kept l) (sym e)
+    (subst (λ (i : ℕ). LeadsOn s (take i (x ∷ letter ∷ octets)) kept end) two
+    (subst (λ (y : ℕ). LeadsOn s (y ∷ letter ∷ os) kept end) (sym slash)
+    (λ p. read_hex p s within.Plain kept letter os c tt element)))
+
+pair_leads_on : (s : Style) (first second kept : List ℕ) (h l : ℕ) → is_clob s ≡ false → length first ≡ 4 → length second ≡ 4
+    → IsHexAfter 0 first h → IsHexAfter 0 second l → is_high h ≡ true → is_low l ≡ true
+    → LeadsOn s ((92 ∷ 117 ∷ first) ++ (92 ∷ 117 ∷ second)) kept (kept ++ encode (0x10000 + (h - 0xd800) * 1024 + (l - 0xdc00)))
+pair_leads_on s first second kept h l text four four' high low is_h is_l =
+    let above : h ≡ 0xd800 + (h - 0xd800) = high_is h is_h in
+    let above' : l ≡ 0xdc00 + (l - 0xdc00) = low_is l is_l in
+    λ p. read_pair p s within.Plain kept first second (h - 0xd800) (l - 0xdc00) tt (
+      text,
+      four,
+      four',
+      subst (λ (n : ℕ). IsHexAfter 0 first n) above high,
+      high_small h is_h,
+      subst (λ (n : ℕ). IsHexAfter 0 second n) above' low,
+      low_small l is_l,
+    )
+  where
+    high_is : (h : ℕ) → is_high h ≡ true → h ≡ 0xd800 + (h - 0xd800)
+    high_is h e = grind (arith, nat_tests)
+
+    low_is : (l : ℕ) → is_low l ≡ true → l ≡ 0xdc00 + (l - 0xdc00)
+    low_is l e = grind (arith, nat_tests)
+
+    high_small : (h : ℕ) → is_high h ≡ true → h - 0xd800 < 1024
+    high_small h e = grind (arith, nat_tests)
+
+    low_small : (l : ℕ) → is_low l ≡ true → l - 0xdc00 < 1024
+    low_small l e = grind (arith, nat_tests)
+
+-- two escapes of a surrogate pair lead on, and their character is kept
+pub pair_leads : (s : Style) (octets first second kept kept' : List ℕ) (h l : ℕ) → is_clob s ≡ false → take 6 octets ≡ 92 ∷ 117 ∷ first
+    → take 6 (drop 6 octets) ≡ 92 ∷ 117 ∷ second → length first ≡ 4 → length second ≡ 4 → IsHexAfter 0 first h → IsHexAfter 0 second l
+    → is_high h ≡ true → is_low l ≡ true
+    → kept' ≡ kept ++ cond (is_clob s) ((0x10000 + (h - 0xd800) * 1024 + (l - 0xdc00)) ∷ []) (encode (0x10000 + (h - 0xd800) * 1024 + (l - 0xdc00)))
+    → LeadsOn s (take 12 octets) kept kept'
+pair_leads s octets first second kept kept' h l text is is' four four' high low is_h is_l e =
+    let c : ℕ = 0x10000 + (h - 0xd800) * 1024 + (l - 0xdc00) in
+    let same : kept' ≡ kept ++ encode c = e ∙ ap (λ b. kept ++ cond b (c ∷ []) (encode c)) text in
+    let whole : (92 ∷ 117 ∷ first) ++ (92 ∷ 117 ∷ second) ≡ take 12 octets =
+    ap (λ w. w ++ (92 ∷ 117 ∷ second)) (sym is) ∙ ap (λ w. take 6 octets ++ w) (sym is') ∙ sym (take-add 6 6 octets) in
+    subst (λ w. LeadsOn s w kept kept') whole
+    (subst (λ k. LeadsOn s ((92 ∷ 117 ∷ first) ++ (92 ∷ 117 ∷ second)) kept k) (sym same)
+    (pair_leads_on s first second kept h l text four four' high low is_h is_l))
+
 -- octets that lead on behind others that do lead on with them
 pub leads_then : (s : Style) (octets rest kept kept' kept'' : List ℕ) (at n : ℕ) → rest ≡ drop at octets → LeadsOn s (take at octets) kept kept'
     → LeadsOn s (take n rest) kept' kept'' → LeadsOn s (take (at + n) octets) kept kept''
@@ -52,12 +118,18 @@ leads_then s octets rest kept kept' kept'' at n is f g =
     (λ p. goes_then p s within.Plain within.Plain within.Plain (take at octets) (take n rest) kept kept' kept'' (f p) (g p))
 
 -- a token that was found is known by what it has
+pub found_as : (p : Place) (r : Rest) (octets kept kept' : List ℕ) (found : FoundToken) (kind : TokenKind) (n : ℕ) (left : Bool)
+    → found ≡ record { kind = kind; count = n; left = left } → kept' ≡ kept → IsFound p r octets kind kept n left
+    → IsFound p r octets found.kind kept' found.count found.left
+found_as p r octets kept kept' found kind n left is e f =
+    subst (λ (t : FoundToken). IsFound p r octets t.kind kept' t.count t.left) (sym is)
+    (subst (λ (l : List ℕ). IsFound p r octets kind l n left) (sym e) f)
+
+-- so is one that stands whole in each place
 pub stands_as : (octets kept kept' : List ℕ) (found : FoundToken) (kind : TokenKind) (n : ℕ) (left : Bool)
     → found ≡ record { kind = kind; count = n; left = left } → kept' ≡ kept
     → ((p : Place) (r : Rest) → IsFound p r octets kind kept n left) → StandsWhole octets kept' found
-stands_as octets kept kept' found kind n left is e f p r =
-    subst (λ (t : FoundToken). IsFound p r octets t.kind kept' t.count t.left) (sym is)
-    (subst (λ (l : List ℕ). IsFound p r octets kind l n left) (sym e) (f p r))
+stands_as octets kept kept' found kind n left is e f p r = found_as p r octets kept kept' found kind n left is e (f p r)
 
 -- what leads on up to a quote stands whole behind another as a short string
 pub string_stands : (content kept : List ℕ) (n : ℕ) → n < length content → slice_index content n ≡ 34
@@ -90,6 +162,12 @@ symbol_stands content kept n more last first leads p r =
     (opens_then p r.colon (39 ∷ []) (take n content) modes.Quote m [] kept (opens_quote p r.colon)
     (from_quote p (take n content) kept within.Plain full (begins_other content n first) (leads p)))
     (λ s u. refl) (omega arith) (ap (λ (x : ℕ). next p r.colon m x) last))
+
+-- two single quotes stand whole as the empty symbol before an octet that is none
+pub empty_stands : (x : ℕ) (os : List ℕ) → x ≢ 39 → (p : Place) (r : Rest) → IsFound p r (39 ∷ 39 ∷ x ∷ os) kinds.QuotedSymbol [] 2 true
+empty_stands x os other p r =
+    opened_left p r (39 ∷ 39 ∷ x ∷ os) 2 kinds.QuotedSymbol modes.Quotes [] keeps.Nothing (opens_quotes p r.colon) (λ s u. refl) (omega arith) (omega arith)
+    (quotes_end x (not_same x 39 other) r.colon p)
 
 -- what leads on up to three quotes stands whole behind three as a segment of a long string
 pub segment_stands : (content kept us : List ℕ) (n : ℕ) → n < length content → drop n content ≡ 39 ∷ 39 ∷ 39 ∷ us

@@ -3,6 +3,7 @@ use Rattle.std.proofs.Common.{◌≡◌, ◌≢◌, ◌⊎◌, inl, inr, ℕ, �
 use Rattle.std.specs.Prelude.{◌==◌, ◌&&◌, ◌||◌, not, slice_index, IsUtf8}
 use Rattle.std.specs.List.{take_while, prefix_len}
 use Rattle.std.proofs.lemmas.Bool.Decides.{nat_tests}
+use Rattle.std.proofs.Math.Seq.{take-append_seam, get_or-append_seam}
 use Rattle.std.proofs.lemmas.List.{length-take, length-take-le}
 use Rattle.std.proofs.lemmas.List.Folds.{length-prefix_len}
 use Rattle.std.proofs.lemmas.List.Sums.{prefix_len_stops, prefix_len-le-length}
@@ -94,6 +95,13 @@ opened_given p r octets n kind m kept k f h more e =
           ∙ ap (λ (i : ℕ). Given (record { start = r.used; end = i; kind = kind; octets = kept_after k kept }) (past p kind modes.Blank [] i i)) more;
     }
 
+-- octets that open a token, and its last behind them
+pub given_behind : (p : Place) (r : Rest) (w us : List ℕ) (o : ℕ) (kind : TokenKind) (m : Mode) (kept : List ℕ) (k : Keep)
+    → Opens p r.colon w m kept → Stays m → next p r.colon m o ≡ actions.Give kind k → IsFound p r (w ++ o ∷ us) kind (kept_after k kept) (length w + 1) false
+given_behind p r w us o kind m kept k f h e =
+    opened_given p r (w ++ o ∷ us) (length w) kind m kept k (subst (λ l. Opens p r.colon l m kept) (sym (take-append_seam w (o ∷ us))) f) h
+    (omega (arith, length-append w (o ∷ us))) (ap (λ (x : ℕ). next p r.colon m x) (get_or-append_seam w o us 0) ∙ e)
+
 -- The front of a class.
 
 front_length : (class : ℕ → Bool) (octets : List ℕ) (n : ℕ) → n ≡ length (take_while class octets) → n ≡ prefix_len class octets
@@ -146,7 +154,8 @@ first_in_word o h = ap (λ b. b || is_digit o) h
 pub same_is : (a b : ℕ) → (a == b) ≡ true → a ≡ b
 same_is a b h = grind (arith, nat_tests)
 
-not_same : (a b : ℕ) → a ≢ b → (a == b) ≡ false
+-- octets that differ are told apart
+pub not_same : (a b : ℕ) → a ≢ b → (a == b) ≡ false
 not_same a b n = grind (arith, nat_tests)
 
 -- a word stands whole before an octet of no word that is no dot

@@ -1,4 +1,4 @@
--- What stands between the quotes of a text or the braces of a blob that lies whole in memory, and the token that it is.
+-- What stands between the quotes of a text or the braces of a lob that lies whole in memory, and the token that it is.
 use Rattle.std.specs.Prelude.{◌≡◌, ℕ, ◌+◌, Bool, List, ◌++◌, length, ◌||◌, not}
 use Rattle.std.specs.List.{filter}
 use Rattle.ion_tokens.specs.Octets.{is_white, is_base64}
@@ -6,6 +6,8 @@ use Rattle.ion_tokens.specs.Lexemes.{Each}
 use Rattle.ion_tokens.specs.declared.mode.Place.{Place}
 use Rattle.ion_tokens.specs.declared.mode.Style.{Style}
 use Rattle.ion_tokens.specs.declared.mode.Within.TheVariants as within
+use Rattle.ion_tokens.specs.declared.mode.Lob.{Lob}
+use Rattle.ion_tokens.specs.declared.mode.Lob.TheVariants as lobs
 use Rattle.ion_tokens.specs.declared.mode.Mode.TheVariants as modes
 use Rattle.ion_tokens.specs.declared.plain_tokens.Rest.{Rest}
 use Rattle.ion_tokens.specs.declared.token_reader.FoundToken.{FoundToken}
@@ -33,3 +35,19 @@ StandsIn p octets kept found = (r : Rest) → IsFound p r octets found.kind kept
 -- These octets are content of a blob. The one list was kept before, and the base64 among them is kept behind it in the other.
 abbrev pub AddsBase64 : List ℕ → List ℕ → List ℕ → Type 0
 AddsBase64 content kept kept' = Each (λ o. is_white o || is_base64 o) content × (kept' ≡ kept ++ filter (λ o. not (is_white o)) content)
+
+-- where a segment of a long clob may begin
+abbrev pub BeginsSegment : Lob → Type 0
+BeginsSegment lobs.Start = Unit {0}
+BeginsSegment lobs.AfterLong = Unit {0}
+BeginsSegment _ = ⊥
+
+-- in a lob, of which these octets are kept
+abbrev pub inside_lob : Lob → List ℕ → Bool → ℕ → ℕ → Known
+inside_lob l kept colon start used = record { mode = modes.Lob l; kept = kept; colon = colon; start = start; used = used }
+
+-- Over these octets a long clob comes from where a segment may begin to behind one, whatever follows. The one list was kept before, and
+-- the other is kept then.
+abbrev pub AddsSegments : List ℕ → List ℕ → List ℕ → Type 0
+AddsSegments octets kept kept' = (l : Lob) → BeginsSegment l → (p : Place) (colon : Bool) (start used : ℕ) (behind : List ℕ)
+    → run p (octets ++ behind) (inside_lob l kept colon start used) ≡ run p behind (inside_lob lobs.AfterLong kept' colon start (used + length octets))

@@ -11,7 +11,7 @@ use Rattle.ion_streams.proofs.Steps.{on_err}
 use Rattle.ion_streams.proofs.Passes.{stood_next, stood_still}
 use Rattle.ion_streams.proofs.Driven.{driven_on}
 use Rattle.ion_docs.proofs.Conversions.{took_whole, took_some, front_of_front, took_front, put_cause, was_read, converted_at, kept_at}
-use Rattle.ion_streams.proofs.Gathering.{at_driven, at_less}
+use Rattle.ion_streams.proofs.Gathering.{at_driven, at_less, join_cause}
 use Rattle.ion_docs.proofs.Carrying.{Done, as_it_was, done_gathered}
 use Rattle.ion_docs.proofs.conversion.convert_by.Goals as goal
 
@@ -245,4 +245,4 @@ returns-in_err-advance-clause-cause g c =
 pub returns-in_err-gather-clause-cause : goal.returns-in_err-gather-clause-cause
 returns-in_err-gather-clause-cause g c =
     let p = err_from_is_err_and c.from_residual-in_err-gather.result c.from_residual-in_err-gather.ensures.1 in
-    rw (p.1, p.2) (inl (c.in_err-gather.ensures.cause c.args.reader.now c.args.reads))
+    rw (p.1, p.2) (inl (join_cause g.R.Inlet c.args.reads c.args.reader.now _ _ c.in_err-gather.ensures.cause))

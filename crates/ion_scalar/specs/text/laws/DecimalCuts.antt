@@ -40,7 +40,8 @@ tail_stops (c ∷ d ∷ os) f float s n (inl p) = (
 )
 tail_stops (c ∷ os) f float s n (inr p) = end_stops (c ∷ os) float s n (inr (p.1))
 
-continued_number : (w f : List ℕ) → continued 10 (number 10 w) f ≡ number 10 (w ++ f)
+-- a whole part's number goes on to that of all digits
+pub continued_number : (w f : List ℕ) → continued 10 (number 10 w) f ≡ number 10 (w ++ f)
 continued_number w f = sym (ap (positional 10) (digits_in-append w f) ∙ positional-append 10 (digits_in w) (digits_in f))
 
 -- capped at 2^127, a whole part's number goes on to that of all digits

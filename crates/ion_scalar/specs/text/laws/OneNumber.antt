@@ -1,5 +1,6 @@
 -- A token spells one number, or is a float, and not both.
 use Rattle.std.proofs.Common.{◌≡◌, ◌≢◌, ℕ, ◌<◌, ◌≤◌, ◌⊎◌, inl, inr, List, [], ◌∷◌, ◌++◌, length, Bool, true, false, ℤ, pos, ◌-ℤ◌, refl, sym, ap, subst, ◌∙◌, arith, Result, Ok, Err}
+use Rattle.std.specs.Prelude.{is_ok}
 use Rattle.std.proofs.lemmas.Bool.{false≢true, true≢false}
 use Rattle.std.proofs.lemmas.List.{append-nil, append_cancel_left}
 use Rattle.std.specs.Char.{digit_value}
@@ -277,11 +278,20 @@ no_there token none h (numbers.Timestamp t) is = h t is
 no_there token none h (numbers.Int z) is = absurd (none (numbers.Int z) is)
 no_there token none h (numbers.Decimal d) is = absurd (none (numbers.Decimal d) is)
 
+-- a timestamp that a token spells is the number that it is read as
+pub timestamp_answer : (token : List ℕ) (x : Number) → ReadsTimestamp token (Ok x) → ReadsNumber token (Ok x)
+timestamp_answer token (numbers.Timestamp t) h = (h.0, there_short t (h.1), h.1)
+timestamp_answer token (numbers.Int z) h = absurd h
+timestamp_answer token (numbers.Decimal d) h = absurd h
+
+-- so is the number of an answer that gives one
+pub timestamp_answered : (token : List ℕ) (r : Result Number Reason) → ReadsTimestamp token r → is_ok r ≡ true → ReadsNumber token r
+timestamp_answered token (Ok x) h ok = timestamp_answer token x h
+timestamp_answered token (Err e) h ok = absurd (false≢true ok)
+
 -- of a token that is no int, decimal or float, the forms of a timestamp alone decide
 pub stamp_answer : (token : List ℕ) (r : Result Number Reason) → ReadsNumeral token (Err Malformed) → ReadsTimestamp token r → ReadsNumber token r
-stamp_answer token (Ok (numbers.Timestamp t)) n h = (h.0, there_short t (h.1), h.1)
-stamp_answer token (Ok (numbers.Int z)) n h = absurd h
-stamp_answer token (Ok (numbers.Decimal d)) n h = absurd h
+stamp_answer token (Ok x) n h = timestamp_answer token x h
 stamp_answer token (Err TooLarge) n h = (numbers.Timestamp (h.0), h.1, h.2)
 stamp_answer token (Err Malformed) n h = (no_there token (n.0) h, n.1)
 stamp_answer token (Err _) n h = absurd h

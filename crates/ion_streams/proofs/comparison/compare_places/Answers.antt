@@ -7,7 +7,7 @@ use Rattle.ion_streams.proofs.Alongside.{past_open, past_closed, past_ready, pas
 use Rattle.ion_streams.proofs.Courses.{Meets, meets_begun, meets_more, left_refused, closed_verdict, count_met, works_less, true_case, false_case}
 use Rattle.ion_streams.proofs.Passes.{stood_next, closed_same, none_of}
 use Rattle.std.proofs.lemmas.Result.{err_from_is_err_and}
-use Rattle.ion_streams.proofs.Gathering.{at_less}
+use Rattle.ion_streams.proofs.Gathering.{at_less, join_cause}
 use Rattle.ion_streams.proofs.SideBySide.{both_gathered}
 use Rattle.ion_streams.proofs.Unfailed.{StandsHeard, heard_past, heard_alone, heard_since, stands_heard}
 use Rattle.ion_streams.proofs.comparison.compare_places.Goals.{else-not-is_open-via-then-not-is_open+else-not-is_open-2, else-not-is_open-via-else-not-is_open}
@@ -111,22 +111,22 @@ loop-right_place-preserved-then-go_alike g c =
     let right_now = c.go_alike.new.right in
     let bound = i.bound in
     let left_less = past_less g.I.Items left left_now both.value both.left_past in
-    let right_less = past_less g.J.Items right right_now both.value both.right_past in
-    let count = count_met c.loop-right_place.course c.go_alike.new.course (Some both.value) (Some both.value) both.met in
+    let right_less = past_less g.J.Items right right_now both.other both.right_past in
+    let count = count_met c.loop-right_place.course c.go_alike.new.course (Some both.value) (Some both.other) both.met in
     record {
       left_ready = past_ready g.I.Items left left_now both.value both.left_past;
-      right_ready = past_ready g.J.Items right right_now both.value both.right_past;
+      right_ready = past_ready g.J.Items right right_now both.other both.right_past;
       left_within = λ reads h. past_within g.I.Items g.L.Inlet reads c.args.left.now c.gather.new.reader left left_now both.value both.left_past
           (i.left_within reads h);
-      right_within = λ reads h. past_within g.J.Items g.R.Inlet reads c.args.right.now c.gather-in-loop-right_place.new.reader right right_now both.value both.right_past
+      right_within = λ reads h. past_within g.J.Items g.R.Inlet reads c.args.right.now c.gather-in-loop-right_place.new.reader right right_now both.other both.right_past
           (i.right_within reads h);
       left_asked = let asked = i.left_asked in omega (arith, asked, past_reads g.I.Items left left_now both.value both.left_past);
-      right_asked = let asked = i.right_asked in omega (arith, asked, past_reads g.J.Items right right_now both.value both.right_past);
+      right_asked = let asked = i.right_asked in omega (arith, asked, past_reads g.J.Items right right_now both.other both.right_past);
       left_handed = let handed = i.left_handed in omega (arith, handed, past_reads g.I.Items left left_now both.value both.left_past);
-      right_handed = let handed = i.right_handed in omega (arith, handed, past_reads g.J.Items right right_now both.value both.right_past);
+      right_handed = let handed = i.right_handed in omega (arith, handed, past_reads g.J.Items right right_now both.other both.right_past);
       left_heard = record { either = inr (heard_past g.I.Items g.L.Inlet c.gather.new.reader left left_now both.value both.left_past i.left_heard) };
       right_heard = record {
-        either = inr (heard_past g.J.Items g.R.Inlet c.gather-in-loop-right_place.new.reader right right_now both.value both.right_past
+        either = inr (heard_past g.J.Items g.R.Inlet c.gather-in-loop-right_place.new.reader right right_now both.other both.right_past
             (heard_alone g.J.Items g.R.Inlet right c.args.right.now c.gather-in-loop-right_place.new.reader i.right_heard));
       };
       bound = omega (arith, bound, left_less, right_less, count);
@@ -134,11 +134,11 @@ loop-right_place-preserved-then-go_alike g c =
       stood = λ left_catalog right_catalog left_limits right_limits a b.
           let w = i.stood left_catalog right_catalog left_limits right_limits a b in (
             w.0 ++ both.value ∷ [],
-            w.1 ++ both.value ∷ [],
+            w.1 ++ both.other ∷ [],
             past_stood g.I.Items g.L.Inlet _ _ c.args.left.now c.gather.new.reader left left_now both.value w.0 both.left_past w.2,
-            past_stood g.J.Items g.R.Inlet _ _ c.args.right.now c.gather-in-loop-right_place.new.reader right right_now both.value w.1 both.right_past w.3,
-            meets_more c.loop-right_place.course c.go_alike.new.course left left_now right right_now w.0 w.1 (Some both.value) (Some both.value) both.met w.4
-                (past_closed g.I.Items left left_now both.value _ both.left_past) (past_closed g.J.Items right right_now both.value _ both.right_past)
+            past_stood g.J.Items g.R.Inlet _ _ c.args.right.now c.gather-in-loop-right_place.new.reader right right_now both.other w.1 both.right_past w.3,
+            meets_more c.loop-right_place.course c.go_alike.new.course left left_now right right_now w.0 w.1 (Some both.value) (Some both.other) both.met w.4
+                (past_closed g.I.Items left left_now both.value _ both.left_past) (past_closed g.J.Items right right_now both.other _ both.right_past)
                 (λ none. absurd cc) (λ none. absurd cc),
           );
     }
@@ -324,9 +324,9 @@ loop-right_place-smaller g c =
 pub returns-in_err-gather-clause-cause : goal.returns-in_err-gather-clause-cause
 returns-in_err-gather-clause-cause g c =
     let p = err_from_is_err_and c.from_residual.result c.from_residual.ensures.1 in
-    rw (p.1, p.2) (λ reads a b. inl (c.in_err-gather.ensures.cause c.args.left.now reads))
+    rw (p.1, p.2) (λ reads a b. inl (join_cause g.L.Inlet reads c.args.left.now _ _ c.in_err-gather.ensures.cause))
 
 pub returns-in_err-gather-2-clause-cause : goal.returns-in_err-gather-2-clause-cause
 returns-in_err-gather-2-clause-cause g c =
     let p = err_from_is_err_and c.from_residual-in_err-gather-2.result c.from_residual-in_err-gather-2.ensures.1 in
-    rw (p.1, p.2) (λ reads a b. inr (c.in_err-gather-2.ensures.cause c.args.right.now reads))
+    rw (p.1, p.2) (λ reads a b. inr (join_cause g.R.Inlet reads c.args.right.now _ _ c.in_err-gather-2.ensures.cause))

@@ -1,7 +1,13 @@
-use Rattle.std.proofs.Common.{arith, length, length-drop, ap}
+use Rattle.std.proofs.Common.{arith, rules, length, length-drop, ap}
 use Rattle.std.proofs.lemmas.List.{take_rest}
-use Rattle.ion_tokens.proofs.runs.EscapedTexts.{leads_then}
+use Rattle.ion_tokens.proofs.runs.EscapedTexts.{characters_lead, leads_then}
 use Rattle.ion_tokens.proofs.escaped_texts.before_quote.Goals as goal
+
+pub loop-at-init : goal.loop-at-init
+loop-at-init c = record {
+  within = omega (arith, c.characters-at.ensures.within);
+  leads = characters_lead c.args.style _ _ _ c.characters-at.ensures.kept (search rules);
+}
 
 pub loop-at-preserved : goal.loop-at-preserved
 loop-at-preserved c =

@@ -1,4 +1,4 @@
-use Rattle.std.proofs.Common.{rules, ◌≡◌, None, ap, ◌∙◌, refl, arith}
+use Rattle.std.proofs.Common.{rules, ◌≡◌, None, ap, ◌∙◌, arith}
 use Rattle.std.proofs.lemmas.Option.{IfSome_then}
 use Rattle.ion_binary.proofs.Further.{both_passed}
 use Rattle.ion_binary.proofs.reader.BinaryReader.pass_alike.Goals as goal

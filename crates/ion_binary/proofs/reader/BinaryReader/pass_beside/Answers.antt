@@ -1,4 +1,4 @@
-use Rattle.std.proofs.Common.{rules, ◌≡◌, ◌+◌, ◌≤◌, ◌<◌, ℕ, take, length, length-take, Ok, Some, None, refl, arith}
+use Rattle.std.proofs.Common.{rules, ◌≡◌, ◌+◌, ◌<◌, ℕ, take, length, length-take, Ok, Some, None, refl, arith}
 use Rattle.ion_binary.specs.declared.form.Form.TheVariants as forms
 use Rattle.ion_binary.specs.laws.reading.Complete.{binary_some}
 use Rattle.ion_binary.specs.machine.EachOctet.{unfit}

@@ -2,6 +2,7 @@ use Rattle.std.proofs.Common.{inl, inr, rules, ◌≢◌, arith}
 use Rattle.ion_atoms.specs.declared.refusal.Reason.TheVariants as reasons
 use Rattle.std.proofs.lemmas.Result.{err_from_is_err_and}
 use Rattle.ion_streams.specs.reading.Read.{left_of}
+use Rattle.ion_streams.proofs.Gathering.{join_cause}
 use Rattle.ion_streams.proofs.Joined.{ended_unasked, ended_heard}
 use Rattle.ion_streams.proofs.Steps.{gave_so_far, reads_none, reads_failed, within_kept, on_err}
 use Rattle.ion_streams.proofs.Passes.{none_went, passes_on}
@@ -118,4 +119,4 @@ returns-then-not-branch-clause-no_read_failed g c = λ h.
 pub returns-in_err-gather-clause-cause : goal.returns-in_err-gather-clause-cause
 returns-in_err-gather-clause-cause g c =
     let p = err_from_is_err_and c.from_residual.result c.from_residual.ensures.1 in
-    rw (p.1, p.2) (λ first reads w. c.in_err-gather.ensures.cause first reads)
+    rw (p.1, p.2) (λ first reads w. join_cause g.R.Inlet reads first _ _ c.in_err-gather.ensures.cause)

@@ -1,4 +1,4 @@
-use Rattle.std.proofs.Common.{rules}
+use Rattle.std.proofs.Common.{rules, min, arith}
 use Rattle.ion_model.specs.Measures.{bare}
 use Rattle.ion_text.specs.machine.Progress.{BeginsWith}
 use Rattle.ion_text.proofs.Alikes.{left_side, side_advances}
@@ -12,12 +12,13 @@ returns-clause-gives c =
     let other_front = c.in_ok-other_front.other_front in
     let top = c.in_ok-top.top in
     let other_top = c.in_ok-top.other_top in
+    let level = min r.limits.depth q.limits.depth in
     let found = c.in_ok-top.ensures in (
       found.0,
       side_advances r c.args.piece.now c.item-octets.result.now front.blank top.count front.rest top.rest found.0 c.in_ok-front.ensures c.item-octets.ensures
-          found.1 c.move_to-2.new.self c.move_to-2.ensures.rests,
+          level (omega arith) found.1 c.move_to-2.new.self c.move_to-2.ensures.rests,
       side_advances q c.args.beside.now c.item-other_octets.result.now other_front.blank other_top.count other_front.rest other_top.rest found.0
-          c.in_ok-other_front.ensures c.item-other_octets.ensures found.2 c.move_to-3.new.self c.move_to-3.ensures.rests,
+          c.in_ok-other_front.ensures c.item-other_octets.ensures level (omega arith) found.2 c.move_to-3.new.self c.move_to-3.ensures.rests,
     )
 
 -- a number or a symbol

@@ -1,4 +1,4 @@
-use Rattle.std.proofs.Common.{refl, ap}
+use Rattle.std.proofs.Common.{◌∙◌, refl, ap}
 use Rattle.ion_text.specs.declared.reader.walks.Tally.{Tally}
 use Rattle.ion_text.proofs.reader.alike.top_at.Goals as goal
 
@@ -11,7 +11,7 @@ returns c =
         last = c.walk_top.new.tally;
         walked = w;
         begins =
-            ap (λ (t : Tally). t.rest) c.new-tally.ensures;
+            ap (λ (t : Tally). t.rest) c.new-tally.ensures ∙ c.at_front.ensures;
         ends = refl;
         gives = refl;
       },

@@ -1,4 +1,4 @@
-use Rattle.std.proofs.Common.{subst, false, take, ◌+◌}
+use Rattle.std.proofs.Common.{◌≢◌, rules, slice_index, subst, false, take, ◌+◌}
 use Rattle.ion_tokens.specs.declared.mode.Style.TheVariants as styles
 use Rattle.ion_tokens.specs.declared.mode.TokenKind.TheVariants as kinds
 use Rattle.ion_tokens.specs.machine.Contents.{LeadsOn}
@@ -10,6 +10,7 @@ returns c =
     let behind = c.args.behind.now in
     let n = c.in_ok-count.count in
     let kept = c.before_quote.new.kept.items in
+    let other : slice_index behind 0 ≢ 39 = search rules in
     let leads = subst (λ old. LeadsOn styles.QuotedSymbol (take n behind) old kept) c.requires c.in_ok-count.ensures.leads in
     stands_as _ kept _ c.whole.result kinds.QuotedSymbol (n + 2) false c.whole.ensures.token c.whole.ensures.ended
-    (symbol_stands behind kept n c.in_ok-count.ensures.within c.in_ok-count.ensures.quote c.if-behind-eq39.false leads)
+    (symbol_stands behind kept n c.in_ok-count.ensures.within c.in_ok-count.ensures.quote other leads)

@@ -1,0 +1,127 @@
+-- Ints and decimals of so few digits that 64 bits hold their number.
+use Rattle.std.proofs.Common.{◌≡◌, ℕ, zero, suc, ◌+◌, ◌-◌, ◌*◌, ◌^◌, ◌<◌, ◌≤◌, inl, inr, ◌≢◌, List, [], ◌∷◌, ◌++◌, length, take, drop, get_or, Bool, false, Option, Some, None, Ok, IfSome, pos, ◌-ℤ◌, refl, sym, ap, subst, ◌∙◌, arith, length-append}
+use Rattle.std.specs.Char.{digit_value}
+use Rattle.std.proofs.lemmas.Str.{digit_value_digit}
+use Rattle.std.proofs.lemmas.Bool.{cases_lt}
+use Rattle.std.proofs.Math.Nat.{pow-suc, one-le-pow, pow-le-pow_right, mul-le-mul_left, mul-le-mul_right}
+use Rattle.std.proofs.lemmas.List.{take_all, take-append-drop, drop_more, drop_all, length-drop}
+use Rattle.ion_scalar.specs.declared.number.Number.{Number}
+use Rattle.ion_scalar.specs.declared.number.Number.TheVariants as numbers
+use Rattle.ion_scalar.specs.text.Ints.{IsDigits, digits_in, number, continued, IsWholePart, BeginsWithMinus, minus}
+use Rattle.ion_scalar.specs.text.Decimals.{signed, IsTail, IsDecimalBody}
+use Rattle.ion_scalar.specs.text.Numbers.{IsBehind, Fits, ReadsBehind, ReadsNumeral, decimal_read}
+use Rattle.ion_scalar.specs.text.laws.DigitRuns.{run_step, continued_more}
+use Rattle.ion_scalar.specs.text.laws.DecimalTails.{fraction_is}
+use Rattle.ion_scalar.specs.text.laws.DecimalCuts.{continued_number}
+use Rattle.ion_scalar.specs.text.laws.Unsigned.{continued_none, token_answer}
+
+-- with a digit more, a number leaves room for one digit fewer
+pub room_more : (v d left most : ℕ) → d < 10 → (v + 1) * 10 ^ (left + 1) ≤ most → (v * 10 + d + 1) * 10 ^ left ≤ most
+room_more v d left most small room =
+    let more : (v * 10 + d + 1) * 10 ^ left ≤ (v + 1) * 10 * 10 ^ left = mul-le-mul_right (10 ^ left) (omega arith) in
+    let power : 10 ^ (left + 1) ≡ 10 ^ left * 10 = ap (λ n. 10 ^ n) (omega arith) ∙ pow-suc 10 left in
+    let moved : (v + 1) * 10 ^ (left + 1) ≡ (v + 1) * 10 * 10 ^ left = ap (λ n. (v + 1) * n) power ∙ omega arith in
+    omega arith
+
+-- a number that leaves room for digits is itself below the bound
+pub below_room : (v left most : ℕ) → (v + 1) * 10 ^ left ≤ most → v < most
+below_room v left most room =
+    let one : (v + 1) * 1 ≤ (v + 1) * 10 ^ left = mul-le-mul_left (v + 1) (one-le-pow left 10 (omega arith)) in
+    omega arith
+
+-- a run of digits without `_` at the front of octets, their number behind another, and the room that it leaves
+pub record PlainRun (os : List ℕ) (before used value : ℕ) : Type 0 where
+  pub within : used ≤ length os
+  pub digits : 0 < used → IsDigits 10 (take used os)
+  pub many : length (digits_in (take used os)) ≡ used
+  pub counts : value ≡ continued 10 before (take used os)
+  pub room : (value + 1) * 10 ^ (length os - used) ≤ (before + 1) * 10 ^ length os
+
+-- a digit more
+pub plain_more : (os : List ℕ) (before used value : ℕ) → used < length os → 48 ≤ get_or os used 0 → get_or os used 0 ≤ 57 → PlainRun os before used value
+    → PlainRun os before (used + 1) (value * 10 + (get_or os used 0 - 48))
+plain_more os before used value h low high run =
+    let c = get_or os used 0 in
+    let is : digit_value c + 48 ≡ c = digit_value_digit c (low, high) in
+    let s = run_step 10 used used os (omega arith) (inl (refl, λ _ _ mark. absurd (omega arith))) run.digits h (omega arith) in
+    let left : length os - used ≡ length os - (used + 1) + 1 = omega arith in
+    record {
+      within = omega arith;
+      digits = λ _. s.0;
+      many = omega (arith, ap length s.1, length-append (digits_in (take used os)) (digit_value c ∷ []), run.many);
+      counts = omega (arith, run.counts, is, continued_more 10 before (digit_value c) (take used os) (take (used + 1) os) s.1);
+      room = room_more value (c - 48) (length os - (used + 1)) _ (omega arith) (rw left at run.room);
+    }
+
+-- octets that 64 bits have room for leave it behind a run and one octet more
+pub room_behind : (os : List ℕ) (used value : ℕ) → length os ≤ 19 → used < length os → PlainRun os 0 used value
+    → (value + 1) * 10 ^ length (drop (used + 1) os) ≤ 2 ^ 64
+room_behind os used value few more run =
+    let all : 10 ^ length os ≤ 10 ^ 19 = pow-le-pow_right (omega arith) few in
+    let fewer : length (drop (used + 1) os) ≤ length os - used = omega (arith, length-drop (used + 1) os) in
+    let less : 10 ^ length (drop (used + 1) os) ≤ 10 ^ (length os - used) = pow-le-pow_right (omega arith) fewer in
+    let same : (value + 1) * 10 ^ length (drop (used + 1) os) ≤ (value + 1) * 10 ^ (length os - used) = mul-le-mul_left (value + 1) less in
+    let room = run.room in
+    omega arith
+
+-- a whole part that is all of the octets is an int
+pub short_int : (negative : Bool) (body : List ℕ) (used value : ℕ) (r : Option Number) → PlainRun body 0 used value → used ≡ length body
+    → IsWholePart (take used body)
+    → IfSome r (λ x. (x ≡ numbers.Int (signed negative value)) × Fits x) → IfSome r (λ x. ReadsBehind negative body (Ok x))
+short_int negative body used value None run all whole h = tt
+short_int negative body used value (Some x) run all whole h =
+    let same : take used body ≡ body = take_all used body (omega arith) in
+    let counts : value ≡ number 10 body = run.counts ∙ (continued_none 10 (take used body) ∙ ap (number 10) same) in
+    let P : Number → Type 0 = IsBehind negative body in
+    (subst P (sym h.0) (value, inl (subst IsWholePart same whole, counts), refl), h.1)
+
+-- a whole part, a point and digits or none are a decimal
+decimal_body : (body : List ℕ) (used value count all : ℕ) → PlainRun body 0 used value → IsWholePart (take used body) → used < length body
+    → get_or body used 0 ≡ 46 → PlainRun (drop (used + 1) body) value count all → length (drop (used + 1) body) ≤ count
+    → IsDecimalBody false body all (pos 0 -ℤ pos count)
+decimal_body body used value count all run whole more point behind end =
+    let w = take used body in
+    let rest = drop (used + 1) body in
+    let counts : value ≡ number 10 w = run.counts ∙ continued_none 10 w in
+    let tail : 46 ∷ rest ≡ drop used body = sym (drop_more body used 0 more ∙ ap (λ c. c ∷ rest) point) in
+    let fraction = fraction_is rest count false false 0 behind.digits (inl (drop_all count rest end, refl, refl, refl)) in
+    record {
+      whole = w;
+      tail = drop used body;
+      fraction = take count rest;
+      below = false;
+      written = 0;
+      octets = sym (take-append-drop used body);
+      is_whole = whole;
+      is_tail = let T : List ℕ → Type 0 = λ x. IsTail x (take count rest) false false 0 in subst T tail (inl (refl, fraction));
+      digits = behind.counts ∙ (ap (λ n. continued 10 n (take count rest)) counts ∙ continued_number w (take count rest));
+      power = ap (λ n. pos 0 -ℤ pos n) (sym behind.many);
+    }
+
+pub short_decimal : (negative : Bool) (body : List ℕ) (used value count all : ℕ) (r : Option Number) → PlainRun body 0 used value → IsWholePart (take used body)
+    → used < length body → get_or body used 0 ≡ 46 → PlainRun (drop (used + 1) body) value count all → length (drop (used + 1) body) ≤ count
+    → IfSome r (λ x. (x ≡ decimal_read negative all false 0 count) × Fits x) → IfSome r (λ x. ReadsBehind negative body (Ok x))
+short_decimal negative body used value count all None run whole more point behind end h = tt
+short_decimal negative body used value count all (Some x) run whole more point behind end h =
+    let P : Number → Type 0 = IsBehind negative body in
+    (subst P (sym h.0) (refl, decimal_body body used value count all run whole more point behind end), h.1)
+
+-- from what stands behind the sign to the token
+pub short_token : (negative : Bool) (token body : List ℕ) (r : Option Number) → BeginsWithMinus negative token → token ≡ minus negative ++ body
+    → IfSome r (λ x. ReadsBehind negative body (Ok x)) → IfSome r (λ x. ReadsNumeral token (Ok x))
+short_token negative token body None b e h = tt
+short_token negative token body (Some x) b e h = token_answer negative token body (Ok x) b e h
+
+-- one digit alone is a whole part
+one_whole : (c : ℕ) → IsDigits 10 (c ∷ []) → IsWholePart (c ∷ [])
+one_whole c digit = elim (cases_lt c 48) [
+  | inl less ↦ inr (digit, λ e. absurd (omega arith))
+  | inr from ↦ elim (cases_lt 48 c) [ inl more ↦ inr (digit, λ e. absurd (omega arith)) | inr to ↦ inl (ap (λ x. x ∷ []) (omega arith)) ]
+]
+
+-- a run of digits that isn't `0` and more is a whole part
+pub short_whole : (os : List ℕ) (used value : ℕ) → PlainRun os 0 used value → 0 < used → (1 < used → get_or os 0 0 ≢ 48) → IsWholePart (take used os)
+short_whole os zero value run some first = absurd (omega arith)
+short_whole [] (suc k) value run some first = absurd (omega (arith, run.within))
+short_whole (c ∷ os) (suc zero) value run some first = one_whole c (run.digits some)
+short_whole (c ∷ os) (suc (suc k)) value run some first = inr (run.digits some, first (omega arith))

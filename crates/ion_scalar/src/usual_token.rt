@@ -1,0 +1,101 @@
+//! Timestamps of the two forms that most have, as whole tokens: `YYYY-MM-DD` and
+//! `YYYY-MM-DDThh:mm:ssZ`. What has another form, or isn't there, isn't told of here.
+ghost use Rattle.std.specs.Prelude.{◌≡◌, ◌≤◌, ◌<◌, length, IsTrue, ◌↔◌, IfSome};
+ghost use Rattle.ion_atoms.specs.declared.calendar.Date.{Date};
+ghost use Rattle.ion_atoms.specs.TimestampBounds.{last_year};
+ghost use Rattle.ion_atoms.specs.Calendar.{IsDate};
+ghost use Rattle.ion_atoms.specs.Timestamps.{IsTimestamp, IsTime, local_date};
+ghost use Rattle.ion_scalar.specs.text.Timestamps.{IsTimestampToken};
+
+use crate::timestamps::{day_front, minute_front, two_at};
+use ion_atoms::bounds::{LAST_HOUR, LAST_MINUTE, LAST_MONTH, LAST_SECOND, LAST_YEAR};
+use ion_atoms::calendar::has_day;
+use ion_atoms::{Local, Precision, Timestamp};
+
+/// The timestamp that a whole token of a usual form spells.
+#[inline(always)]
+pub fn usual_timestamp(token: &[u8]) -> Option<Timestamp>
+    ensures { IfSome result (λ t. IsTimestampToken token.now t × IsTimestamp t) }
+{
+    match token.len() {
+        10 => usual_day(token),
+        20 => usual_second(token),
+        _ => None,
+    }
+}
+
+#[inline(always)]
+fn usual_day(token: &[u8]) -> Option<Timestamp>
+    requires { length token.now ≡ 10 }
+    ensures { IfSome result (λ t. IsTimestampToken token.now t × IsTimestamp t) }
+{
+    let Some((year, month, day)) = day_front(token) else {
+        return None
+    };
+    if !is_day(year, month, day) {
+        return None;
+    }
+    let local = Local {
+        year,
+        month,
+        day,
+        hour: 0,
+        minute: 0,
+        second: 0,
+        fraction: 0,
+    };
+    Some(Timestamp::of_parts(local, Precision::Day, None))
+}
+
+#[inline(always)]
+fn usual_second(token: &[u8]) -> Option<Timestamp>
+    requires { length token.now ≡ 20 }
+    ensures { IfSome result (λ t. IsTimestampToken token.now t × IsTimestamp t) }
+{
+    if token[16] != b':' || token[19] != b'Z' {
+        return None;
+    }
+    let Some(minute) = minute_front(token) else {
+        return None
+    };
+    let Some(second) = two_at(token, 17) else {
+        return None
+    };
+    let local = Local { second, ..minute };
+    if !is_day(local.year, local.month, local.day) || !is_time(local) {
+        return None;
+    }
+    Some(Timestamp::of_parts(local, Precision::Second, Some(0)))
+}
+
+/// Whether there is such a day and time, in a year that no offset leads out of the years 1 to 9999
+/// from.
+#[inline(always)]
+pub fn is_usual(local: Local) -> bool
+    ensures day { IsTrue result → IsDate (local_date local) }
+    ensures time { IsTrue result → IsTime local }
+    ensures years { IsTrue result → (2 ≤ local.year) × (local.year < last_year) }
+{
+    if local.year < 2 || local.year >= LAST_YEAR || local.month < 1 || local.month > LAST_MONTH {
+        return false;
+    }
+    is_time(local) && has_day(local.year, local.month, local.day)
+}
+
+#[inline(always)]
+fn is_day(year: u16, month: u8, day: u8) -> bool
+    ensures { let date : Date = record { year = year; month = month; day = day } in
+        IsTrue result ↔ IsDate date }
+{
+    if year < 1 || year > LAST_YEAR || month < 1 || month > LAST_MONTH {
+        return false;
+    }
+    has_day(year, month, day)
+}
+
+#[inline(always)]
+fn is_time(local: Local) -> bool
+    ensures { IsTrue result ↔ IsTime local }
+{
+    local.hour <= LAST_HOUR && local.minute <= LAST_MINUTE && local.second <= LAST_SECOND
+}

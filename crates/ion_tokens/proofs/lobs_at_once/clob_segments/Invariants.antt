@@ -1,0 +1,13 @@
+use Rattle.std.proofs.Common.{◌≤◌, ◌-◌, length, take}
+use Rattle.ion_tokens.specs.machine.Contents.{AddsSegments}
+use Rattle.ion_tokens.proofs.lobs_at_once.clob_segments.Given as goal
+
+-- the octets so far are segments, and what they mean is kept
+abbrev pub invariant-loop-at : goal.invariant-loop-at
+invariant-loop-at l = record {
+  within : l.at ≤ length l.octets;
+  adds : AddsSegments (take l.at l.octets) l.fn.kept.items l.kept.items;
+}
+
+abbrev pub decreases-loop-at : goal.decreases-loop-at
+decreases-loop-at l = length l.octets - l.at
