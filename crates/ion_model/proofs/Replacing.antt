@@ -35,7 +35,8 @@ pub same-sexps : (a : Symbols) (vs ws : List Value) → pointwise same vs ws ≡
     ≡ true
 same-sexps a vs ws h = level a _ _ _ _ (views.outs-Sexp vs) (views.outs-Sexp ws) (both _ _ h refl)
 
-structs : (a : Symbols) (fs gs : List Field) → fields_same same fs gs ≡ true → same (annotated a (payloads.Fields fs)) (annotated a (payloads.Fields gs)) ≡ true
+-- structs of the same annotations are equivalent, where their fields are the same in some order
+pub structs : (a : Symbols) (fs gs : List Field) → fields_same same fs gs ≡ true → same (annotated a (payloads.Fields fs)) (annotated a (payloads.Fields gs)) ≡ true
 structs a fs gs h = level a _ _ _ _ (views.outs-Fields fs) (views.outs-Fields gs) h
 
 -- structs of the same annotations are equivalent, where their fields are the same place by place

@@ -120,7 +120,7 @@ both_tops level octets beside part count rest there after v colons is same room 
           (subst (λ b. IsTop level part count (rest_at b 0 0) after v) colons t),
     )
 
--- The same of a number or a symbol, where the octet that shows its end is the same, too.
+-- The same of a number, a symbol or a long string, where the octet that shows its end is the same, too.
 front_left : (octets beside : List ℕ) (count : ℕ) (rest after : Rest) (q : Payload) → take (count + 1) octets ≡ take (count + 1) beside
     → length octets ≤ length beside → length octets < 2 ^ 63 → FoundLeft octets count (rest_at rest.colon 0 0) after q
     → FoundLeft beside count rest (rest_behind rest after count) q
@@ -194,7 +194,7 @@ module _ (old : TextReader) (piece item : List ℕ) (blank count : ℕ) (rest be
       f.fresh (there ∙ ap resting (sym t.ends))
       is f.within f.few (omega arith) (omega arith) (subst (λ r. RestsBehind piece blank f.before r) (sym t.begins) f.rests) deep)
 
--- behind a number or a symbol the octet comes again
+-- behind a number, a symbol or a long string the octet comes again
 module _ (old : TextReader) (piece item : List ℕ) (blank count : ℕ) (rest behind : Rest) (q : Payload) (f : IsFront old piece blank rest)
     (is : item ≡ take (min (length piece - blank) old.limits.item) (drop blank piece)) (t : FoundLeft item count rest behind q) where
   abbrev begun : Tally
@@ -218,7 +218,7 @@ module _ (old : TextReader) (piece item : List ℕ) (blank count : ℕ) (rest be
         none = refl;
       }
 
-  -- a reader behind a blank and a number or a symbol went on as a run over them does
+  -- a reader behind a blank and a number, a symbol or a long string went on as a run over them does
   pub left_side : (moved : Scanner) → scanned moved ≡ resting behind
       → Advances old.catalog.now old.limits (is_some old.awaited) (scanned old.scanner).used (state_of old) piece
       (Ok (record { used = blank + count; value = Some (bare q) })) (Some (get_or item count 0)) (state_of (gone_on old moved old.beside))

@@ -24,6 +24,7 @@ pub mod Keywords
 pub mod Notes
 pub mod Tops
 pub mod TopLeft
+pub mod Shifted
 pub mod Elsewhere
 pub mod Alikes
 pub mod Reordered

@@ -1,7 +1,5 @@
 -- Structs of two readers whose fields are the same in some order.
-use Rattle.std.proofs.Common.{rules, ◌≡◌, ℕ, zero, suc, min, ◌+◌, ◌-◌, ◌<◌, ◌≤◌, Bool, true, false, List, [], ◌∷◌, ◌++◌, length, length-append, take, drop, set, slice_get, get_or, Option, Some, None, Result, Ok, refl, ap, sym, ◌∙◌, subst, arith, append-nil, append_assoc, length-drop, replicate, IfSome}
-use Rattle.std.specs.Option.{is_some}
-use Rattle.std.proofs.lemmas.Cmp.{lists_equiv}
+use Rattle.std.proofs.Common.{rules, ◌≡◌, ℕ, zero, suc, min, ◌+◌, ◌-◌, ◌<◌, ◌≤◌, Bool, true, false, List, [], ◌∷◌, ◌++◌, length, length-append, take, drop, set, slice_get, get_or, Option, Some, None, Result, Ok, refl, ap, sym, ◌∙◌, subst, arith, append-nil, append_assoc, replicate, IfSome}
 use Rattle.std.proofs.lemmas.Grind.{common_steps}
 use Rattle.std.proofs.lemmas.List.{length-take, length-take-le}
 use Rattle.std.proofs.lemmas.Option.{slice_get-get_or}
@@ -10,42 +8,38 @@ use lib.Pointwise.{pointwise}
 use Rattle.ion_model.specs.declared.value.Field.{Field}
 use Rattle.ion_model.specs.declared.value.Payload.{Payload}
 use Rattle.ion_model.specs.declared.value.Payload.TheVariants as payloads
-use Rattle.ion_model.specs.declared.value.Payload.TheViews as views
 use Rattle.ion_model.specs.declared.value.Value.{Value}
-use Rattle.ion_model.specs.laws.Equivalence.{same-equiv, symbol_same-equiv}
-use Rattle.ion_model.specs.laws.Same.{same-payload}
-use Rattle.ion_model.specs.Measures.{Layer, annotated, bare, field_of, nodes}
-use Rattle.ion_model.specs.Same.{same, fields_same, layer_same}
+use Rattle.ion_model.specs.laws.Equivalence.{same-equiv}
+use Rattle.ion_model.specs.Measures.{annotated, bare, field_of}
+use Rattle.ion_model.specs.Same.{same, fields_same}
 use Rattle.ion_model.proofs.Pairing.{ArePaired, paired-none, paired-more, paired-all}
 use Rattle.ion_atoms.specs.declared.refusal.Reason.{Reason}
 use Rattle.ion_scalar.specs.declared.number.Number.{Number}
 use Rattle.ion_symtab.specs.declared.catalog.Catalog.{Catalog}
-use Rattle.ion_tokens.specs.declared.mode.Mode.TheVariants as modes
 use Rattle.ion_tokens.specs.declared.mode.Place.TheVariants as places
 use Rattle.ion_tokens.specs.declared.mode.TokenKind.TheVariants as tokens
-use Rattle.ion_tokens.specs.declared.plain_tokens.Rest.{Rest}
 use Rattle.ion_tokens.specs.Bodies as bodies
 use Rattle.ion_tokens.specs.Bodies.{Number'}
 use Rattle.ion_tokens.specs.machine.Said.{said}
 use Rattle.ion_visiting.specs.declared.bracket.Bracket.{Bracket}
 use Rattle.ion_visiting.specs.declared.bracket.Bracket.TheVariants as brackets
 use Rattle.ion_visiting.specs.Parts.{number_payload}
-use Rattle.ion_text.specs.declared.reader.paired_fields.Content.TheVariants as contents
 use Rattle.ion_text.specs.declared.reader.paired_fields.Slot.{Slot}
 use Rattle.ion_text.specs.declared.reader.walks.Tally.{Tally}
 use Rattle.ion_text.specs.declared.state.Now.TheVariants as nows
 use Rattle.ion_text.specs.machine.EachToken.{at}
 use Rattle.ion_text.specs.machine.Nested.{OpensAt}
-use Rattle.ion_text.specs.machine.Run.{run, with_scan}
+use Rattle.ion_text.specs.machine.Run.{run}
 use Rattle.ion_text.specs.machine.Reordered.{widest, Spells, AreAlike, IsSlot, AreSlots, ArePartners, FoundContent, FoundField, NotedFields, PairedFields, AlikeNotes, ReorderedStructs, ReorderedTops}
-use Rattle.ion_text.specs.machine.Walked.{rested, behind_open, behind_close, Walked, WalkedContainer, WalkedItem, WalkedName, WalkedNote, WalkedNotes}
+use Rattle.ion_text.specs.machine.Walked.{rested, behind_open, behind_close, Walked, WalkedContainer, WalkedName, WalkedNote}
 use Rattle.ion_text.specs.declared.reader.TextReader.{TextReader}
 use Rattle.ion_text.specs.machine.Progress.{BeginsWith, SameSettings, StaysSteady, failed, octets_used}
 use Rattle.ion_text.specs.machine.Views.{IsFine}
 use Rattle.ion_text.proofs.Alikes.{Moves, TakesUp, takes_up}
+use Rattle.ion_model.proofs.Replacing.{structs}
 use Rattle.ion_text.proofs.Elsewhere.{one_value}
 use Rattle.ion_text.proofs.Tops.{container_gives, notes_none, notes_on, walked_bare, walked_top}
-use Rattle.ion_text.proofs.Walking.{FieldsGone, gone_none, name_on, field_value_on, item_bare, walked_container, fields_inside, inside_by}
+use Rattle.ion_text.proofs.Walking.{FieldsGone, name_on, field_value_on, item_bare, walked_container, fields_inside, inside_by}
 
 -- 1. What fields hold.
 
@@ -213,17 +207,6 @@ pair_all slots fs taken h all g ms are long =
     let none : fs ++ [] ≡ fs = append-nil fs in
     paired-all fs ms taken (length fs) (omega arith) (omega arith) (subst (λ xs. ArePaired xs ms taken (length fs)) none (h g ms are long []))
 
--- structs of the same annotations are equivalent where their fields are the same
-structs_same : (a : List (Option (List ℕ))) (fs gs : List Field) → fields_same same fs gs ≡ true
-    → same (annotated a (payloads.Fields fs)) (annotated a (payloads.Fields gs)) ≡ true
-structs_same a fs gs h = by (payloads.Fields fs) (payloads.Fields gs) _ _ (views.outs-Fields fs) (views.outs-Fields gs) h
-  where
-    by : (p q : Payload) (x y : Layer) → views.out-Payload p ≡ x → views.out-Payload q ≡ y → layer_same same x y ≡ true
-        → same (annotated a p) (annotated a q) ≡ true
-    by p q x y e f h =
-        sym (same-payload (annotated a p) (annotated a q) ((lists_equiv symbol_same-equiv).refl a))
-        ∙ (ap (λ l. layer_same same l (views.out-Payload q)) e ∙ (ap (λ l. layer_same same x l) f ∙ h))
-
 -- 4. Fields behind the open of a struct.
 
 module _ (level : ℕ) (octets rest : List ℕ) (at : ℕ) (before now next : Tally) (is : rest ≡ drop at octets) where
@@ -331,7 +314,7 @@ tops_reordered level octets rest a b before mid after other_level beside besides
           ∙ (ap (λ p. same (annotated h.left.notes (payloads.Fields x.fields)) (annotated h.right.notes p)) x.other_is
           ∙ (ap (λ ss. same (annotated ss (payloads.Fields x.fields)) (annotated h.right.notes (payloads.Fields x.other_fields))) h.same
           ∙ (same-equiv.symm (annotated h.right.notes (payloads.Fields x.fields)) (annotated h.right.notes (payloads.Fields x.other_fields))
-          ∙ structs_same h.right.notes x.other_fields x.fields (x.same g))));
+          ∙ structs h.right.notes x.other_fields x.fields (x.same g))));
     }
 
 -- 6. Both readers behind them.

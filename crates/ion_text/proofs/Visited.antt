@@ -57,7 +57,7 @@ module _ {S M : Type 0} (h : Visits S M) where
       subst (λ k. VisitedBare h level octets k before after a b) (sym e)
       (record { walked = w.0; visited = part_visited p r octets s q f w.0.payload a b w.1 t })
 
-  -- a number or a symbol of the top level is visited where the visitor takes its part
+  -- a number, a symbol or a long string of the top level is visited where the visitor takes its part
   pub left_visited : (octets : List ℕ) (count : ℕ) (before after : Rest) (q : Payload) (k : Kind) (a b : S) → FoundLeft octets count before after q → IsFlat q k
       → h.takes a (part q) b → VisitedLeft h octets count before after a b
   left_visited octets count before after q k a b f flat t =

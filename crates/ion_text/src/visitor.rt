@@ -15,6 +15,11 @@ impl TextVisitor for Unheeding {
     ghost visits = { unheeding };
 
     #[inline(always)]
+    fn heeds_nothing(&self) -> bool {
+        true
+    }
+
+    #[inline(always)]
     fn part(&mut self, _said: &Part<'_>) -> bool {
         true
     }

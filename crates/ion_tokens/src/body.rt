@@ -34,8 +34,8 @@ const KINDS: [Kind; 13] = [
     Kind::Fields,
 ];
 
-// The kind that a name behind `null.` names.
-fn kind_named(name: &[u8]) -> Option<Kind>
+/// The kind that a name behind `null.` names.
+pub fn kind_named(name: &[u8]) -> Option<Kind>
     ensures { result ≡ kind_named name.now }
 {
     KINDS

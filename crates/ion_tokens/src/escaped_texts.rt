@@ -1,11 +1,11 @@
-//! Quoted texts with escapes, and typed nulls, that lie whole in memory: what stands between two
-//! escapes is kept at once.
+//! Quoted texts with escapes that lie whole in memory: what stands between two of them is kept at
+//! once.
 ghost use Rattle.std.specs.Prelude.{◌≡◌, ◌<◌, ◌≤◌, [], ◌∷◌, length, slice_index, take, IfSome};
 ghost use Rattle.ion_tokens.specs.Styles.{quote_of};
 ghost use Rattle.ion_tokens.specs.machine.Contents.{LeadsOn, StandsWhole};
 
 use crate::escapes::escape;
-use crate::front::{characters, of_word};
+use crate::front::characters;
 use crate::machine::Machine;
 use crate::mode::{Style, TokenKind};
 use crate::quoted::quote_of;
@@ -57,9 +57,9 @@ pub fn before_quote(style: Style, octets: &[u8], kept: &mut Vec<u8>) -> Option<u
 }
 
 impl Machine {
-    /// The token at the front of octets where the machine rests, if it is a typed null or a quoted
-    /// text whose characters stand as they are or are escapes. `None` also of hidden line ends, of
-    /// a segment of a long string with quotes in it, and where memory runs out.
+    /// The token at the front of octets where the machine rests, if it is a quoted text whose
+    /// characters stand as they are or are escapes. `None` also of hidden line ends, of a segment of
+    /// a long string with quotes in it, and where memory runs out.
     pub fn found_at_once(&mut self, octets: &[u8]) -> Option<FoundToken>
         ensures { IfSome result (λ found. StandsWhole octets.now self.new.ended.items found) }
     {
@@ -67,7 +67,6 @@ impl Machine {
         match octets.split_first() {
             Some((b'"', behind)) => self.escaped_string(behind),
             Some((b'\'', behind)) => self.escaped_symbol(behind),
-            Some((b'n', _)) => self.typed_null(octets),
             _ => None,
         }
     }
@@ -119,20 +118,6 @@ impl Machine {
         let count = before_quote(Style::LongString, behind, &mut self.kept)?;
         behind[count..].strip_prefix(b"'''")?;
         Some(self.whole(TokenKind::LongString, count + 6, false))
-    }
-
-    // The same of a typed null.
-    fn typed_null(&mut self, octets: &[u8]) -> Option<FoundToken>
-        requires { self.old.kept.items ≡ [] }
-        ensures { IfSome result (λ found. StandsWhole octets.now self.new.ended.items found) }
-    {
-        let name = octets.strip_prefix(b"null.")?;
-        let count = of_word(name);
-        if count >= name.len() {
-            return None;
-        }
-        self.kept.extend_from_slice(&name[..count]).ok()?;
-        Some(self.whole(TokenKind::KindName, count + 5, true))
     }
 
     /// What was kept is that of a token.

@@ -1,14 +1,17 @@
 //! Blanks and plain tokens that lie whole in memory, read where a scanner rests. What is cut,
 //! refused or unusual isn't told here: the scanner takes it up octet by octet.
-ghost use Rattle.std.specs.Prelude.{◌≡◌, ◌+◌, ◌-◌, ◌<◌, ◌≤◌, ◌∷◌, ◌^◌, ℕ, List, false, true, length, take, drop, IfSome, IsUtf8};
+ghost use Rattle.std.specs.Prelude.{◌≡◌, ◌+◌, ◌-◌, ◌<◌, ◌≤◌, ◌∷◌, ◌^◌, ℕ, List, Some, false, true, length, take, drop, IfSome, IsUtf8};
+ghost use Rattle.ion_tokens.specs.Bodies.{kind_named};
 ghost use Rattle.ion_tokens.specs.Places.{is_name};
 ghost use Rattle.ion_tokens.specs.machine.Rests.{past_blank, past_token, IsPassed, IsFound};
 ghost use Rattle.ion_tokens.specs.declared.mode.Place.{Place};
 
+use crate::body::kind_named;
 use crate::front::{characters, of_number, of_operator, of_word, white};
 use crate::machine::takes_colon;
 use crate::mode::{Place, Style, TokenKind};
 use crate::octets::{begins_word, is_digit};
+use ion_atoms::Kind;
 
 /// Where a scanner rests: no token is open.
 #[derive(Clone, Copy, Debug, PartialEq, Eq)]
@@ -75,6 +78,31 @@ pub fn word(octets: &[u8]) -> Option<usize>
         return None;
     }
     Some(count)
+}
+
+// The name of the kind behind the `null.` at the front, if the octet behind it shows its end.
+fn null_name(octets: &[u8]) -> Option<&[u8]>
+    ensures { IfSome result (λ name. (place : Place) (rest : Rest) →
+        IsFound place rest octets.now TokenKind.KindName name.now (length name.now + 5) true) }
+{
+    let behind = octets.strip_prefix(b"null.")?;
+    let count = of_word(behind);
+    if count >= behind.len() {
+        return None;
+    }
+    Some(&behind[..count])
+}
+
+/// How many octets the typed null at the front has, if the octet behind it shows its end, and of
+/// which kind it is (Ion 1.0, "Null Values").
+pub fn typed_null(octets: &[u8]) -> Option<(usize, Kind)>
+    ensures { IfSome result (λ null. (name : List ℕ) × (kind_named name ≡ Some null.1)
+        × ((place : Place) (rest : Rest) →
+        IsFound place rest octets.now TokenKind.KindName name null.0 true)) }
+{
+    let name = null_name(octets)?;
+    let kind = kind_named(name)?;
+    Some((name.len() + 5, kind))
 }
 
 /// How many octets the numeric token at the front has, if the octet behind it shows its end; `None`

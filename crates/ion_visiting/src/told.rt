@@ -1,6 +1,7 @@
 //! What is made of a value whose symbols are told by their texts: a visitor takes its parts in
 //! order, and the walk knows nothing of what it does with them.
 ghost use Rattle.std.specs.Prelude.{◌≡◌, true, IfSome, Some};
+ghost use Rattle.ion_model.specs.declared.value.Payload.{Payload};
 ghost use Rattle.ion_visiting.specs.Parts.{number_payload, payload_of};
 ghost use Rattle.ion_visiting.specs.Visits.{Visits, part, annotation, name};
 
@@ -16,6 +17,15 @@ pub trait TextVisitor {
 
     /// From which state to which it gets by what it takes.
     ghost visits: { Visits Self Self.Mark };
+
+    /// Whether it takes each part whatever it says, and stays as it is: parts needn't be read for
+    /// it.
+    fn heeds_nothing(&self) -> bool
+        ensures { result ≡ true →
+            (payload : Payload) → visits.takes self.now (part payload) self.now }
+    {
+        false
+    }
 
     /// A value with no value in it, but no number.
     fn part(&mut self, said: &Part<'_>) -> bool

@@ -16,7 +16,7 @@ ghost use Rattle.ion_text.specs.machine.Views.{state_of, IsFine};
 
 use super::TextReader;
 use super::finders::{begins_number, begins_symbol};
-use super::left_values::{left_at, symbol_left};
+use super::left_values::{left_at, number_left, symbol_left};
 use super::long_strings::begins_long;
 use super::passing::up_to;
 use super::top_values::walk_top;
@@ -144,11 +144,12 @@ fn behind(rest: Rest, top: Top) -> Option<Top>
     })
 }
 
-/// Whether both are the same word or the same quoted symbol.
-fn parts_alike(said: &Part<'_>, other: &Part<'_>) -> bool
+/// Whether both say the same symbol, string, truth value or null.
+pub(super) fn parts_alike(said: &Part<'_>, other: &Part<'_>) -> bool
     ensures { result ≡ true → payload_of said.now ≡ payload_of other.now }
 {
     match (said, other) {
+        (Part::Str(text), Part::Str(same)) => text == same,
         (Part::Symbol(text), Part::Symbol(same)) => text == same,
         (Part::Truth(truth), Part::Truth(same)) => truth == same,
         (Part::Null(kind), Part::Null(same)) => kind == same,
@@ -182,6 +183,30 @@ fn left_alike(
     }
     let left = Top { count, rest: after };
     Some((behind(rest, left)?, behind(other_rest, left)?))
+}
+
+/// The number at both fronts, where it is spelled alike, whatever stands behind it.
+fn numbers_alike(octets: &[u8], rest: Rest, beside: &[u8], other_rest: Rest) -> Option<(Top, Top)>
+    requires room { rest.used + length octets.now < 2 ^ 63 }
+    requires other_room { other_rest.used + length beside.now < 2 ^ 63 }
+    ensures { IfSome result (λ tops. (payload : Payload)
+        × FoundLeft octets.now tops.0.count rest tops.0.rest payload
+        × FoundLeft beside.now tops.1.count other_rest tops.1.rest payload) }
+{
+    let (count, behind, _) = number_left(octets, rest)?;
+    let (other_count, other_behind, _) = number_left(beside, other_rest)?;
+    if octets[..count] != beside[..other_count] {
+        return None;
+    }
+    let top = Top {
+        count,
+        rest: behind,
+    };
+    let other_top = Top {
+        count: other_count,
+        rest: other_behind,
+    };
+    Some((top, other_top))
 }
 
 /// The symbol at both fronts, where it is the same.
@@ -222,8 +247,14 @@ fn lefts_alike(
         × FoundLeft octets.now tops.0.count rest tops.0.rest payload
         × FoundLeft beside.now tops.1.count other_rest tops.1.rest payload) }
 {
-    if begins_number(octets) || begins_long(octets) {
+    if begins_long(octets) {
         return left_alike(alloc, octets, rest, beside, other_rest);
+    }
+    if begins_number(octets) {
+        return match left_alike(alloc, octets, rest, beside, other_rest) {
+            None => numbers_alike(octets, rest, beside, other_rest),
+            tops => tops,
+        };
     }
     if begins_symbol(octets) {
         return symbols_alike(octets, rest, beside, other_rest);

@@ -16,7 +16,7 @@ use crate::words::{is_keyword, may_be_keyword};
 use ion_model::Kind;
 use ion_scalar::{Number, number_of};
 use ion_tokens::{
-    Body, FoundToken, Place, TokenKind, number, operator, quoted_symbol, short_string, word,
+    Body, FoundToken, Place, TokenKind, number, operator, quoted_symbol, short_string, typed_null, word,
 };
 use ion_visiting::Part;
 
@@ -99,6 +99,26 @@ fn quoted_at(octets: &[u8]) -> Option<(Scalar, Part<'_>)>
         scalar,
         Part::Symbol(unsafe { str::from_utf8_unchecked(content) }),
     ))
+}
+
+// The typed null there.
+#[inline(never)]
+fn null_at(octets: &[u8]) -> Option<(Scalar, Part<'_>)>
+    ensures { IfSome result (λ found. (here : Place) (rest : Rest) →
+        FoundSymbol here rest octets.now found.0 (payload_of found.1)) }
+{
+    let (count, kind) = typed_null(octets)?;
+    let token = FoundToken {
+        kind: TokenKind::KindName,
+        count,
+        left: true,
+    };
+    let scalar = Scalar {
+        token,
+        kind,
+        waits: true,
+    };
+    Some((scalar, Part::Null(kind)))
 }
 
 /// The short string there.
@@ -211,14 +231,17 @@ pub(super) fn operator_at(here: Place, octets: &[u8]) -> Option<(Scalar, Part<'_
     ))
 }
 
-/// The word or the quoted symbol there, as a value.
+/// The word, the quoted symbol or the typed null there, as a value.
 pub(super) fn symbol_at(octets: &[u8]) -> Option<(Scalar, Part<'_>)>
     ensures { IfSome result (λ found. (here : Place) (rest : Rest) →
         FoundSymbol here rest octets.now found.0 (payload_of found.1)) }
 {
     match octets.first() {
         Some(b'\'') => quoted_at(octets),
-        _ => word_at(octets),
+        _ => match word_at(octets) {
+            None => null_at(octets),
+            found => found,
+        },
     }
 }
 

@@ -64,9 +64,8 @@ fn long_left(beside: &mut TokenReader, octets: &[u8], rest: Rest) -> Option<(usi
     if let Some((count, behind, _)) = one_segment(Place::Top, rest, octets) {
         return Some((count, behind));
     }
-    let mut text = String::new(beside.alloc());
-    let (count, behind) = join_segments(beside, Place::Top, rest, octets, &mut text)?;
-    Some((count, behind))
+    let mut unread = String::new(beside.alloc());
+    join_segments(beside, Place::Top, rest, octets, false, &mut unread)
 }
 
 /// The number, the symbol or the long string there: how many octets it has, with the blank behind a
@@ -110,7 +109,7 @@ fn tell_joined<T: TextVisitor>(
 {
     let mut tokens = TokenReader::new(alloc);
     let mut text = String::new(alloc);
-    let joined = join_segments(&mut tokens, Place::Top, rest, octets, &mut text);
+    let joined = join_segments(&mut tokens, Place::Top, rest, octets, true, &mut text);
     let Some((count, behind)) = joined else {
         return Some(None);
     };

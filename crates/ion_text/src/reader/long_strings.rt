@@ -1,7 +1,7 @@
 //! Long strings that lie whole in a piece, with all their segments and the octet behind these, which
 //! shows that no other follows. One with a comment between or behind its segments is left to the
 //! octets.
-ghost use Rattle.std.specs.Prelude.{◌≡◌, ℕ, ◌+◌, ◌<◌, ◌≤◌, ◌^◌, List, ◌++◌, [], false, length, string_bytes, IfSome};
+ghost use Rattle.std.specs.Prelude.{◌≡◌, ℕ, ◌+◌, ◌<◌, ◌≤◌, ◌^◌, List, ◌++◌, [], false, true, length, string_bytes, IfSome};
 ghost use Rattle.ion_tokens.specs.declared.mode.Place.{Place};
 ghost use Rattle.ion_tokens.specs.declared.plain_tokens.Rest.{Rest};
 ghost use Rattle.ion_text.specs.declared.state.Now.TheVariants as nows;
@@ -77,41 +77,57 @@ fn plain_segment(octets: &[u8]) -> Option<(usize, &str)>
     Some((size, unsafe { str::from_utf8_unchecked(content) }))
 }
 
-// Joins to a text what the segment there says: how many octets it has.
+// Joins this to a text where that is asked for.
+#[inline(always)]
+fn join(joins: bool, said: &str, text: &mut String) -> Option<()>
+    ensures { IfSome result (λ _. joins ≡ true →
+        string_bytes text.new ≡ string_bytes text.old ++ said.now) }
+{
+    if !joins {
+        return Some(());
+    }
+    text.push_str(said).ok()
+}
+
+// Goes over the segment there, and joins to a text what it says where that is asked for: how many
+// octets it has.
 fn join_segment(
     beside: &mut TokenReader,
     here: Place,
     rest: Rest,
     octets: &[u8],
+    joins: bool,
     text: &mut String,
 ) -> Option<usize>
     requires room { rest.used + length octets.now < 2 ^ 63 }
-    ensures { IfSome result (λ size.
-        JoinedSegment here rest octets.now size (string_bytes text.old) (string_bytes text.new)) }
+    ensures { IfSome result (λ size. (more : List ℕ)
+        × ((old : List ℕ) → JoinedSegment here rest octets.now size old (old ++ more))
+        × (joins ≡ true → string_bytes text.new ≡ string_bytes text.old ++ more)) }
 {
     let Some((size, said)) = plain_segment(octets) else {
         return join_escaped(beside, here, rest, octets, text);
     };
-    if text.push_str(said).is_err() {
-        return None;
-    }
+    join(joins, said, text)?;
     Some(size)
 }
 
-// Joins to a text the segment there, and goes over the blank behind it: how many octets they have,
-// and where a scanner rests behind them.
+// The same of the segment and the blank behind it: how many octets they have, and where a scanner
+// rests behind them.
 fn pass_segment(
     beside: &mut TokenReader,
     here: Place,
     rest: Rest,
     octets: &[u8],
+    joins: bool,
     text: &mut String,
 ) -> Option<(usize, Rest)>
     requires room { rest.used + length octets.now < 2 ^ 63 }
-    ensures { IfSome result (λ passed. PassedSegment here rest octets.now passed.0 passed.1
-        (string_bytes text.old) (string_bytes text.new)) }
+    ensures { IfSome result (λ passed. (more : List ℕ)
+        × ((old : List ℕ) →
+        PassedSegment here rest octets.now passed.0 passed.1 old (old ++ more))
+        × (joins ≡ true → string_bytes text.new ≡ string_bytes text.old ++ more)) }
 {
-    let size = join_segment(beside, here, rest, octets, text)?;
+    let size = join_segment(beside, here, rest, octets, joins, text)?;
     if size > octets.len() {
         return None;
     }
@@ -122,21 +138,24 @@ fn pass_segment(
     Some((size + between, behind))
 }
 
-/// Joins to an empty text the segments of the long string there, where the octet behind them and a
-/// blank shows that they are all: how many octets they have, and where a scanner rests behind them.
+/// Goes over the segments of the long string there, where the octet behind them and a blank shows
+/// that they are all, and joins them to an empty text where that is asked for: how many octets they
+/// have, and where a scanner rests behind them.
 pub(super) fn join_segments(
     beside: &mut TokenReader,
     here: Place,
     rest: Rest,
     octets: &[u8],
+    joins: bool,
     text: &mut String,
 ) -> Option<(usize, Rest)>
     requires room { rest.used + length octets.now < 2 ^ 63 }
     requires none { string_bytes text.old ≡ [] }
-    ensures { IfSome result (λ joined.
-        LongThere here rest octets.now joined.0 joined.1 (string_bytes text.new)) }
+    ensures { IfSome result (λ joined. (said : List ℕ)
+        × LongThere here rest octets.now joined.0 joined.1 said
+        × (joins ≡ true → string_bytes text.new ≡ said)) }
 {
-    let (mut at, mut behind) = pass_segment(beside, here, rest, octets, text)?;
+    let (mut at, mut behind) = pass_segment(beside, here, rest, octets, joins, text)?;
     for _ in 0..octets.len() {
         if at >= octets.len() {
             return None;
@@ -144,7 +163,7 @@ pub(super) fn join_segments(
         if ends_long(octets[at]) {
             return Some((at, behind));
         }
-        let (count, further) = pass_segment(beside, here, behind, &octets[at..], text)?;
+        let (count, further) = pass_segment(beside, here, behind, &octets[at..], joins, text)?;
         at += count;
         behind = further;
     }
@@ -195,7 +214,7 @@ fn walk_text<T: TextVisitor>(
     Some(count)
 }
 
-// Goes over the long string there, whose segments have to be joined.
+// Goes over the long string there of segments that have to be joined, unless nothing is made of it.
 #[inline(never)]
 fn walk_joined<T: TextVisitor>(
     beside: &mut TokenReader,
@@ -210,8 +229,13 @@ fn walk_joined<T: TextVisitor>(
     ensures { IfSome result (λ count. VisitedValue T.visits here level octets.now count
         tally.old tally.new visitor.old visitor.new) }
 {
+    let unread = visitor.heeds_nothing();
     let mut text = String::new(beside.alloc());
-    let (count, behind) = join_segments(beside, here, tally.rest, octets, &mut text)?;
+    let (count, behind) = join_segments(beside, here, tally.rest, octets, !unread, &mut text)?;
+    if unread {
+        tally.pass_long(behind);
+        return Some(count);
+    }
     walk_text(
         here,
         octets,
@@ -259,7 +283,7 @@ impl TextReader<'_> {
         ensures { StridesBy self.old self.new octets.now result }
     {
         let mut text = String::new(self.alloc);
-        let joined = join_segments(&mut self.beside, here, rest, octets, &mut text);
+        let joined = join_segments(&mut self.beside, here, rest, octets, true, &mut text);
         let Some((count, behind)) = joined else {
             return Ok(0);
         };

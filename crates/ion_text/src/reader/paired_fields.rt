@@ -4,8 +4,8 @@ ghost use Rattle.std.specs.Prelude.{◌≡◌, ◌+◌, ◌≤◌, ◌<◌, ◌^
 ghost use Rattle.ion_text.specs.machine.Reordered.{AreAlike, ArePartners, FoundContent, FoundField, NotedFields, PairedFields};
 ghost use Rattle.ion_text.specs.declared.reader.paired_fields.Slot.{Slot};
 ghost use Rattle.ion_text.specs.machine.Walked.{WalkedName};
-ghost use Rattle.ion_visiting.specs.Parts.{payload_of};
 
+use super::alike::parts_alike;
 use super::finders::{
     Scalar, begins_number, begins_symbol, number_at, number_kind, plain_name, string_at, symbol_at,
 };
@@ -22,7 +22,7 @@ pub(super) const MOST_NOTED: usize = 64;
 /// What a field holds.
 #[derive(Clone, Copy)]
 pub(super) enum Content<'a> {
-    /// A symbol, a string, a truth value or a null, which a token says.
+    /// A symbol, a string, a truth value or a null of any kind, which a token says.
     Said(Part<'a>),
     /// A number that these octets spell.
     Number(&'a [u8]),
@@ -45,25 +45,12 @@ impl Slot<'_> {
     };
 }
 
-// Whether two tokens say the same.
-fn says_same(said: &Part<'_>, other: &Part<'_>) -> bool
-    ensures { result ≡ true → payload_of said.now ≡ payload_of other.now }
-{
-    match (said, other) {
-        (Part::Str(text), Part::Str(same)) => text == same,
-        (Part::Symbol(text), Part::Symbol(same)) => text == same,
-        (Part::Truth(truth), Part::Truth(same)) => truth == same,
-        (Part::Null(kind), Part::Null(same)) => kind == same,
-        _ => false,
-    }
-}
-
 // Whether two fields hold the same, spelled alike.
 fn are_alike(content: &Content<'_>, other: &Content<'_>) -> bool
     ensures { result ≡ true → AreAlike content.now other.now }
 {
     match (content, other) {
-        (Content::Said(said), Content::Said(same)) => says_same(said, same),
+        (Content::Said(said), Content::Said(same)) => parts_alike(said, same),
         (Content::Number(octets), Content::Number(same)) => octets == same,
         (Content::Container(octets), Content::Container(same)) => octets == same,
         _ => false,
@@ -103,7 +90,8 @@ fn number_held<'p>(octets: &'p [u8], level: u32, tally: &mut Tally) -> Option<(u
     Some((count, Content::Number(&octets[..token.count])))
 }
 
-// Goes over a symbol, a truth value or a null that a field holds, and the blank behind it.
+// Goes over a symbol, a truth value or a null of any kind that a field holds, and the blank behind
+// it.
 #[inline(always)]
 fn symbol_held<'p>(octets: &'p [u8], level: u32, tally: &mut Tally) -> Option<(usize, Content<'p>)>
     requires low { tally.old.level ≤ level }

@@ -21,7 +21,7 @@ returns-clause-gives c =
           c.in_ok-other_front.ensures c.item-other_octets.ensures level (omega arith) found.2 c.move_to-3.new.self c.move_to-3.ensures.rests,
     )
 
--- a number or a symbol
+-- a number, a symbol or a long string
 pub returns-in-Some-clause-gives : goal.returns-in-Some-clause-gives
 returns-in-Some-clause-gives c =
     let r = c.args.self.now in

@@ -29,7 +29,7 @@ returns-clause-gives g c =
           (omega arith),
     )
 
--- a number or a symbol
+-- a number, a symbol or a long string
 pub returns-in-Some-clause-gives : goal.returns-in-Some-clause-gives
 returns-in-Some-clause-gives g c =
     let old = c.args.self.now in

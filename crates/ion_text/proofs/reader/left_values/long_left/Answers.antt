@@ -1,4 +1,4 @@
-use Rattle.std.proofs.Common.{string_bytes}
+use Rattle.std.proofs.lemmas.Option.{IfSome_then}
 use Rattle.ion_text.proofs.TopLeft.{found_long}
 use Rattle.ion_text.proofs.reader.left_values.long_left.Goals as goal
 
@@ -8,6 +8,7 @@ returns-in-Some c =
     (text, found_long c.args.rest c.args.octets.now c.in-Some.count c.in-Some.behind text c.in-Some.ensures)
 
 pub returns : goal.returns
-returns c =
-    let text = string_bytes c.join_segments.new.text in
-    (text, found_long c.args.rest c.args.octets.now c.in_ok-count.count c.in_ok-count.behind text c.in_ok-count.ensures)
+returns c = IfSome_then c.join_segments.result c.join_segments.ensures (λ left x. (
+  x.0,
+  found_long c.args.rest c.args.octets.now left.0 left.1 x.0 x.1,
+))

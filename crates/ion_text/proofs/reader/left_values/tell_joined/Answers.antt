@@ -1,4 +1,4 @@
-use Rattle.std.proofs.Common.{string_bytes, subst}
+use Rattle.std.proofs.Common.{◌∙◌, refl, string_bytes, subst}
 use Rattle.ion_model.specs.declared.value.Payload.TheVariants as payloads
 use Rattle.ion_visiting.specs.Visits.{part}
 use Rattle.ion_text.proofs.TopLeft.{found_long}
@@ -9,8 +9,9 @@ use Rattle.ion_text.proofs.reader.left_values.tell_joined.Goals as goal
 pub returns-clause-told : goal.returns-clause-told
 returns-clause-told g c =
     let found = c.in-Some in
-    let text = string_bytes c.join_segments-joined.new.text in
+    let joined = found.ensures in
+    let text = joined.0 in
     left_visited g.T.TextVisitor.visits c.args.octets.now found.count c.args.rest found.behind (payloads.Str text) _ _ _
-    (found_long c.args.rest c.args.octets.now found.count found.behind text found.ensures) (flat_text text)
-    (subst (λ w. g.T.TextVisitor.visits.takes c.args.visitor.now (part (payloads.Str w)) c.part.new.self) c.as_str.ensures.value
+    (found_long c.args.rest c.args.octets.now found.count found.behind text joined.1) (flat_text text)
+    (subst (λ w. g.T.TextVisitor.visits.takes c.args.visitor.now (part (payloads.Str w)) c.part.new.self) (c.as_str.ensures.value ∙ joined.2 refl)
     (c.part.ensures c.if-not-part.false))
