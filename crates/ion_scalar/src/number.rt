@@ -1,6 +1,5 @@
 //! Number tokens (Ion 1.0, "Ion Text Encoding" and its grammar, ints, decimals and timestamps).
-ghost use Rattle.std.specs.Prelude.{ℕ, Result, Ok, ◌≡◌, ◌≤◌, ◌^◌, min, IfOk, IfErr, IfSome, IfNone, IsTrue, ◌↔◌};
-ghost use Rattle.ion_scalar.specs.text.Timestamps.{IsShort};
+ghost use Rattle.std.specs.Prelude.{ℕ, Result, Ok, ◌≡◌, ◌≤◌, ◌^◌, min, IfOk, IfErr, IfSome, IfNone};
 ghost use Rattle.ion_atoms.specs.declared.refusal.Reason.TheVariants.{TooLarge};
 ghost use Rattle.ion_atoms.specs.declared.refusal.Reason.{Reason};
 ghost use Rattle.ion_scalar.specs.declared.number.Number.{Number};
@@ -13,10 +12,9 @@ use crate::decimals::{Tail, power, tail_of, whole_of};
 use crate::digits::all_digits;
 use crate::ints::split_sign;
 use crate::short_number::short_number;
-use crate::timestamps::stamp_of;
-use crate::usual_token::{is_usual, usual_timestamp};
-use ion_atoms::bounds::MOST_DIGITS;
-use ion_atoms::{Decimal, Precision, Reason, Timestamp, Whole};
+use crate::timestamps::{is_short, stamp_of};
+use crate::usual_token::{rare_date, rare_time, usual_timestamp};
+use ion_atoms::{Decimal, Reason, Timestamp, Whole};
 
 /// A number, as a token spells it.
 #[derive(Clone, Copy, Debug, PartialEq, Eq)]
@@ -71,11 +69,23 @@ fn dated_answer(token: &[u8]) -> Result<Number, Reason>
 fn rare_timestamp(token: &[u8]) -> Result<Number, Reason>
     ensures { ReadsNumber token.now result }
 {
-    let answer = timestamp_token(token);
-    if answer.is_ok() {
-        return answer;
+    if token.len() > 11 {
+        return timed_answer(token);
     }
-    unusual_answer(token)
+    match rare_date(token) {
+        Some(timestamp) => Ok(Number::Timestamp(timestamp)),
+        None => unusual_answer(token),
+    }
+}
+
+#[inline(never)]
+fn timed_answer(token: &[u8]) -> Result<Number, Reason>
+    ensures { ReadsNumber token.now result }
+{
+    match rare_time(token) {
+        Some(timestamp) => Ok(Number::Timestamp(timestamp)),
+        None => unusual_answer(token),
+    }
 }
 
 // The answer on any token.
@@ -106,23 +116,9 @@ fn timestamp_token(token: &[u8]) -> Result<Number, Reason>
     if !is_short(stamp.precision) {
         return Err(Reason::TooLarge);
     }
-    if is_usual(stamp.local) {
-        let timestamp = Timestamp::of_parts(stamp.local, stamp.precision, stamp.offset);
-        return Ok(Number::Timestamp(timestamp));
-    }
     match Timestamp::new(stamp.local, stamp.precision, stamp.offset) {
         Some(timestamp) => Ok(Number::Timestamp(timestamp)),
         None => Err(Reason::Malformed),
-    }
-}
-
-// At most 38 fraction digits.
-fn is_short(precision: Precision) -> bool
-    ensures { IsTrue result ↔ IsShort precision }
-{
-    match precision {
-        Precision::Fraction(digits) => digits <= MOST_DIGITS,
-        _ => true,
     }
 }
 

@@ -1,11 +1,14 @@
 //! Ints and decimals of few digits, as most numbers in documents are, as whole tokens: their digits
 //! are added up in 64 bits. What is longer or has another form isn't told of here.
-ghost use Rattle.std.specs.Prelude.{◌≡◌, ◌<◌, ◌≤◌, ◌+◌, ◌*◌, ◌^◌, length, false, IfSome, Ok};
+ghost use Rattle.std.specs.Prelude.{◌≡◌, ◌<◌, ◌≤◌, ◌+◌, ◌*◌, ◌^◌, ◌-ℤ◌, pos, length, take, false, IfSome, Ok};
 ghost use Rattle.ion_scalar.specs.declared.number.Number.TheVariants as numbers;
-ghost use Rattle.ion_scalar.specs.text.Decimals.{signed};
+ghost use Rattle.ion_scalar.specs.text.Ints.{IsDigits, IsWholePart, number};
+ghost use Rattle.ion_scalar.specs.text.Decimals.{signed, IsPlain, IsSigned, IsExponent};
 ghost use Rattle.ion_scalar.specs.text.Numbers.{ReadsBehind, ReadsNumeral, Fits, decimal_read};
-ghost use Rattle.ion_scalar.specs.text.laws.ShortNumbers.{PlainRun};
+ghost use Rattle.ion_scalar.specs.text.laws.DigitRuns.{Place};
+ghost use Rattle.ion_scalar.specs.text.laws.ShortNumbers.{PlainRun, IsScaled};
 
+use crate::digits::digit_at;
 use crate::ints::split_sign;
 use crate::number::Number;
 use ion_atoms::{Decimal, Whole};
@@ -13,17 +16,23 @@ use ion_atoms::{Decimal, Whole};
 // So many octets behind a sign have at most 19 digits, whose number 64 bits hold.
 const MOST_OCTETS: usize = 19;
 
+// So many octets have at most 16 hexadecimal digits, whose number 64 bits hold.
+const MOST_HEXADECIMAL: usize = 16;
+
+// So many digits make an exponent that is far from the bounds of one.
+const MOST_EXPONENT: usize = 9;
+
 /// A run of digits without `_`.
 #[derive(Clone, Copy)]
-struct PlainDigits {
+pub struct PlainDigits {
     /// The number of these digits behind others.
-    value: u64,
+    pub value: u64,
     /// How many octets.
-    used: usize,
+    pub used: usize,
 }
 
-/// The int or decimal that a whole token spells, if it is a usual one: no `_`, no exponent, no base
-/// but ten, and at most 19 octets behind the sign.
+/// The int or decimal that a whole token spells, if it is a short one: at most 19 octets behind the
+/// sign, no base two, and `_` in ints alone.
 #[inline(always)]
 pub fn short_number(token: &[u8]) -> Option<Number>
     ensures { IfSome result (λ x. ReadsNumeral token.now (Ok x)) }
@@ -50,19 +59,36 @@ fn short_body(negative: bool, body: &[u8]) -> Option<Number>
         return short_int(negative, whole.value);
     }
     if body[whole.used] != b'.' {
-        return None;
+        return rare_number(negative, body, whole);
     }
     let behind = &body[whole.used + 1..];
     let fraction = plain_digits(behind, whole.value);
     if fraction.used < behind.len() {
-        return None;
+        let end = &behind[fraction.used..];
+        return scaled_decimal(negative, fraction.value, fraction.used, end);
     }
     short_decimal(negative, fraction.value, fraction.used)
 }
 
+// A number that has something else than a point behind its first digits.
+#[inline(never)]
+fn rare_number(negative: bool, body: &[u8], whole: PlainDigits) -> Option<Number>
+    requires run { PlainRun body.now 0 whole.used whole.value }
+    requires whole { IsWholePart (take whole.used body.now) }
+    requires more { whole.used < length body.now }
+    requires few { length body.now ≤ 19 }
+    ensures { IfSome result (λ x. ReadsBehind negative body.now (Ok x)) }
+{
+    match body[whole.used] {
+        b'd' | b'D' => scaled_decimal(negative, whole.value, 0, &body[whole.used..]),
+        b'_' => marked_int(negative, body),
+        _ => short_hexadecimal(negative, body),
+    }
+}
+
 /// The digits at the front, behind others of the number `before`.
 #[inline(always)]
-fn plain_digits(octets: &[u8], before: u64) -> PlainDigits
+pub fn plain_digits(octets: &[u8], before: u64) -> PlainDigits
     requires { (before + 1) * 10 ^ length octets.now ≤ 2 ^ 64 }
     ensures { PlainRun octets.now before result.used result.value }
 {
@@ -100,4 +126,145 @@ fn short_decimal(negative: bool, magnitude: u64, count: usize) -> Option<Number>
         Some(decimal) => Some(Number::Decimal(decimal)),
         None => None,
     }
+}
+
+// The decimal of a coefficient with so many fraction digits, and of the exponent that all of the
+// octets behind them are.
+#[inline(never)]
+fn scaled_decimal(negative: bool, magnitude: u64, count: usize, octets: &[u8]) -> Option<Number>
+    requires { count < 20 }
+    ensures { IfSome result (IsScaled negative magnitude count octets.now) }
+{
+    let Some((below, written)) = short_exponent(octets) else {
+        return None;
+    };
+    let exponent = less_fraction(below, written, count);
+    match Decimal::new(negative, u128::from(magnitude), exponent) {
+        Some(decimal) => Some(Number::Decimal(decimal)),
+        None => None,
+    }
+}
+
+/// A written exponent less the number of fraction digits.
+#[inline(always)]
+fn less_fraction(below: bool, written: u32, count: usize) -> i32
+    requires { (written < 10 ^ 9) × (count < 20) }
+    ensures { result ≡ signed below written -ℤ pos count }
+{
+    let written = written as i32;
+    if below {
+        -written - count as i32
+    } else {
+        written - count as i32
+    }
+}
+
+/// The exponent of a decimal that all of the octets are, of at most nine digits: whether it has a
+/// minus, and its magnitude.
+#[inline(always)]
+fn short_exponent(octets: &[u8]) -> Option<(bool, u32)>
+    ensures { IfSome result (λ r. IsExponent octets.now false r.0 r.1 × (r.1 < 10 ^ 9)) }
+{
+    match octets {
+        [b'd' | b'D', rest @ ..] => short_signed(rest),
+        _ => None,
+    }
+}
+
+/// A sign or none, true for `-`, and the number of the digits behind it.
+#[inline(always)]
+fn short_signed(octets: &[u8]) -> Option<(bool, u32)>
+    ensures { IfSome result (λ r. IsSigned octets.now r.0 r.1 × (r.1 < 10 ^ 9)) }
+{
+    let (below, digits) = exponent_sign(octets);
+    if digits.len() > MOST_EXPONENT {
+        return None;
+    }
+    let written = plain_digits(digits, 0);
+    if written.used == 0 || written.used < digits.len() {
+        return None;
+    }
+    Some((below, written.value as u32))
+}
+
+/// Whether an exponent has a minus, and what stands behind its sign.
+#[inline(always)]
+fn exponent_sign(octets: &[u8]) -> (bool, &[u8])
+    ensures { IsPlain result.1.now → IsSigned octets.now result.0 (number 10 result.1.now) }
+{
+    match octets {
+        [b'-', digits @ ..] => (true, digits),
+        [b'+', digits @ ..] => (false, digits),
+        _ => (false, octets),
+    }
+}
+
+// An int that has `_` between its digits.
+fn marked_int(negative: bool, body: &[u8]) -> Option<Number>
+    requires { length body.now ≤ 19 }
+    ensures { IfSome result (λ x. ReadsBehind negative body.now (Ok x)) }
+{
+    if body.is_empty() || body[0] == b'0' {
+        return None;
+    }
+    match marked_digits(body, 10) {
+        Some(magnitude) => short_int(negative, magnitude),
+        None => None,
+    }
+}
+
+// An int of hexadecimal digits behind `0x`.
+fn short_hexadecimal(negative: bool, body: &[u8]) -> Option<Number>
+    ensures { IfSome result (λ x. ReadsBehind negative body.now (Ok x)) }
+{
+    match body {
+        [b'0', b'x' | b'X', digits @ ..] => match hexadecimal_number(digits) {
+            Some(magnitude) => short_int(negative, magnitude),
+            None => None,
+        },
+        _ => None,
+    }
+}
+
+#[inline(always)]
+fn hexadecimal_number(octets: &[u8]) -> Option<u64>
+    ensures { IfSome result (λ v. IsDigits 16 octets.now × (v ≡ number 16 octets.now)) }
+{
+    if octets.is_empty() || octets.len() > MOST_HEXADECIMAL {
+        return None;
+    }
+    marked_digits(octets, 16)
+}
+
+/// The number of digits with at most one `_` between two of them, if all of the octets are such.
+#[inline(always)]
+fn marked_digits(octets: &[u8], base: u32) -> Option<u64>
+    requires base { (2 ≤ base) × (base ≤ 16) }
+    requires room { base ^ length octets.now ≤ 2 ^ 64 }
+    requires some { 0 < length octets.now }
+    ensures { IfSome result (λ v. IsDigits base octets.now × (v ≡ number base octets.now)) }
+{
+    let mut value = 0u64;
+    let mut used = 0usize;
+    while used < octets.len() {
+        let at = next_place(octets, used);
+        let Some(digit) = digit_at(octets, at, base) else {
+            return None;
+        };
+        value = value * u64::from(base) + u64::from(digit);
+        used = at + 1;
+    }
+    Some(value)
+}
+
+/// Where the next digit stands, behind a `_` or none.
+#[inline(always)]
+fn next_place(octets: &[u8], used: usize) -> usize
+    requires { used < length octets.now }
+    ensures { Place octets.now used result }
+{
+    if used == 0 || octets[used] != b'_' {
+        return used;
+    }
+    used + 1
 }

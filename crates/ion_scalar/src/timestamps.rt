@@ -5,14 +5,19 @@ ghost use Rattle.ion_atoms.specs.TimestampBounds.{farthest_offset, most_digits};
 ghost use Rattle.ion_atoms.specs.Timestamps.{TimestampParts};
 ghost use Rattle.ion_scalar.specs.text.Ints.{number};
 ghost use Rattle.ion_scalar.specs.text.Decimals.{IsPlain};
-ghost use Rattle.ion_scalar.specs.text.Timestamps.{IsAt, IsDigitAt, AreTwoAt, two, AreFourAt, four, BeginsWithMonth, BeginsWithDay, BeginsWithMinute, BeginsWithSecond, IsOffsetToken, offset_read, minute_read, dated, IsYear, IsMonth, IsDay, IsFractionEnd, IsTimestampToken, stamp};
+ghost use Rattle.ion_scalar.specs.text.Timestamps.{IsAt, IsDigitAt, AreTwoAt, two, AreFourAt, four, BeginsWithMonth, BeginsWithDay, BeginsWithMinute, BeginsWithSecond, IsOffsetToken, offset_read, minute_read, dated, IsYear, IsMonth, IsDay, IsFractionEnd, IsTimestampToken, IsShort, stamp};
+ghost use Rattle.ion_scalar.specs.text.laws.TimestampForms.{ShownEnd};
 
 use crate::digits::digits_at;
+use crate::short_number::plain_digits;
 use ion_atoms::bounds::{LAST_HOUR, LAST_MINUTE, MOST_DIGITS};
 use ion_atoms::{Local, Precision};
 
 // So many fraction digits stand for all numbers of them that are too great.
 const TOO_MANY_DIGITS: usize = MOST_DIGITS as usize + 1;
+
+// So many octets have at most 19 digits, whose number 64 bits hold.
+const MOST_SHORT_OCTETS: usize = 19;
 
 /// The parts that a token spells, whether or not there is such a day and time.
 #[derive(Clone, Copy, Debug)]
@@ -261,12 +266,40 @@ fn with_offset(local: Local, precision: Precision, octets: &[u8]) -> Option<Stam
 /// What stands behind the point of a second: digits and an offset.
 #[inline(always)]
 fn with_fraction(local: Local, octets: &[u8]) -> Option<Stamp>
-    ensures some { IfSome result (λ s. (digits rest : List ℕ) × IsFractionEnd octets.now digits rest
-        × (s ≡ record {
-          local = record local { fraction = min (number 10 digits) (2 ^ 127) };
-          precision = precisions.Fraction (min (length digits) (most_digits + 1));
-          offset = offset_read rest;
-        })) }
+    ensures some { IfSome result (ShownEnd local octets.now) }
+    ensures none { IfNone result ((digits rest : List ℕ) → IsFractionEnd octets.now digits rest
+        → ⊥) }
+{
+    match with_short_fraction(local, octets) {
+        Some(stamp) => Some(stamp),
+        None => with_long_fraction(local, octets),
+    }
+}
+
+/// The same of at most 19 octets, whose digits 64 bits hold.
+#[inline(always)]
+fn with_short_fraction(local: Local, octets: &[u8]) -> Option<Stamp>
+    ensures { IfSome result (ShownEnd local octets.now) }
+{
+    if octets.len() > MOST_SHORT_OCTETS {
+        return None;
+    }
+    let digits = plain_digits(octets, 0);
+    if digits.used == 0 {
+        return None;
+    }
+    let local = Local {
+        fraction: u128::from(digits.value),
+        ..local
+    };
+    let precision = Precision::Fraction(digits.used as u8);
+    with_offset(local, precision, &octets[digits.used..])
+}
+
+/// The same of however many octets.
+#[inline(never)]
+fn with_long_fraction(local: Local, octets: &[u8]) -> Option<Stamp>
+    ensures some { IfSome result (ShownEnd local octets.now) }
     ensures none { IfNone result ((digits rest : List ℕ) → IsFractionEnd octets.now digits rest
         → ⊥) }
 {
@@ -282,8 +315,9 @@ fn with_fraction(local: Local, octets: &[u8]) -> Option<Stamp>
     with_offset(local, precision, &octets[digits.used..])
 }
 
+/// What a whole token spells that begins with a minute and has more behind it.
 #[inline(always)]
-fn time_token(token: &[u8]) -> Option<Stamp>
+pub fn time_token(token: &[u8]) -> Option<Stamp>
     ensures some { IfSome result (λ s. (t : TimestampParts) × IsTimestampToken token.now t
         × (s ≡ stamp t)) }
     ensures none { IfNone result (BeginsWithMinute token.now → (t : TimestampParts)
@@ -305,9 +339,10 @@ fn time_token(token: &[u8]) -> Option<Stamp>
     with_fraction(local, &token[20..])
 }
 
-/// The parts that a whole token spells, if it has a form of a timestamp.
+/// What a whole token of at most 11 octets spells: a year, a month or a day.
 #[inline(always)]
-pub fn stamp_of(token: &[u8]) -> Option<Stamp>
+pub fn date_token(token: &[u8]) -> Option<Stamp>
+    requires { length token.now ≤ 11 }
     ensures some { IfSome result (λ s. (t : TimestampParts) × IsTimestampToken token.now t
         × (s ≡ stamp t)) }
     ensures none { IfNone result ((t : TimestampParts) → IsTimestampToken token.now t → ⊥) }
@@ -316,6 +351,31 @@ pub fn stamp_of(token: &[u8]) -> Option<Stamp>
         5 => year_token(token),
         8 => month_token(token),
         10 | 11 => day_token(token),
-        _ => time_token(token),
+        _ => None,
+    }
+}
+
+/// The parts that a whole token spells, if it has a form of a timestamp.
+#[inline(always)]
+pub fn stamp_of(token: &[u8]) -> Option<Stamp>
+    ensures some { IfSome result (λ s. (t : TimestampParts) × IsTimestampToken token.now t
+        × (s ≡ stamp t)) }
+    ensures none { IfNone result ((t : TimestampParts) → IsTimestampToken token.now t → ⊥) }
+{
+    if token.len() <= 11 {
+        date_token(token)
+    } else {
+        time_token(token)
+    }
+}
+
+/// At most 38 fraction digits.
+#[inline(always)]
+pub fn is_short(precision: Precision) -> bool
+    ensures { IsTrue result ↔ IsShort precision }
+{
+    match precision {
+        Precision::Fraction(digits) => digits <= MOST_DIGITS,
+        _ => true,
     }
 }

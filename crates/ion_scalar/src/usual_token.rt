@@ -1,13 +1,14 @@
-//! Timestamps of the two forms that most have, as whole tokens: `YYYY-MM-DD` and
-//! `YYYY-MM-DDThh:mm:ssZ`. What has another form, or isn't there, isn't told of here.
-ghost use Rattle.std.specs.Prelude.{◌≡◌, ◌≤◌, ◌<◌, length, IsTrue, ◌↔◌, IfSome};
+//! Timestamps as whole tokens: those of the two forms that most have, `YYYY-MM-DD` and
+//! `YYYY-MM-DDThh:mm:ssZ`, and those of any form in the years 2 to 9998, where no offset leads out
+//! of the years 1 to 9999. What has another form, or isn't there, isn't told of here.
+ghost use Rattle.std.specs.Prelude.{ℕ, List, ◌≡◌, ◌≤◌, ◌<◌, length, IsTrue, ◌↔◌, IfSome};
 ghost use Rattle.ion_atoms.specs.declared.calendar.Date.{Date};
 ghost use Rattle.ion_atoms.specs.TimestampBounds.{last_year};
 ghost use Rattle.ion_atoms.specs.Calendar.{IsDate};
-ghost use Rattle.ion_atoms.specs.Timestamps.{IsTimestamp, IsTime, local_date};
-ghost use Rattle.ion_scalar.specs.text.Timestamps.{IsTimestampToken};
+ghost use Rattle.ion_atoms.specs.Timestamps.{TimestampParts, IsTimestamp, IsTime, local_date};
+ghost use Rattle.ion_scalar.specs.text.Timestamps.{IsTimestampToken, IsShort, stamp};
 
-use crate::timestamps::{day_front, minute_front, two_at};
+use crate::timestamps::{Stamp, date_token, day_front, is_short, minute_front, time_token, two_at};
 use ion_atoms::bounds::{LAST_HOUR, LAST_MINUTE, LAST_MONTH, LAST_SECOND, LAST_YEAR};
 use ion_atoms::calendar::has_day;
 use ion_atoms::{Local, Precision, Timestamp};
@@ -68,10 +69,50 @@ fn usual_second(token: &[u8]) -> Option<Timestamp>
     Some(Timestamp::of_parts(local, Precision::Second, Some(0)))
 }
 
+/// The timestamp of a year, a month or a day that a whole token of at most 11 octets spells.
+#[inline(always)]
+pub fn rare_date(token: &[u8]) -> Option<Timestamp>
+    requires { length token.now ≤ 11 }
+    ensures { IfSome result (λ t. IsTimestampToken token.now t × IsTimestamp t) }
+{
+    match date_token(token) {
+        Some(spelled) => usual_parts(spelled),
+        None => None,
+    }
+}
+
+/// The timestamp with a time that a whole token spells.
+#[inline(always)]
+pub fn rare_time(token: &[u8]) -> Option<Timestamp>
+    ensures { IfSome result (λ t. IsTimestampToken token.now t × IsTimestamp t) }
+{
+    match time_token(token) {
+        Some(spelled) => usual_parts(spelled),
+        None => None,
+    }
+}
+
+/// The timestamp of the parts that a token spells.
+#[inline(always)]
+fn usual_parts(spelled: Stamp) -> Option<Timestamp>
+    requires { (os : List ℕ) × (t : TimestampParts) × IsTimestampToken os t × (spelled ≡ stamp t) }
+    ensures { let parts : TimestampParts = record {
+          local = spelled.local;
+          precision = spelled.precision;
+          offset = spelled.offset;
+        } in
+        IfSome result (λ t. IsShort spelled.precision × IsTimestamp parts × (t ≡ parts)) }
+{
+    if !is_short(spelled.precision) || !is_usual(spelled.local) {
+        return None;
+    }
+    Some(Timestamp::of_parts(spelled.local, spelled.precision, spelled.offset))
+}
+
 /// Whether there is such a day and time, in a year that no offset leads out of the years 1 to 9999
 /// from.
 #[inline(always)]
-pub fn is_usual(local: Local) -> bool
+fn is_usual(local: Local) -> bool
     ensures day { IsTrue result → IsDate (local_date local) }
     ensures time { IsTrue result → IsTime local }
     ensures years { IsTrue result → (2 ≤ local.year) × (local.year < last_year) }

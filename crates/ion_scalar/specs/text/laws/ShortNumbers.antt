@@ -4,29 +4,32 @@ use Rattle.std.specs.Char.{digit_value}
 use Rattle.std.proofs.lemmas.Str.{digit_value_digit}
 use Rattle.std.proofs.lemmas.Bool.{cases_lt}
 use Rattle.std.proofs.Math.Nat.{pow-suc, one-le-pow, pow-le-pow_right, mul-le-mul_left, mul-le-mul_right}
-use Rattle.std.proofs.lemmas.List.{take_all, take-append-drop, drop_more, drop_all, length-drop}
+use Rattle.std.proofs.lemmas.List.{take_all, take-append-drop, append-nil, drop_more, drop_all, length-drop}
 use Rattle.ion_scalar.specs.declared.number.Number.{Number}
 use Rattle.ion_scalar.specs.declared.number.Number.TheVariants as numbers
+use Rattle.ion_scalar.specs.Positional.{positional_push}
+use Rattle.ion_scalar.specs.binary.Fields.{positional}
 use Rattle.ion_scalar.specs.text.Ints.{IsDigits, digits_in, number, continued, IsWholePart, BeginsWithMinus, minus}
-use Rattle.ion_scalar.specs.text.Decimals.{signed, IsTail, IsDecimalBody}
+use Rattle.ion_scalar.specs.text.Decimals.{signed, IsPlain, IsEnd, IsExponent, IsTail, IsDecimalBody}
 use Rattle.ion_scalar.specs.text.Numbers.{IsBehind, Fits, ReadsBehind, ReadsNumeral, decimal_read}
-use Rattle.ion_scalar.specs.text.laws.DigitRuns.{run_step, continued_more}
+use Rattle.ion_scalar.specs.text.laws.DigitRuns.{Place, run_step, continued_more}
 use Rattle.ion_scalar.specs.text.laws.DecimalTails.{fraction_is}
 use Rattle.ion_scalar.specs.text.laws.DecimalCuts.{continued_number}
 use Rattle.ion_scalar.specs.text.laws.Unsigned.{continued_none, token_answer}
 
 -- with a digit more, a number leaves room for one digit fewer
-pub room_more : (v d left most : ℕ) → d < 10 → (v + 1) * 10 ^ (left + 1) ≤ most → (v * 10 + d + 1) * 10 ^ left ≤ most
-room_more v d left most small room =
-    let more : (v * 10 + d + 1) * 10 ^ left ≤ (v + 1) * 10 * 10 ^ left = mul-le-mul_right (10 ^ left) (omega arith) in
-    let power : 10 ^ (left + 1) ≡ 10 ^ left * 10 = ap (λ n. 10 ^ n) (omega arith) ∙ pow-suc 10 left in
-    let moved : (v + 1) * 10 ^ (left + 1) ≡ (v + 1) * 10 * 10 ^ left = ap (λ n. (v + 1) * n) power ∙ omega arith in
+pub room_more : (base v d left most : ℕ) → d < base → (v + 1) * base ^ (left + 1) ≤ most → (v * base + d + 1) * base ^ left ≤ most
+room_more base v d left most small room =
+    let step : v * base + d + 1 ≤ (v + 1) * base = omega arith in
+    let more : (v * base + d + 1) * base ^ left ≤ (v + 1) * base * base ^ left = mul-le-mul_right (base ^ left) step in
+    let power : base ^ (left + 1) ≡ base ^ left * base = ap (λ n. base ^ n) (omega arith) ∙ pow-suc base left in
+    let moved : (v + 1) * base ^ (left + 1) ≡ (v + 1) * base * base ^ left = ap (λ n. (v + 1) * n) power ∙ omega arith in
     omega arith
 
 -- a number that leaves room for digits is itself below the bound
-pub below_room : (v left most : ℕ) → (v + 1) * 10 ^ left ≤ most → v < most
-below_room v left most room =
-    let one : (v + 1) * 1 ≤ (v + 1) * 10 ^ left = mul-le-mul_left (v + 1) (one-le-pow left 10 (omega arith)) in
+pub below_room : (base v left most : ℕ) → 0 < base → (v + 1) * base ^ left ≤ most → v < most
+below_room base v left most some room =
+    let one : (v + 1) * 1 ≤ (v + 1) * base ^ left = mul-le-mul_left (v + 1) (one-le-pow left base some) in
     omega arith
 
 -- a run of digits without `_` at the front of octets, their number behind another, and the room that it leaves
@@ -50,7 +53,7 @@ plain_more os before used value h low high run =
       digits = λ _. s.0;
       many = omega (arith, ap length s.1, length-append (digits_in (take used os)) (digit_value c ∷ []), run.many);
       counts = omega (arith, run.counts, is, continued_more 10 before (digit_value c) (take used os) (take (used + 1) os) s.1);
-      room = room_more value (c - 48) (length os - (used + 1)) _ (omega arith) (rw left at run.room);
+      room = room_more 10 value (c - 48) (length os - (used + 1)) _ (omega arith) (rw left at run.room);
     }
 
 -- octets that 64 bits have room for leave it behind a run and one octet more
@@ -64,6 +67,37 @@ room_behind os used value few more run =
     let room = run.room in
     omega arith
 
+-- a run of digits with `_` or none between them at the front of octets, their number, and the room that it leaves
+pub record MarkedRun (base : ℕ) (os : List ℕ) (used value : ℕ) : Type 0 where
+  pub within : used ≤ length os
+  pub digits : 0 < used → IsDigits base (take used os)
+  pub counts : value ≡ number base (take used os)
+  pub room : (value + 1) * base ^ (length os - used) ≤ base ^ length os
+
+-- a digit more, behind a `_` or none
+pub marked_more : (base : ℕ) (os : List ℕ) (used at value : ℕ) → 2 ≤ base → base ≤ 16 → Place os used at → at < length os → digit_value (get_or os at 0) < base
+    → MarkedRun base os used value → MarkedRun base os (at + 1) (value * base + digit_value (get_or os at 0))
+marked_more base os used at value some few place h small run =
+    let d = digit_value (get_or os at 0) in
+    let s = run_step base used at os few place run.digits h small in
+    let from : used ≤ at = elim place [ inl here ↦ omega (arith, here.0) | inr marked ↦ omega (arith, marked.0) ] in
+    let fewer : base ^ (length os - at) ≤ base ^ (length os - used) = pow-le-pow_right (omega arith) (omega arith) in
+    let room : (value + 1) * base ^ (length os - at) ≤ base ^ length os = omega (arith, mul-le-mul_left (value + 1) fewer, run.room) in
+    let left : length os - at ≡ length os - (at + 1) + 1 = omega arith in
+    record {
+      within = omega arith;
+      digits = λ _. s.0;
+      counts = ap (λ n. n * base + d) run.counts ∙ sym (ap (positional base) s.1 ∙ positional_push base (digits_in (take used os)) d);
+      room = room_more base value d (length os - (at + 1)) _ small (rw left at room);
+    }
+
+-- a run that is all of the octets
+pub marked_end : (base : ℕ) (os : List ℕ) (used value : ℕ) → MarkedRun base os used value → length os ≤ used → 0 < length os → IsDigits base os
+    × (value ≡ number base os)
+marked_end base os used value run all some =
+    let P : List ℕ → Type 0 = λ x. IsDigits base x × (value ≡ number base x) in
+    subst P (take_all used os all) (run.digits (omega arith), run.counts)
+
 -- a whole part that is all of the octets is an int
 pub short_int : (negative : Bool) (body : List ℕ) (used value : ℕ) (r : Option Number) → PlainRun body 0 used value → used ≡ length body
     → IsWholePart (take used body)
@@ -75,27 +109,28 @@ short_int negative body used value (Some x) run all whole h =
     let P : Number → Type 0 = IsBehind negative body in
     (subst P (sym h.0) (value, inl (subst IsWholePart same whole, counts), refl), h.1)
 
--- a whole part, a point and digits or none are a decimal
-decimal_body : (body : List ℕ) (used value count all : ℕ) → PlainRun body 0 used value → IsWholePart (take used body) → used < length body
-    → get_or body used 0 ≡ 46 → PlainRun (drop (used + 1) body) value count all → length (drop (used + 1) body) ≤ count
-    → IsDecimalBody false body all (pos 0 -ℤ pos count)
-decimal_body body used value count all run whole more point behind end =
+-- a whole part, a point, digits or none, and an exponent or none are a decimal
+decimal_body : (body : List ℕ) (used value count all : ℕ) (below : Bool) (written : ℕ) → PlainRun body 0 used value → IsWholePart (take used body)
+    → used < length body
+    → get_or body used 0 ≡ 46 → PlainRun (drop (used + 1) body) value count all → IsEnd (drop count (drop (used + 1) body)) false below written
+    → IsDecimalBody false body all (signed below written -ℤ pos count)
+decimal_body body used value count all below written run whole more point behind end =
     let w = take used body in
     let rest = drop (used + 1) body in
     let counts : value ≡ number 10 w = run.counts ∙ continued_none 10 w in
     let tail : 46 ∷ rest ≡ drop used body = sym (drop_more body used 0 more ∙ ap (λ c. c ∷ rest) point) in
-    let fraction = fraction_is rest count false false 0 behind.digits (inl (drop_all count rest end, refl, refl, refl)) in
+    let fraction = fraction_is rest count false below written behind.digits end in
     record {
       whole = w;
       tail = drop used body;
       fraction = take count rest;
-      below = false;
-      written = 0;
+      below = below;
+      written = written;
       octets = sym (take-append-drop used body);
       is_whole = whole;
-      is_tail = let T : List ℕ → Type 0 = λ x. IsTail x (take count rest) false false 0 in subst T tail (inl (refl, fraction));
+      is_tail = let T : List ℕ → Type 0 = λ x. IsTail x (take count rest) false below written in subst T tail (inl (refl, fraction));
       digits = behind.counts ∙ (ap (λ n. continued 10 n (take count rest)) counts ∙ continued_number w (take count rest));
-      power = ap (λ n. pos 0 -ℤ pos n) (sym behind.many);
+      power = ap (λ n. signed below written -ℤ pos n) (sym behind.many);
     }
 
 pub short_decimal : (negative : Bool) (body : List ℕ) (used value count all : ℕ) (r : Option Number) → PlainRun body 0 used value → IsWholePart (take used body)
@@ -104,7 +139,62 @@ pub short_decimal : (negative : Bool) (body : List ℕ) (used value count all : 
 short_decimal negative body used value count all None run whole more point behind end h = tt
 short_decimal negative body used value count all (Some x) run whole more point behind end h =
     let P : Number → Type 0 = IsBehind negative body in
-    (subst P (sym h.0) (refl, decimal_body body used value count all run whole more point behind end), h.1)
+    let none = inl (drop_all count (drop (used + 1) body) end, refl, refl, refl) in
+    (subst P (sym h.0) (refl, decimal_body body used value count all false 0 run whole more point behind none), h.1)
+
+-- a decimal of a coefficient, and of the exponent that these octets are
+abbrev pub IsScaled : Bool → ℕ → ℕ → List ℕ → Number → Type 0
+IsScaled negative magnitude count os x = (below : Bool) × (n : ℕ) × IsExponent os false below n × (x ≡ decimal_read negative magnitude below n count) × Fits x
+
+-- a run of digits without `_` that is all of the octets
+pub plain_end : (os : List ℕ) (used value : ℕ) → PlainRun os 0 used value → length os ≤ used → 0 < length os → IsPlain os × (value ≡ number 10 os)
+plain_end os used value run all some =
+    let whole : take used os ≡ os = take_all used os all in
+    let same : used ≡ length os = omega (arith, run.within) in
+    let P : List ℕ → Type 0 = λ x. IsDigits 10 x × (length (digits_in x) ≡ length os) in
+    (subst P whole (run.digits (omega arith), run.many ∙ same), run.counts ∙ (continued_none 10 (take used os) ∙ ap (number 10) whole))
+
+-- nine digits make a number below 10^9
+pub nine_digits : (os : List ℕ) (used value : ℕ) → PlainRun os 0 used value → length os ≤ used → length os ≤ 9 → value < 10 ^ 9
+nine_digits os used value run all few =
+    let left : length os - used ≡ 0 = omega arith in
+    let room : (value + 1) * 10 ^ 0 ≤ (0 + 1) * 10 ^ length os = rw left at run.room in
+    let most : 10 ^ length os ≤ 10 ^ 9 = pow-le-pow_right (omega arith) few in
+    omega arith
+
+-- behind a whole part, a point and digits or none, an exponent makes a decimal
+pub scaled_decimal : (negative : Bool) (body : List ℕ) (used value count all : ℕ) (r : Option Number) → PlainRun body 0 used value → IsWholePart (take used body)
+    → used < length body → get_or body used 0 ≡ 46 → PlainRun (drop (used + 1) body) value count all
+    → IfSome r (IsScaled negative all count (drop count (drop (used + 1) body))) → IfSome r (λ x. ReadsBehind negative body (Ok x))
+scaled_decimal negative body used value count all None run whole more point behind h = tt
+scaled_decimal negative body used value count all (Some x) run whole more point behind h =
+    let P : Number → Type 0 = IsBehind negative body in
+    (subst P (sym h.3) (refl, decimal_body body used value count all h.0 h.1 run whole more point behind (inr h.2)), h.4)
+
+exponent_tail : (os : List ℕ) (below : Bool) (n : ℕ) → IsExponent os false below n → IsTail os [] false below n
+exponent_tail [] below n h = h
+exponent_tail (c ∷ os) below n h = inr (refl, h)
+
+-- so does one behind a whole part alone
+pub scaled_whole : (negative : Bool) (body : List ℕ) (used value : ℕ) (r : Option Number) → PlainRun body 0 used value → IsWholePart (take used body)
+    → IfSome r (IsScaled negative value 0 (drop used body)) → IfSome r (λ x. ReadsBehind negative body (Ok x))
+scaled_whole negative body used value None run whole h = tt
+scaled_whole negative body used value (Some x) run whole h =
+    let w = take used body in
+    let P : Number → Type 0 = IsBehind negative body in
+    let is : IsDecimalBody false body value (signed h.0 h.1 -ℤ pos 0) = record {
+      whole = w;
+      tail = drop used body;
+      fraction = [];
+      below = h.0;
+      written = h.1;
+      octets = sym (take-append-drop used body);
+      is_whole = whole;
+      is_tail = exponent_tail (drop used body) h.0 h.1 h.2;
+      digits = run.counts ∙ (continued_none 10 w ∙ ap (number 10) (sym (append-nil w)));
+      power = refl;
+    } in
+    (subst P (sym h.3) (refl, is), h.4)
 
 -- from what stands behind the sign to the token
 pub short_token : (negative : Bool) (token body : List ℕ) (r : Option Number) → BeginsWithMinus negative token → token ≡ minus negative ++ body

@@ -1,8 +1,9 @@
 -- Timestamps of usual forms, read from their tokens.
-use Rattle.std.proofs.Common.{◌≡◌, ℕ, ◌+◌, ◌<◌, ◌≤◌, ◌==◌, if◌then◌else◌, true, false, inl, inr, List, [], ◌∷◌, length, drop, get_or, ℤ, pos, neg_ℤ, ◌-ℤ◌, refl, sym, ap, subst, ◌∙◌, arith, Option, Some, None, IfSome}
+use Rattle.std.proofs.Common.{◌≡◌, ℕ, ◌+◌, ◌<◌, ◌≤◌, ◌-◌, ◌*◌, ◌^◌, ◌==◌, if◌then◌else◌, true, false, inl, inr, List, [], ◌∷◌, length, take, drop, min, get_or, ℤ, pos, neg_ℤ, ◌-ℤ◌, refl, sym, ap, subst, ◌∙◌, arith, Option, Some, None, IfSome, SomeIff}
 use Rattle.std.proofs.lemmas.Bool.{eq-eqb, ne_eqb}
 use Rattle.std.proofs.lemmas.List.{drop_more, drop_all}
 use Rattle.std.proofs.lemmas.Int.{ints}
+use Rattle.std.proofs.Math.Nat.{pow-le-pow_right}
 use Rattle.ion_atoms.specs.Calendar.{IsDate, IsMinute, InYears, minute_number}
 use Rattle.ion_atoms.specs.TimestampBounds.{last_year, farthest_offset}
 use Rattle.ion_atoms.specs.declared.timestamp.Local.{Local}
@@ -11,8 +12,9 @@ use Rattle.ion_atoms.specs.declared.timestamp.Precision.TheVariants as precision
 use Rattle.ion_atoms.specs.laws.Calendar.{minute-in_years}
 use Rattle.ion_atoms.specs.Timestamps.{TimestampParts, IsTimestamp, IsTime, IsCut, IsOffset, HasOffset, minutes_ahead, precision_rank, local_date, local_minute}
 use Rattle.ion_scalar.specs.text.Timestamps.{AreTwoAt, two, four, BeginsWithDay, BeginsWithMinute, IsOffsetToken, offset_read, minute_read, dated, timed, IsTimestampToken, offset_minutes, year, month, day, minute, second, fraction, IsShort, stamp}
-use Rattle.ion_scalar.specs.text.Ints.{IsDigits}
-use Rattle.ion_scalar.specs.text.laws.TimestampForms.{number_small, short_parts}
+use Rattle.ion_scalar.specs.text.Ints.{IsDigits, continued}
+use Rattle.ion_scalar.specs.text.laws.TimestampForms.{ShownEnd, end_some, number_small, short_parts, made}
+use Rattle.ion_scalar.specs.text.laws.ShortNumbers.{PlainRun, below_room}
 use Rattle.ion_scalar.specs.declared.timestamps.Stamp.{Stamp}
 use Rattle.ion_scalar.specs.binary.laws.Shifted.{moved_stays, moved_out}
 
@@ -134,3 +136,21 @@ usual_there os t s is e short date time years =
     let P : TimestampParts → Type 0 = λ x. IsDate (local_date x.local) × IsTime x.local × (2 ≤ x.local.year) × (x.local.year < last_year) in
     let p = subst P (sym k.1) (date, time, years.0, years.1) in
     subst IsTimestamp k.1 (spelled_there os t is k.0 p.0 p.1 p.2 p.3)
+
+-- what is read of a token, where it is a timestamp, is what the token spells
+pub usual_spelled : (os : List ℕ) (t : TimestampParts) (s : Stamp) (r : Option TimestampParts) → IsTimestampToken os t → s ≡ stamp t
+    → IfSome r (λ x. IsShort s.precision × IsTimestamp (record { local = s.local; precision = s.precision; offset = s.offset })
+    × (x ≡ record { local = s.local; precision = s.precision; offset = s.offset }))
+    → IfSome r (λ x. IsTimestampToken os x × IsTimestamp x)
+usual_spelled os t s None is e h = tt
+usual_spelled os t s (Some x) is e h = made os t x (record { local = s.local; precision = s.precision; offset = s.offset }) is (short_parts os t s is e h.0).1 (h.1, h.2)
+
+-- digits of at most 19 octets, and the offset behind them, are read as a fraction's end
+pub short_end : (os : List ℕ) (l : Local) (used value : ℕ) (r : Option Stamp) → PlainRun os 0 used value → 0 < used → length os ≤ 19
+    → SomeIff r (IsOffsetToken (drop used os))
+    (record { local = record l { fraction = value }; precision = precisions.Fraction used; offset = offset_read (drop used os) }) → IfSome r (ShownEnd l os)
+short_end os l used value r run some few h =
+    let all : 10 ^ length os ≤ 10 ^ 19 = pow-le-pow_right (omega arith) few in
+    let small : value < (0 + 1) * 10 ^ length os = below_room 10 value (length os - used) _ (omega arith) run.room in
+    let capped : value ≡ min (continued 10 0 (take used os)) (2 ^ 127) = omega (arith, run.counts) in
+    end_some os l used used value used r (run.digits some) run.within (sym run.many) refl capped (omega (arith, run.within)) h

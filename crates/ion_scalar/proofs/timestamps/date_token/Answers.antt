@@ -1,6 +1,6 @@
 use Rattle.ion_scalar.specs.text.Timestamps.{year, month, day}
 use Rattle.ion_scalar.specs.text.laws.TimestampForms.{shown_where}
-use Rattle.ion_scalar.proofs.timestamps.stamp_of.Goals as goal
+use Rattle.ion_scalar.proofs.timestamps.date_token.Goals as goal
 
 pub returns-in-5-clause-some : goal.returns-in-5-clause-some
 returns-in-5-clause-some c = shown_where c.args.token.now _ c.year_token.result _ c.year_token.ensures year
