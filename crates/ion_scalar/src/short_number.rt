@@ -6,7 +6,7 @@ ghost use Rattle.ion_scalar.specs.text.Ints.{IsDigits, IsWholePart, number};
 ghost use Rattle.ion_scalar.specs.text.Decimals.{signed, IsPlain, IsSigned, IsExponent};
 ghost use Rattle.ion_scalar.specs.text.Numbers.{ReadsBehind, ReadsNumeral, Fits, decimal_read};
 ghost use Rattle.ion_scalar.specs.text.laws.DigitRuns.{Place};
-ghost use Rattle.ion_scalar.specs.text.laws.ShortNumbers.{PlainRun, IsScaled};
+ghost use Rattle.ion_scalar.specs.text.laws.ShortNumbers.{PlainRun, MarkedRun, IsScaled};
 
 use crate::digits::digit_at;
 use crate::ints::split_sign;
@@ -31,8 +31,8 @@ pub struct PlainDigits {
     pub used: usize,
 }
 
-/// The int or decimal that a whole token spells, if it is a short one: at most 19 octets behind the
-/// sign, no base two, and `_` in ints alone.
+/// The int or decimal that a whole token spells, if it is a usual one: no `_`, no exponent, no base
+/// but ten, and at most 19 octets behind the sign.
 #[inline(always)]
 pub fn short_number(token: &[u8]) -> Option<Number>
     ensures { IfSome result (λ x. ReadsNumeral token.now (Ok x)) }
@@ -45,6 +45,30 @@ pub fn short_number(token: &[u8]) -> Option<Number>
 fn short_body(negative: bool, body: &[u8]) -> Option<Number>
     ensures { IfSome result (λ x. ReadsBehind negative body.now (Ok x)) }
 {
+    let Some(whole) = short_whole(body) else {
+        return None;
+    };
+    if whole.used == body.len() {
+        return short_int(negative, whole.value);
+    }
+    if body[whole.used] != b'.' {
+        return None;
+    }
+    let behind = &body[whole.used + 1..];
+    let fraction = plain_digits(behind, whole.value);
+    if fraction.used < behind.len() {
+        return None;
+    }
+    short_decimal(negative, fraction.value, fraction.used)
+}
+
+/// The digits at the front of at most 19 octets, if they are a whole part.
+#[inline(always)]
+fn short_whole(body: &[u8]) -> Option<PlainDigits>
+    ensures run { IfSome result (λ d. PlainRun body.now 0 d.used d.value) }
+    ensures whole { IfSome result (λ d. IsWholePart (take d.used body.now)) }
+    ensures few { IfSome result (λ _. length body.now ≤ 19) }
+{
     if body.len() > MOST_OCTETS {
         return None;
     }
@@ -55,33 +79,38 @@ fn short_body(negative: bool, body: &[u8]) -> Option<Number>
     if whole.used > 1 && body[0] == b'0' {
         return None;
     }
-    if whole.used == body.len() {
-        return short_int(negative, whole.value);
-    }
-    if body[whole.used] != b'.' {
-        return rare_number(negative, body, whole);
-    }
-    let behind = &body[whole.used + 1..];
-    let fraction = plain_digits(behind, whole.value);
-    if fraction.used < behind.len() {
-        let end = &behind[fraction.used..];
-        return scaled_decimal(negative, fraction.value, fraction.used, end);
-    }
-    short_decimal(negative, fraction.value, fraction.used)
+    Some(whole)
 }
 
-// A number that has something else than a point behind its first digits.
-#[inline(never)]
-fn rare_number(negative: bool, body: &[u8], whole: PlainDigits) -> Option<Number>
-    requires run { PlainRun body.now 0 whole.used whole.value }
-    requires whole { IsWholePart (take whole.used body.now) }
-    requires more { whole.used < length body.now }
-    requires few { length body.now ≤ 19 }
+/// The int or decimal of at most 19 octets behind the sign that a whole token spells, if it is a
+/// rarer one: an int with `_` or behind `0x`, or a decimal with an exponent.
+#[inline(always)]
+pub fn rare_number(token: &[u8]) -> Option<Number>
+    ensures { IfSome result (λ x. ReadsNumeral token.now (Ok x)) }
+{
+    let (negative, body) = split_sign(token);
+    rare_body(negative, body)
+}
+
+#[inline(always)]
+fn rare_body(negative: bool, body: &[u8]) -> Option<Number>
     ensures { IfSome result (λ x. ReadsBehind negative body.now (Ok x)) }
 {
+    let Some(whole) = short_whole(body) else {
+        return None;
+    };
+    if whole.used == body.len() {
+        return None;
+    }
     match body[whole.used] {
+        b'.' => {
+            let behind = &body[whole.used + 1..];
+            let fraction = plain_digits(behind, whole.value);
+            let end = &behind[fraction.used..];
+            scaled_decimal(negative, fraction.value, fraction.used, end)
+        }
         b'd' | b'D' => scaled_decimal(negative, whole.value, 0, &body[whole.used..]),
-        b'_' => marked_int(negative, body),
+        b'_' => marked_int(negative, body, whole),
         _ => short_hexadecimal(negative, body),
     }
 }
@@ -99,7 +128,7 @@ pub fn plain_digits(octets: &[u8], before: u64) -> PlainDigits
         if octet < b'0' || octet > b'9' {
             break;
         }
-        value = value * 10 + u64::from(octet - b'0');
+        value = value * 10 + (u64::from(octet) - 48);
         used += 1;
     }
     PlainDigits { value, used }
@@ -130,7 +159,7 @@ fn short_decimal(negative: bool, magnitude: u64, count: usize) -> Option<Number>
 
 // The decimal of a coefficient with so many fraction digits, and of the exponent that all of the
 // octets behind them are.
-#[inline(never)]
+#[inline(always)]
 fn scaled_decimal(negative: bool, magnitude: u64, count: usize, octets: &[u8]) -> Option<Number>
     requires { count < 20 }
     ensures { IfSome result (IsScaled negative magnitude count octets.now) }
@@ -199,21 +228,25 @@ fn exponent_sign(octets: &[u8]) -> (bool, &[u8])
     }
 }
 
-// An int that has `_` between its digits.
-fn marked_int(negative: bool, body: &[u8]) -> Option<Number>
-    requires { length body.now ≤ 19 }
+// An int that has `_` between its digits, behind those that stand before the first of them.
+#[inline(always)]
+fn marked_int(negative: bool, body: &[u8], first: PlainDigits) -> Option<Number>
+    requires few { length body.now ≤ 19 }
+    requires run { PlainRun body.now 0 first.used first.value }
+    requires some { 0 < length body.now }
     ensures { IfSome result (λ x. ReadsBehind negative body.now (Ok x)) }
 {
-    if body.is_empty() || body[0] == b'0' {
+    if body[0] == b'0' {
         return None;
     }
-    match marked_digits(body, 10) {
+    match marked_digits(body, 10, first) {
         Some(magnitude) => short_int(negative, magnitude),
         None => None,
     }
 }
 
 // An int of hexadecimal digits behind `0x`.
+#[inline(always)]
 fn short_hexadecimal(negative: bool, body: &[u8]) -> Option<Number>
     ensures { IfSome result (λ x. ReadsBehind negative body.now (Ok x)) }
 {
@@ -233,19 +266,21 @@ fn hexadecimal_number(octets: &[u8]) -> Option<u64>
     if octets.is_empty() || octets.len() > MOST_HEXADECIMAL {
         return None;
     }
-    marked_digits(octets, 16)
+    marked_digits(octets, 16, PlainDigits { value: 0, used: 0 })
 }
 
-/// The number of digits with at most one `_` between two of them, if all of the octets are such.
+/// The number of digits with at most one `_` between two of them, if all of the octets are such;
+/// the first of them are read.
 #[inline(always)]
-fn marked_digits(octets: &[u8], base: u32) -> Option<u64>
+fn marked_digits(octets: &[u8], base: u32, first: PlainDigits) -> Option<u64>
     requires base { (2 ≤ base) × (base ≤ 16) }
     requires room { base ^ length octets.now ≤ 2 ^ 64 }
     requires some { 0 < length octets.now }
+    requires run { MarkedRun base octets.now first.used first.value }
     ensures { IfSome result (λ v. IsDigits base octets.now × (v ≡ number base octets.now)) }
 {
-    let mut value = 0u64;
-    let mut used = 0usize;
+    let mut value = first.value;
+    let mut used = first.used;
     while used < octets.len() {
         let at = next_place(octets, used);
         let Some(digit) = digit_at(octets, at, base) else {

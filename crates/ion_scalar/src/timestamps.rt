@@ -1,5 +1,5 @@
 //! The parts of timestamp tokens (Ion 1.0, "Timestamps").
-ghost use Rattle.std.specs.Prelude.{ℕ, ◌≡◌, ◌<◌, ◌≤◌, ◌+◌, ◌-◌, ◌*◌, ◌^◌, ◌++◌, List, length, drop, min, slice_index, IfSome, IfNone, SomeIff, IsTrue, ◌↔◌, ◌⊎◌, ◌==◌, if◌then◌else◌, pos, neg_ℤ, Some, None};
+ghost use Rattle.std.specs.Prelude.{ℕ, ◌≡◌, ◌<◌, ◌≤◌, ◌+◌, ◌-◌, ◌*◌, ◌^◌, ◌++◌, List, length, drop, min, slice_index, IfSome, IfNone, SomeIff, IsTrue, ◌↔◌, ◌⊎◌, ◌==◌, if◌then◌else◌, pos, neg_ℤ, Some, None, false};
 ghost use Rattle.ion_atoms.specs.declared.timestamp.Precision.TheVariants as precisions;
 ghost use Rattle.ion_atoms.specs.TimestampBounds.{farthest_offset, most_digits};
 ghost use Rattle.ion_atoms.specs.Timestamps.{TimestampParts};
@@ -263,20 +263,21 @@ fn with_offset(local: Local, precision: Precision, octets: &[u8]) -> Option<Stam
     })
 }
 
-/// What stands behind the point of a second: digits and an offset.
+/// What stands behind the point of a second: digits and an offset. Where it is to be short, digits
+/// of more than 64 bits aren't told of.
 #[inline(always)]
-fn with_fraction(local: Local, octets: &[u8]) -> Option<Stamp>
+fn with_fraction(local: Local, short: bool, octets: &[u8]) -> Option<Stamp>
     ensures some { IfSome result (ShownEnd local octets.now) }
-    ensures none { IfNone result ((digits rest : List ℕ) → IsFractionEnd octets.now digits rest
-        → ⊥) }
+    ensures none { IfNone result (short ≡ false → (digits rest : List ℕ)
+        → IsFractionEnd octets.now digits rest → ⊥) }
 {
-    match with_short_fraction(local, octets) {
-        Some(stamp) => Some(stamp),
-        None => with_long_fraction(local, octets),
+    if short {
+        with_short_fraction(local, octets)
+    } else {
+        with_long_fraction(local, octets)
     }
 }
 
-/// The same of at most 19 octets, whose digits 64 bits hold.
 #[inline(always)]
 fn with_short_fraction(local: Local, octets: &[u8]) -> Option<Stamp>
     ensures { IfSome result (ShownEnd local octets.now) }
@@ -296,8 +297,7 @@ fn with_short_fraction(local: Local, octets: &[u8]) -> Option<Stamp>
     with_offset(local, precision, &octets[digits.used..])
 }
 
-/// The same of however many octets.
-#[inline(never)]
+#[inline(always)]
 fn with_long_fraction(local: Local, octets: &[u8]) -> Option<Stamp>
     ensures some { IfSome result (ShownEnd local octets.now) }
     ensures none { IfNone result ((digits rest : List ℕ) → IsFractionEnd octets.now digits rest
@@ -315,13 +315,14 @@ fn with_long_fraction(local: Local, octets: &[u8]) -> Option<Stamp>
     with_offset(local, precision, &octets[digits.used..])
 }
 
-/// What a whole token spells that begins with a minute and has more behind it.
+/// What a whole token spells that begins with a minute and has more behind it. Where it is to be
+/// short, a fraction of more than 64 bits isn't told of.
 #[inline(always)]
-pub fn time_token(token: &[u8]) -> Option<Stamp>
+pub fn time_token(token: &[u8], short: bool) -> Option<Stamp>
     ensures some { IfSome result (λ s. (t : TimestampParts) × IsTimestampToken token.now t
         × (s ≡ stamp t)) }
-    ensures none { IfNone result (BeginsWithMinute token.now → (t : TimestampParts)
-        → IsTimestampToken token.now t → ⊥) }
+    ensures none { IfNone result (short ≡ false → BeginsWithMinute token.now
+        → (t : TimestampParts) → IsTimestampToken token.now t → ⊥) }
 {
     let Some(minute) = minute_front(token) else {
         return None
@@ -336,7 +337,7 @@ pub fn time_token(token: &[u8]) -> Option<Stamp>
     if !is_at(token, 19, b'.') {
         return with_offset(local, Precision::Second, &token[19..]);
     }
-    with_fraction(local, &token[20..])
+    with_fraction(local, short, &token[20..])
 }
 
 /// What a whole token of at most 11 octets spells: a year, a month or a day.
@@ -365,7 +366,7 @@ pub fn stamp_of(token: &[u8]) -> Option<Stamp>
     if token.len() <= 11 {
         date_token(token)
     } else {
-        time_token(token)
+        time_token(token, false)
     }
 }
 

@@ -86,7 +86,7 @@ pub fn rare_date(token: &[u8]) -> Option<Timestamp>
 pub fn rare_time(token: &[u8]) -> Option<Timestamp>
     ensures { IfSome result (λ t. IsTimestampToken token.now t × IsTimestamp t) }
 {
-    match time_token(token) {
+    match time_token(token, true) {
         Some(spelled) => usual_parts(spelled),
         None => None,
     }

@@ -1,9 +1,5 @@
-use Rattle.std.proofs.lemmas.List.{take_rest}
-use Rattle.ion_scalar.specs.text.laws.ShortNumbers.{scaled_whole}
+use Rattle.ion_scalar.specs.text.laws.ShortNumbers.{short_token}
 use Rattle.ion_scalar.proofs.short_number.rare_number.Goals as goal
 
-pub returns-in-100 : goal.returns-in-100
-returns-in-100 c =
-    let run = c.requires.run in
-    scaled_whole c.args.negative c.args.body.now c.args.whole.used c.args.whole.value c.scaled_decimal.result run c.requires.whole
-    (rw (take_rest c.args.body.now c.args.whole.used) at c.scaled_decimal.ensures)
+pub returns : goal.returns
+returns c = short_token _ _ _ _ c.split_sign-negative.ensures.sign c.split_sign-negative.ensures.octets c.rare_body.ensures

@@ -74,6 +74,11 @@ pub record MarkedRun (base : ℕ) (os : List ℕ) (used value : ℕ) : Type 0 wh
   pub counts : value ≡ number base (take used os)
   pub room : (value + 1) * base ^ (length os - used) ≤ base ^ length os
 
+-- a run without `_` is one
+pub marked_from : (os : List ℕ) (used value : ℕ) → PlainRun os 0 used value → MarkedRun 10 os used value
+marked_from os used value run =
+    record { within = run.within; digits = run.digits; counts = run.counts ∙ continued_none 10 (take used os); room = omega (arith, run.room) }
+
 -- a digit more, behind a `_` or none
 pub marked_more : (base : ℕ) (os : List ℕ) (used at value : ℕ) → 2 ≤ base → base ≤ 16 → Place os used at → at < length os → digit_value (get_or os at 0) < base
     → MarkedRun base os used value → MarkedRun base os (at + 1) (value * base + digit_value (get_or os at 0))
