@@ -13,7 +13,7 @@ use crate::digits::all_digits;
 use crate::ints::split_sign;
 use crate::short_number::{rare_number, short_number};
 use crate::timestamps::{is_short, stamp_of};
-use crate::usual_token::{rare_date, rare_time, usual_timestamp};
+use crate::usual_token::{rare_timestamp, usual_timestamp};
 use ion_atoms::{Decimal, Reason, Timestamp, Whole};
 
 /// A number, as a token spells it.
@@ -49,18 +49,10 @@ fn answer_of(token: &[u8]) -> Result<Number, Reason>
     }
     match short_number(token) {
         Some(number) => Ok(number),
-        None => rare_answer(token),
-    }
-}
-
-// The answer on a number of another form, or on a token that is none.
-#[inline(never)]
-fn rare_answer(token: &[u8]) -> Result<Number, Reason>
-    ensures { ReadsNumber token.now result }
-{
-    match rare_number(token) {
-        Some(number) => Ok(number),
-        None => unusual_answer(token),
+        None => match rare_number(token) {
+            Some(number) => Ok(number),
+            None => unusual_answer(token),
+        },
     }
 }
 
@@ -71,31 +63,10 @@ fn dated_answer(token: &[u8]) -> Result<Number, Reason>
 {
     match usual_timestamp(token) {
         Some(timestamp) => Ok(Number::Timestamp(timestamp)),
-        None => rare_timestamp(token),
-    }
-}
-
-// The answer on a timestamp of another form, or on a token that is none after all.
-#[inline(never)]
-fn rare_timestamp(token: &[u8]) -> Result<Number, Reason>
-    ensures { ReadsNumber token.now result }
-{
-    if token.len() > 11 {
-        return timed_answer(token);
-    }
-    match rare_date(token) {
-        Some(timestamp) => Ok(Number::Timestamp(timestamp)),
-        None => unusual_answer(token),
-    }
-}
-
-#[inline(never)]
-fn timed_answer(token: &[u8]) -> Result<Number, Reason>
-    ensures { ReadsNumber token.now result }
-{
-    match rare_time(token) {
-        Some(timestamp) => Ok(Number::Timestamp(timestamp)),
-        None => unusual_answer(token),
+        None => match rare_timestamp(token) {
+            Some(timestamp) => Ok(Number::Timestamp(timestamp)),
+            None => unusual_answer(token),
+        },
     }
 }
 

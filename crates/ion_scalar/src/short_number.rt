@@ -84,7 +84,7 @@ fn short_whole(body: &[u8]) -> Option<PlainDigits>
 
 /// The int or decimal of at most 19 octets behind the sign that a whole token spells, if it is a
 /// rarer one: an int with `_` or behind `0x`, or a decimal with an exponent.
-#[inline(always)]
+#[inline(never)]
 pub fn rare_number(token: &[u8]) -> Option<Number>
     ensures { IfSome result (λ x. ReadsNumeral token.now (Ok x)) }
 {

@@ -1,23 +1,18 @@
 //! The parts of timestamp tokens (Ion 1.0, "Timestamps").
-ghost use Rattle.std.specs.Prelude.{ℕ, ◌≡◌, ◌<◌, ◌≤◌, ◌+◌, ◌-◌, ◌*◌, ◌^◌, ◌++◌, List, length, drop, min, slice_index, IfSome, IfNone, SomeIff, IsTrue, ◌↔◌, ◌⊎◌, ◌==◌, if◌then◌else◌, pos, neg_ℤ, Some, None, false};
+ghost use Rattle.std.specs.Prelude.{ℕ, ◌≡◌, ◌<◌, ◌≤◌, ◌+◌, ◌-◌, ◌*◌, ◌^◌, ◌++◌, List, length, drop, min, slice_index, IfSome, IfNone, SomeIff, IsTrue, ◌↔◌, ◌⊎◌, ◌==◌, if◌then◌else◌, pos, neg_ℤ, Some, None};
 ghost use Rattle.ion_atoms.specs.declared.timestamp.Precision.TheVariants as precisions;
 ghost use Rattle.ion_atoms.specs.TimestampBounds.{farthest_offset, most_digits};
 ghost use Rattle.ion_atoms.specs.Timestamps.{TimestampParts};
 ghost use Rattle.ion_scalar.specs.text.Ints.{number};
 ghost use Rattle.ion_scalar.specs.text.Decimals.{IsPlain};
 ghost use Rattle.ion_scalar.specs.text.Timestamps.{IsAt, IsDigitAt, AreTwoAt, two, AreFourAt, four, BeginsWithMonth, BeginsWithDay, BeginsWithMinute, BeginsWithSecond, IsOffsetToken, offset_read, minute_read, dated, IsYear, IsMonth, IsDay, IsFractionEnd, IsTimestampToken, IsShort, stamp};
-ghost use Rattle.ion_scalar.specs.text.laws.TimestampForms.{ShownEnd};
 
 use crate::digits::digits_at;
-use crate::short_number::plain_digits;
 use ion_atoms::bounds::{LAST_HOUR, LAST_MINUTE, MOST_DIGITS};
 use ion_atoms::{Local, Precision};
 
 // So many fraction digits stand for all numbers of them that are too great.
 const TOO_MANY_DIGITS: usize = MOST_DIGITS as usize + 1;
-
-// So many octets have at most 19 digits, whose number 64 bits hold.
-const MOST_SHORT_OCTETS: usize = 19;
 
 /// The parts that a token spells, whether or not there is such a day and time.
 #[derive(Clone, Copy, Debug)]
@@ -96,7 +91,7 @@ fn four_at(octets: &[u8], at: usize) -> Option<u16>
 }
 
 #[inline(always)]
-fn is_at(octets: &[u8], at: usize, octet: u8) -> bool
+pub fn is_at(octets: &[u8], at: usize, octet: u8) -> bool
     ensures { IsTrue result ↔ IsAt octets.now at octet }
 {
     at < octets.len() && octets[at] == octet
@@ -249,7 +244,7 @@ fn day_token(token: &[u8]) -> Option<Stamp>
 
 /// A minute or second, and an offset that all of the octets behind it are.
 #[inline(always)]
-fn with_offset(local: Local, precision: Precision, octets: &[u8]) -> Option<Stamp>
+pub fn with_offset(local: Local, precision: Precision, octets: &[u8]) -> Option<Stamp>
     ensures { SomeIff result (IsOffsetToken octets.now)
         (record { local = local; precision = precision; offset = offset_read octets.now }) }
 {
@@ -263,43 +258,15 @@ fn with_offset(local: Local, precision: Precision, octets: &[u8]) -> Option<Stam
     })
 }
 
-/// What stands behind the point of a second: digits and an offset. Where it is to be short, digits
-/// of more than 64 bits aren't told of.
+/// What stands behind the point of a second: digits and an offset.
 #[inline(always)]
-fn with_fraction(local: Local, short: bool, octets: &[u8]) -> Option<Stamp>
-    ensures some { IfSome result (ShownEnd local octets.now) }
-    ensures none { IfNone result (short ≡ false → (digits rest : List ℕ)
-        → IsFractionEnd octets.now digits rest → ⊥) }
-{
-    if short {
-        with_short_fraction(local, octets)
-    } else {
-        with_long_fraction(local, octets)
-    }
-}
-
-#[inline(always)]
-fn with_short_fraction(local: Local, octets: &[u8]) -> Option<Stamp>
-    ensures { IfSome result (ShownEnd local octets.now) }
-{
-    if octets.len() > MOST_SHORT_OCTETS {
-        return None;
-    }
-    let digits = plain_digits(octets, 0);
-    if digits.used == 0 {
-        return None;
-    }
-    let local = Local {
-        fraction: u128::from(digits.value),
-        ..local
-    };
-    let precision = Precision::Fraction(digits.used as u8);
-    with_offset(local, precision, &octets[digits.used..])
-}
-
-#[inline(always)]
-fn with_long_fraction(local: Local, octets: &[u8]) -> Option<Stamp>
-    ensures some { IfSome result (ShownEnd local octets.now) }
+fn with_fraction(local: Local, octets: &[u8]) -> Option<Stamp>
+    ensures some { IfSome result (λ s. (digits rest : List ℕ) × IsFractionEnd octets.now digits rest
+        × (s ≡ record {
+          local = record local { fraction = min (number 10 digits) (2 ^ 127) };
+          precision = precisions.Fraction (min (length digits) (most_digits + 1));
+          offset = offset_read rest;
+        })) }
     ensures none { IfNone result ((digits rest : List ℕ) → IsFractionEnd octets.now digits rest
         → ⊥) }
 {
@@ -315,14 +282,12 @@ fn with_long_fraction(local: Local, octets: &[u8]) -> Option<Stamp>
     with_offset(local, precision, &octets[digits.used..])
 }
 
-/// What a whole token spells that begins with a minute and has more behind it. Where it is to be
-/// short, a fraction of more than 64 bits isn't told of.
 #[inline(always)]
-pub fn time_token(token: &[u8], short: bool) -> Option<Stamp>
+fn time_token(token: &[u8]) -> Option<Stamp>
     ensures some { IfSome result (λ s. (t : TimestampParts) × IsTimestampToken token.now t
         × (s ≡ stamp t)) }
-    ensures none { IfNone result (short ≡ false → BeginsWithMinute token.now
-        → (t : TimestampParts) → IsTimestampToken token.now t → ⊥) }
+    ensures none { IfNone result (BeginsWithMinute token.now → (t : TimestampParts)
+        → IsTimestampToken token.now t → ⊥) }
 {
     let Some(minute) = minute_front(token) else {
         return None
@@ -337,7 +302,7 @@ pub fn time_token(token: &[u8], short: bool) -> Option<Stamp>
     if !is_at(token, 19, b'.') {
         return with_offset(local, Precision::Second, &token[19..]);
     }
-    with_fraction(local, short, &token[20..])
+    with_fraction(local, &token[20..])
 }
 
 /// What a whole token of at most 11 octets spells: a year, a month or a day.
@@ -366,7 +331,7 @@ pub fn stamp_of(token: &[u8]) -> Option<Stamp>
     if token.len() <= 11 {
         date_token(token)
     } else {
-        time_token(token, false)
+        time_token(token)
     }
 }
 

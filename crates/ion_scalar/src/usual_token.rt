@@ -7,11 +7,16 @@ ghost use Rattle.ion_atoms.specs.TimestampBounds.{last_year};
 ghost use Rattle.ion_atoms.specs.Calendar.{IsDate};
 ghost use Rattle.ion_atoms.specs.Timestamps.{TimestampParts, IsTimestamp, IsTime, local_date};
 ghost use Rattle.ion_scalar.specs.text.Timestamps.{IsTimestampToken, IsShort, stamp};
+ghost use Rattle.ion_scalar.specs.text.laws.TimestampForms.{ShownEnd};
 
-use crate::timestamps::{Stamp, date_token, day_front, is_short, minute_front, time_token, two_at};
+use crate::short_number::plain_digits;
+use crate::timestamps::{Stamp, date_token, day_front, is_at, is_short, minute_front, two_at, with_offset};
 use ion_atoms::bounds::{LAST_HOUR, LAST_MINUTE, LAST_MONTH, LAST_SECOND, LAST_YEAR};
 use ion_atoms::calendar::has_day;
 use ion_atoms::{Local, Precision, Timestamp};
+
+// So many octets have at most 19 digits, whose number 64 bits hold.
+const MOST_SHORT_OCTETS: usize = 19;
 
 /// The timestamp that a whole token of a usual form spells.
 #[inline(always)]
@@ -69,9 +74,21 @@ fn usual_second(token: &[u8]) -> Option<Timestamp>
     Some(Timestamp::of_parts(local, Precision::Second, Some(0)))
 }
 
-/// The timestamp of a year, a month or a day that a whole token of at most 11 octets spells.
+/// The timestamp of another form that a whole token spells, with few fraction digits or none.
 #[inline(always)]
-pub fn rare_date(token: &[u8]) -> Option<Timestamp>
+pub fn rare_timestamp(token: &[u8]) -> Option<Timestamp>
+    ensures { IfSome result (λ t. IsTimestampToken token.now t × IsTimestamp t) }
+{
+    if token.len() > 11 {
+        rare_time(token)
+    } else {
+        rare_date(token)
+    }
+}
+
+/// The timestamp of a year, a month or a day that a whole token of at most 11 octets spells.
+#[inline(never)]
+fn rare_date(token: &[u8]) -> Option<Timestamp>
     requires { length token.now ≤ 11 }
     ensures { IfSome result (λ t. IsTimestampToken token.now t × IsTimestamp t) }
 {
@@ -81,15 +98,56 @@ pub fn rare_date(token: &[u8]) -> Option<Timestamp>
     }
 }
 
-/// The timestamp with a time that a whole token spells.
-#[inline(always)]
-pub fn rare_time(token: &[u8]) -> Option<Timestamp>
+/// The timestamp with a time that a whole token spells, with few fraction digits or none.
+#[inline(never)]
+fn rare_time(token: &[u8]) -> Option<Timestamp>
     ensures { IfSome result (λ t. IsTimestampToken token.now t × IsTimestamp t) }
 {
-    match time_token(token, true) {
+    match short_stamp(token) {
         Some(spelled) => usual_parts(spelled),
         None => None,
     }
+}
+
+#[inline(always)]
+fn short_stamp(token: &[u8]) -> Option<Stamp>
+    ensures { IfSome result (λ s. (t : TimestampParts) × IsTimestampToken token.now t
+        × (s ≡ stamp t)) }
+{
+    let Some(minute) = minute_front(token) else {
+        return None
+    };
+    if !is_at(token, 16, b':') {
+        return with_offset(minute, Precision::Minute, &token[16..]);
+    }
+    let Some(second) = two_at(token, 17) else {
+        return None
+    };
+    let local = Local { second, ..minute };
+    if !is_at(token, 19, b'.') {
+        return with_offset(local, Precision::Second, &token[19..]);
+    }
+    with_short_fraction(local, &token[20..])
+}
+
+/// What stands behind the point of a second: digits and an offset, at most 19 octets.
+#[inline(always)]
+fn with_short_fraction(local: Local, octets: &[u8]) -> Option<Stamp>
+    ensures { IfSome result (ShownEnd local octets.now) }
+{
+    if octets.len() > MOST_SHORT_OCTETS {
+        return None;
+    }
+    let digits = plain_digits(octets, 0);
+    if digits.used == 0 {
+        return None;
+    }
+    let local = Local {
+        fraction: u128::from(digits.value),
+        ..local
+    };
+    let precision = Precision::Fraction(digits.used as u8);
+    with_offset(local, precision, &octets[digits.used..])
 }
 
 /// The timestamp of the parts that a token spells.

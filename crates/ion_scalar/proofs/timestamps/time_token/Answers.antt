@@ -13,12 +13,12 @@ pub returns-then-not-is_at-clause-none : goal.returns-then-not-is_at-clause-none
 returns-then-not-is_at-clause-none c =
     let os = c.args.token.now in
     none_some c.with_offset.result _ _ _ (rw (take_rest os 16) at c.with_offset.ensures)
-    (λ n _ b. no_minute os b (λ is. false≢true (c.if-not-is_at.ensures.1 is)) n)
+    (λ n b. no_minute os b (λ is. false≢true (c.if-not-is_at.ensures.1 is)) n)
 
 pub returns-in_default-two_at-clause-none : goal.returns-in_default-two_at-clause-none
 returns-in_default-two_at-clause-none c =
     let os = c.args.token.now in
-    λ _ b. no_second_digits os b (c.if-not-is_at.ensures.0 refl) c.in_default-two_at.ensures.value
+    λ b. no_second_digits os b (c.if-not-is_at.ensures.0 refl) c.in_default-two_at.ensures.value
 
 pub returns-then-not-is_at-2-clause-some : goal.returns-then-not-is_at-2-clause-some
 returns-then-not-is_at-2-clause-some c =
@@ -30,7 +30,7 @@ pub returns-then-not-is_at-2-clause-none : goal.returns-then-not-is_at-2-clause-
 returns-then-not-is_at-2-clause-none c =
     let os = c.args.token.now in
     none_some c.with_offset-then-not-is_at-2.result _ _ _ (rw (take_rest os 19) at c.with_offset-then-not-is_at-2.ensures)
-    (λ n _ b. no_second os b (c.if-not-is_at.ensures.0 refl) (λ is. false≢true (c.if-not-is_at-2.ensures.1 is)) n)
+    (λ n b. no_second os b (c.if-not-is_at.ensures.0 refl) (λ is. false≢true (c.if-not-is_at-2.ensures.1 is)) n)
 
 pub returns-clause-some : goal.returns-clause-some
 returns-clause-some c =
@@ -43,4 +43,4 @@ pub returns-clause-none : goal.returns-clause-none
 returns-clause-none c =
     let os = c.args.token.now in
     none_map c.with_fraction.result _ _ (rw (take_rest os 20) at c.with_fraction.ensures.none)
-    (λ n long b. no_fraction_end os b (c.if-not-is_at.ensures.0 refl) (c.if-not-is_at-2.ensures.0 refl) (n long))
+    (λ n b. no_fraction_end os b (c.if-not-is_at.ensures.0 refl) (c.if-not-is_at-2.ensures.0 refl) n)

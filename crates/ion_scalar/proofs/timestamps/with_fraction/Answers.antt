@@ -1,8 +1,8 @@
 use Rattle.std.proofs.Common.{inl, inr, arith, ◌<◌}
 use Rattle.std.proofs.lemmas.List.{take_rest}
 use Rattle.ion_scalar.specs.text.laws.TimestampForms.{no_end, end_some, none_some}
-use Rattle.ion_scalar.proofs.timestamps.with_long_fraction.Goals as goal
-use Rattle.ion_scalar.proofs.timestamps.with_long_fraction.Goals.{then-digits-eq0-via-then-digits-eq0, then-digits-eq0-via-else-digits-eq0+then-digits}
+use Rattle.ion_scalar.proofs.timestamps.with_fraction.Goals as goal
+use Rattle.ion_scalar.proofs.timestamps.with_fraction.Goals.{then-digits-eq0-via-then-digits-eq0, then-digits-eq0-via-else-digits-eq0+then-digits}
 
 pub returns-then-digits-eq0-clause-none : goal.returns-then-digits-eq0-clause-none
 returns-then-digits-eq0-clause-none c =
