@@ -11,7 +11,7 @@ ghost use Rattle.ion_scalar.specs.text.Numbers.{ReadsNumber, ReadsNumeral, Reads
 use crate::decimals::{Tail, power, tail_of, whole_of};
 use crate::digits::all_digits;
 use crate::ints::split_sign;
-use crate::short_number::{rare_number, short_number};
+use crate::short_number::short_number;
 use crate::timestamps::{is_short, stamp_of};
 use crate::usual_token::{rare_timestamp, usual_timestamp};
 use ion_atoms::{Decimal, Reason, Timestamp, Whole};
@@ -49,10 +49,7 @@ fn answer_of(token: &[u8]) -> Result<Number, Reason>
     }
     match short_number(token) {
         Some(number) => Ok(number),
-        None => match rare_number(token) {
-            Some(number) => Ok(number),
-            None => unusual_answer(token),
-        },
+        None => unusual_answer(token),
     }
 }
 

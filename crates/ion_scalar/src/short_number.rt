@@ -2,7 +2,7 @@
 //! are added up in 64 bits. What is longer or has another form isn't told of here.
 ghost use Rattle.std.specs.Prelude.{◌≡◌, ◌<◌, ◌≤◌, ◌+◌, ◌*◌, ◌^◌, ◌-ℤ◌, pos, length, take, false, IfSome, Ok};
 ghost use Rattle.ion_scalar.specs.declared.number.Number.TheVariants as numbers;
-ghost use Rattle.ion_scalar.specs.text.Ints.{IsDigits, IsWholePart, number};
+ghost use Rattle.ion_scalar.specs.text.Ints.{IsDigits, IsWholePart, IsMagnitude, number};
 ghost use Rattle.ion_scalar.specs.text.Decimals.{signed, IsPlain, IsSigned, IsExponent};
 ghost use Rattle.ion_scalar.specs.text.Numbers.{ReadsBehind, ReadsNumeral, Fits, decimal_read};
 ghost use Rattle.ion_scalar.specs.text.laws.DigitRuns.{Place};
@@ -31,8 +31,8 @@ pub struct PlainDigits {
     pub used: usize,
 }
 
-/// The int or decimal that a whole token spells, if it is a usual one: no `_`, no exponent, no base
-/// but ten, and at most 19 octets behind the sign.
+/// The int or decimal that a whole token spells, if it has at most 19 octets behind the sign, no
+/// base two, and no `_` in a decimal.
 #[inline(always)]
 pub fn short_number(token: &[u8]) -> Option<Number>
     ensures { IfSome result (λ x. ReadsNumeral token.now (Ok x)) }
@@ -52,12 +52,13 @@ fn short_body(negative: bool, body: &[u8]) -> Option<Number>
         return short_int(negative, whole.value);
     }
     if body[whole.used] != b'.' {
-        return None;
+        return rare_body(negative, body, whole);
     }
     let behind = &body[whole.used + 1..];
     let fraction = plain_digits(behind, whole.value);
     if fraction.used < behind.len() {
-        return None;
+        let end = &behind[fraction.used..];
+        return scaled_decimal(negative, fraction.value, fraction.used, end);
     }
     short_decimal(negative, fraction.value, fraction.used)
 }
@@ -82,36 +83,22 @@ fn short_whole(body: &[u8]) -> Option<PlainDigits>
     Some(whole)
 }
 
-/// The int or decimal of at most 19 octets behind the sign that a whole token spells, if it is a
-/// rarer one: an int with `_` or behind `0x`, or a decimal with an exponent.
-#[inline(never)]
-pub fn rare_number(token: &[u8]) -> Option<Number>
-    ensures { IfSome result (λ x. ReadsNumeral token.now (Ok x)) }
-{
-    let (negative, body) = split_sign(token);
-    rare_body(negative, body)
-}
-
+// What has something else than a point behind its first digits. What is rare is left to functions
+// of their own, which hand out numbers that registers hold, so that usual numbers stay in them.
 #[inline(always)]
-fn rare_body(negative: bool, body: &[u8]) -> Option<Number>
+fn rare_body(negative: bool, body: &[u8], whole: PlainDigits) -> Option<Number>
+    requires run { PlainRun body.now 0 whole.used whole.value }
+    requires whole { IsWholePart (take whole.used body.now) }
+    requires more { whole.used < length body.now }
+    requires few { length body.now ≤ 19 }
     ensures { IfSome result (λ x. ReadsBehind negative body.now (Ok x)) }
 {
-    let Some(whole) = short_whole(body) else {
-        return None;
-    };
-    if whole.used == body.len() {
-        return None;
-    }
     match body[whole.used] {
-        b'.' => {
-            let behind = &body[whole.used + 1..];
-            let fraction = plain_digits(behind, whole.value);
-            let end = &behind[fraction.used..];
-            scaled_decimal(negative, fraction.value, fraction.used, end)
-        }
         b'd' | b'D' => scaled_decimal(negative, whole.value, 0, &body[whole.used..]),
-        b'_' => marked_int(negative, body, whole),
-        _ => short_hexadecimal(negative, body),
+        _ => match rare_magnitude(body, whole) {
+            Some(magnitude) => short_int(negative, magnitude),
+            None => None,
+        },
     }
 }
 
@@ -190,7 +177,7 @@ fn less_fraction(below: bool, written: u32, count: usize) -> i32
 
 /// The exponent of a decimal that all of the octets are, of at most nine digits: whether it has a
 /// minus, and its magnitude.
-#[inline(always)]
+#[inline(never)]
 fn short_exponent(octets: &[u8]) -> Option<(bool, u32)>
     ensures { IfSome result (λ r. IsExponent octets.now false r.0 r.1 × (r.1 < 10 ^ 9)) }
 {
@@ -228,33 +215,16 @@ fn exponent_sign(octets: &[u8]) -> (bool, &[u8])
     }
 }
 
-// An int that has `_` between its digits, behind those that stand before the first of them.
-#[inline(always)]
-fn marked_int(negative: bool, body: &[u8], first: PlainDigits) -> Option<Number>
+/// The number of an int that has `_` between its digits, or hexadecimal ones behind `0x`.
+#[inline(never)]
+fn rare_magnitude(body: &[u8], first: PlainDigits) -> Option<u64>
     requires few { length body.now ≤ 19 }
     requires run { PlainRun body.now 0 first.used first.value }
-    requires some { 0 < length body.now }
-    ensures { IfSome result (λ x. ReadsBehind negative body.now (Ok x)) }
-{
-    if body[0] == b'0' {
-        return None;
-    }
-    match marked_digits(body, 10, first) {
-        Some(magnitude) => short_int(negative, magnitude),
-        None => None,
-    }
-}
-
-// An int of hexadecimal digits behind `0x`.
-#[inline(always)]
-fn short_hexadecimal(negative: bool, body: &[u8]) -> Option<Number>
-    ensures { IfSome result (λ x. ReadsBehind negative body.now (Ok x)) }
+    ensures { IfSome result (λ n. IsMagnitude body.now n) }
 {
     match body {
-        [b'0', b'x' | b'X', digits @ ..] => match hexadecimal_number(digits) {
-            Some(magnitude) => short_int(negative, magnitude),
-            None => None,
-        },
+        [b'0', b'x' | b'X', digits @ ..] => hexadecimal_number(digits),
+        [b'1'..=b'9', ..] => marked_digits(body, 10, first),
         _ => None,
     }
 }

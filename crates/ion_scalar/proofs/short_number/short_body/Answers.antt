@@ -1,13 +1,25 @@
-use Rattle.std.proofs.Common.{◌+◌, arith}
+use Rattle.std.proofs.Common.{◌+◌, drop, arith}
 use Rattle.std.proofs.lemmas.List.{take_rest}
-use Rattle.ion_scalar.specs.text.laws.ShortNumbers.{room_behind, short_decimal}
+use Rattle.ion_scalar.specs.text.laws.ShortNumbers.{room_behind, short_decimal, scaled_decimal}
 use Rattle.ion_scalar.proofs.short_number.short_body.Goals as goal
 
 pub plain_digits-fraction-requires : goal.plain_digits-fraction-requires
 plain_digits-fraction-requires c =
     let body = c.args.body.now in
     let whole = c.in-Some.whole in
-    rw (take_rest body (whole.used + 1)) (room_behind body whole.used whole.value c.in-Some.ensures.few (omega (arith, c.in-Some.ensures.run.within, c.if-whole-body.false)) c.in-Some.ensures.run)
+    let is = c.in-Some.ensures in
+    rw (take_rest body (whole.used + 1)) (room_behind body whole.used whole.value is.few (omega (arith, is.run.within, c.if-whole-body.false)) is.run)
+
+pub returns-then-fraction-behind : goal.returns-then-fraction-behind
+returns-then-fraction-behind c =
+    let body = c.args.body.now in
+    let whole = c.in-Some.whole in
+    let is = c.in-Some.ensures in
+    let behind = c.plain_digits-fraction in
+    scaled_decimal c.args.negative body whole.used whole.value behind.result.used behind.result.value c.scaled_decimal.result is.run is.whole
+    (omega (arith, is.run.within, c.if-whole-body.false)) c.if-body-whole-ne46.false
+    (rw (take_rest body (whole.used + 1)) at behind.ensures)
+    (rw (take_rest body (whole.used + 1), take_rest (drop (whole.used + 1) body) behind.result.used) at c.scaled_decimal.ensures)
 
 pub returns : goal.returns
 returns c =
@@ -15,6 +27,6 @@ returns c =
     let whole = c.in-Some.whole in
     let is = c.in-Some.ensures in
     let behind = c.plain_digits-fraction in
-    short_decimal c.args.negative body whole.used whole.value behind.result.used behind.result.value c.short_decimal.result is.run is.whole (omega (arith, is.run.within, c.if-whole-body.false))
-    c.if-body-whole-ne46.false
+    short_decimal c.args.negative body whole.used whole.value behind.result.used behind.result.value c.short_decimal.result is.run is.whole
+    (omega (arith, is.run.within, c.if-whole-body.false)) c.if-body-whole-ne46.false
     (rw (take_rest body (whole.used + 1)) at behind.ensures) (rw (take_rest body (whole.used + 1)) at c.if-fraction-behind.false) c.short_decimal.ensures

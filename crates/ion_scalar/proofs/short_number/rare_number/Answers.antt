@@ -1,5 +1,0 @@
-use Rattle.ion_scalar.specs.text.laws.ShortNumbers.{short_token}
-use Rattle.ion_scalar.proofs.short_number.rare_number.Goals as goal
-
-pub returns : goal.returns
-returns c = short_token _ _ _ _ c.split_sign-negative.ensures.sign c.split_sign-negative.ensures.octets c.rare_body.ensures
