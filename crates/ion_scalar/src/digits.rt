@@ -29,13 +29,11 @@ pub fn digit_at(octets: &[u8], at: usize, base: u32) -> Option<u32>
         return None;
     }
     let octet = octets[at];
-    let digit = match octet {
-        b'0'..=b'9' => u32::from(octet) - 48,
-        b'a'..=b'f' => u32::from(octet) - 87,
-        b'A'..=b'F' => u32::from(octet) - 55,
-        _ => return None,
-    };
-    if digit < base { Some(digit) } else { None }
+    if b'0' <= octet && octet <= b'9' {
+        let digit = u32::from(octet - b'0');
+        return if digit < base { Some(digit) } else { None };
+    }
+    char::from(octet).to_digit(base)
 }
 
 /// One digit more, up to the cap; few numbers are so large that it takes more than 64 bits.

@@ -1,6 +1,7 @@
 //! Ints and decimals of few digits, as most numbers in documents are, as whole tokens: their digits
 //! are added up in 64 bits. What is longer or has another form isn't told of here.
 ghost use Rattle.std.specs.Prelude.{◌≡◌, ◌<◌, ◌≤◌, ◌+◌, ◌*◌, ◌^◌, ◌-ℤ◌, pos, length, take, false, IfSome, Ok};
+ghost use Rattle.std.specs.Char.{digit_value};
 ghost use Rattle.ion_scalar.specs.declared.number.Number.TheVariants as numbers;
 ghost use Rattle.ion_scalar.specs.text.Ints.{IsDigits, IsWholePart, IsMagnitude, number};
 ghost use Rattle.ion_scalar.specs.text.Decimals.{signed, IsPlain, IsSigned, IsExponent};
@@ -224,39 +225,64 @@ fn rare_magnitude(body: &[u8], first: PlainDigits) -> Option<u64>
 {
     match body {
         [b'0', b'x' | b'X', digits @ ..] => hexadecimal_number(digits),
-        [b'1'..=b'9', ..] => marked_digits(body, 10, first),
+        [b'1'..=b'9', ..] => marked_digits(body, first),
         _ => None,
     }
 }
 
+/// The number of at most 16 hexadecimal digits without `_`, if all of the octets are such.
 #[inline(always)]
 fn hexadecimal_number(octets: &[u8]) -> Option<u64>
     ensures { IfSome result (λ v. IsDigits 16 octets.now × (v ≡ number 16 octets.now)) }
 {
-    if octets.is_empty() || octets.len() > MOST_HEXADECIMAL {
+    if octets.len() < 1 || octets.len() > MOST_HEXADECIMAL {
         return None;
     }
-    marked_digits(octets, 16, PlainDigits { value: 0, used: 0 })
+    let mut value = 0u64;
+    let mut used = 0usize;
+    while used < octets.len() {
+        let Some(digit) = hexadecimal_digit(octets[used]) else {
+            return None;
+        };
+        value = value * 16 + digit;
+        used += 1;
+    }
+    Some(value)
 }
 
-/// The number of digits with at most one `_` between two of them, if all of the octets are such;
-/// the first of them are read.
+/// The value of a hexadecimal digit.
 #[inline(always)]
-fn marked_digits(octets: &[u8], base: u32, first: PlainDigits) -> Option<u64>
-    requires base { (2 ≤ base) × (base ≤ 16) }
-    requires room { base ^ length octets.now ≤ 2 ^ 64 }
+fn hexadecimal_digit(octet: u8) -> Option<u64>
+    ensures { IfSome result (λ d. (d ≡ digit_value octet) × (d < 16)) }
+{
+    if b'0' <= octet && octet <= b'9' {
+        Some(u64::from(octet) - 48)
+    } else if b'a' <= octet && octet <= b'f' {
+        Some(u64::from(octet) - 87)
+    } else if b'A' <= octet && octet <= b'F' {
+        Some(u64::from(octet) - 55)
+    } else {
+        None
+    }
+}
+
+/// The number of digits with at most one `_` between two of them, if all of at most 19 octets are
+/// such; the first of them are read.
+#[inline(always)]
+fn marked_digits(octets: &[u8], first: PlainDigits) -> Option<u64>
+    requires few { length octets.now ≤ 19 }
     requires some { 0 < length octets.now }
-    requires run { MarkedRun base octets.now first.used first.value }
-    ensures { IfSome result (λ v. IsDigits base octets.now × (v ≡ number base octets.now)) }
+    requires run { MarkedRun 10 octets.now first.used first.value }
+    ensures { IfSome result (λ v. IsDigits 10 octets.now × (v ≡ number 10 octets.now)) }
 {
     let mut value = first.value;
     let mut used = first.used;
     while used < octets.len() {
         let at = next_place(octets, used);
-        let Some(digit) = digit_at(octets, at, base) else {
+        let Some(digit) = digit_at(octets, at, 10) else {
             return None;
         };
-        value = value * u64::from(base) + u64::from(digit);
+        value = value * 10 + u64::from(digit);
         used = at + 1;
     }
     Some(value)

@@ -228,12 +228,21 @@ fn month_token(token: &[u8]) -> Option<Stamp>
     Some(stamp_of_day(Precision::Month, year, month, 1))
 }
 
+/// Whether a token with a day at the front ends behind it, or behind a `T`.
+#[inline(always)]
+pub fn ends_day(token: &[u8]) -> bool
+    ensures { IsTrue result
+        ↔ ((length token.now ≡ 10) ⊎ ((length token.now ≡ 11) × IsAt token.now 10 84)) }
+{
+    token.len() == 10 || (token.len() == 11 && is_at(token, 10, b'T'))
+}
+
 #[inline(always)]
 fn day_token(token: &[u8]) -> Option<Stamp>
     ensures { SomeIff result (IsDay token.now)
         (stamp (dated precisions.Day (four token.now 0) (two token.now 5) (two token.now 8))) }
 {
-    if token.len() != 10 && (token.len() != 11 || !is_at(token, 10, b'T')) {
+    if !ends_day(token) {
         return None;
     }
     let Some((year, month, day)) = day_front(token) else {

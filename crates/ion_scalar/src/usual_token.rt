@@ -1,5 +1,5 @@
-//! Timestamps as whole tokens: those of the two forms that most have, `YYYY-MM-DD` and
-//! `YYYY-MM-DDThh:mm:ssZ`, and those of any form in the years 2 to 9998, where no offset leads out
+//! Timestamps as whole tokens: those of the forms that most have, `YYYY-MM-DD` with or without `T`
+//! and `YYYY-MM-DDThh:mm:ssZ`, and those of any form in the years 2 to 9998, where no offset leads out
 //! of the years 1 to 9999. What has another form, or isn't there, isn't told of here.
 ghost use Rattle.std.specs.Prelude.{ℕ, List, ◌≡◌, ◌≤◌, ◌<◌, length, IsTrue, ◌↔◌, IfSome};
 ghost use Rattle.ion_atoms.specs.declared.calendar.Date.{Date};
@@ -10,7 +10,9 @@ ghost use Rattle.ion_scalar.specs.text.Timestamps.{IsTimestampToken, IsShort, st
 ghost use Rattle.ion_scalar.specs.text.laws.TimestampForms.{ShownEnd};
 
 use crate::short_number::plain_digits;
-use crate::timestamps::{Stamp, date_token, day_front, is_at, is_short, minute_front, two_at, with_offset};
+use crate::timestamps::{
+    Stamp, date_token, day_front, ends_day, is_at, is_short, minute_front, two_at, with_offset,
+};
 use ion_atoms::bounds::{LAST_HOUR, LAST_MINUTE, LAST_MONTH, LAST_SECOND, LAST_YEAR};
 use ion_atoms::calendar::has_day;
 use ion_atoms::{Local, Precision, Timestamp};
@@ -24,7 +26,7 @@ pub fn usual_timestamp(token: &[u8]) -> Option<Timestamp>
     ensures { IfSome result (λ t. IsTimestampToken token.now t × IsTimestamp t) }
 {
     match token.len() {
-        10 => usual_day(token),
+        10 | 11 => usual_day(token),
         20 => usual_second(token),
         _ => None,
     }
@@ -32,9 +34,11 @@ pub fn usual_timestamp(token: &[u8]) -> Option<Timestamp>
 
 #[inline(always)]
 fn usual_day(token: &[u8]) -> Option<Timestamp>
-    requires { length token.now ≡ 10 }
     ensures { IfSome result (λ t. IsTimestampToken token.now t × IsTimestamp t) }
 {
+    if !ends_day(token) {
+        return None;
+    }
     let Some((year, month, day)) = day_front(token) else {
         return None
     };

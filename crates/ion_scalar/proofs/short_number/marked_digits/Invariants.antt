@@ -3,7 +3,7 @@ use Rattle.ion_scalar.specs.text.laws.ShortNumbers.{MarkedRun}
 use Rattle.ion_scalar.proofs.short_number.marked_digits.Given as goal
 
 abbrev pub invariant-loop-used : goal.invariant-loop-used
-invariant-loop-used l = MarkedRun l.base l.octets l.used l.value
+invariant-loop-used l = MarkedRun 10 l.octets l.used l.value
 
 abbrev pub decreases-loop-used : goal.decreases-loop-used
 decreases-loop-used l = length l.octets - l.used

@@ -12,7 +12,7 @@ use Rattle.ion_scalar.specs.binary.Fields.{positional}
 use Rattle.ion_scalar.specs.text.Ints.{IsDigits, digits_in, number, continued, IsWholePart, BeginsWithMinus, minus}
 use Rattle.ion_scalar.specs.text.Decimals.{signed, IsPlain, IsEnd, IsExponent, IsTail, IsDecimalBody}
 use Rattle.ion_scalar.specs.text.Numbers.{IsBehind, Fits, ReadsBehind, ReadsNumeral, decimal_read}
-use Rattle.ion_scalar.specs.text.laws.DigitRuns.{Place, run_step, continued_more}
+use Rattle.ion_scalar.specs.text.laws.DigitRuns.{Place, run_step, not_mark, continued_more}
 use Rattle.ion_scalar.specs.text.laws.DecimalTails.{fraction_is}
 use Rattle.ion_scalar.specs.text.laws.DecimalCuts.{continued_number}
 use Rattle.ion_scalar.specs.text.laws.Unsigned.{continued_none, token_answer}
@@ -95,6 +95,28 @@ marked_more base os used at value some few place h small run =
       counts = ap (λ n. n * base + d) run.counts ∙ sym (ap (positional base) s.1 ∙ positional_push base (digits_in (take used os)) d);
       room = room_more base value d (length os - (at + 1)) _ small (rw left at room);
     }
+
+-- a hexadecimal digit more
+pub hexadecimal_more : (os : List ℕ) (used value d : ℕ) → used < length os → d ≡ digit_value (get_or os used 0) → d < 16 → MarkedRun 16 os used value
+    → MarkedRun 16 os (used + 1) (value * 16 + d)
+hexadecimal_more os used value d h e few run =
+    let c = get_or os used 0 in
+    let small : digit_value c < 16 = omega (arith, e) in
+    let P : ℕ → Type 0 = λ n. MarkedRun 16 os (used + 1) (value * 16 + n) in
+    subst P (sym e) (marked_more 16 os used used value (omega arith) (omega arith) (inl (refl, λ _ _. not_mark 16 c (omega arith) small)) h small run)
+
+-- so few digits make a number that 64 bits hold
+pub room_decimal : (os : List ℕ) (used value : ℕ) → length os ≤ 19 → MarkedRun 10 os used value → value < 2 ^ 64
+room_decimal os used value few run =
+    let most : 10 ^ length os ≤ 10 ^ 19 = pow-le-pow_right (omega arith) few in
+    let small = below_room 10 value (length os - used) _ (omega arith) run.room in
+    omega arith
+
+pub room_hexadecimal : (os : List ℕ) (used value : ℕ) → length os ≤ 16 → MarkedRun 16 os used value → value < 2 ^ 64
+room_hexadecimal os used value few run =
+    let most : 16 ^ length os ≤ 16 ^ 16 = pow-le-pow_right (omega arith) few in
+    let small = below_room 16 value (length os - used) _ (omega arith) run.room in
+    omega arith
 
 -- a run that is all of the octets
 pub marked_end : (base : ℕ) (os : List ℕ) (used value : ℕ) → MarkedRun base os used value → length os ≤ used → 0 < length os → IsDigits base os

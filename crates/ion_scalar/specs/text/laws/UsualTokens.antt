@@ -1,5 +1,5 @@
 -- Timestamps of usual forms, read from their tokens.
-use Rattle.std.proofs.Common.{◌≡◌, ℕ, ◌+◌, ◌<◌, ◌≤◌, ◌-◌, ◌*◌, ◌^◌, ◌==◌, if◌then◌else◌, true, false, inl, inr, List, [], ◌∷◌, length, take, drop, min, get_or, ℤ, pos, neg_ℤ, ◌-ℤ◌, refl, sym, ap, subst, ◌∙◌, arith, Option, Some, None, IfSome, SomeIff}
+use Rattle.std.proofs.Common.{◌≡◌, ℕ, ◌+◌, ◌<◌, ◌≤◌, ◌-◌, ◌*◌, ◌^◌, ◌==◌, if◌then◌else◌, true, false, ◌⊎◌, inl, inr, List, [], ◌∷◌, length, take, drop, min, get_or, ℤ, pos, neg_ℤ, ◌-ℤ◌, refl, sym, ap, subst, ◌∙◌, arith, Option, Some, None, IfSome, SomeIff}
 use Rattle.std.proofs.lemmas.Bool.{eq-eqb, ne_eqb}
 use Rattle.std.proofs.lemmas.List.{drop_more, drop_all}
 use Rattle.std.proofs.lemmas.Int.{ints}
@@ -11,7 +11,7 @@ use Rattle.ion_atoms.specs.declared.timestamp.Precision.{Precision}
 use Rattle.ion_atoms.specs.declared.timestamp.Precision.TheVariants as precisions
 use Rattle.ion_atoms.specs.laws.Calendar.{minute-in_years}
 use Rattle.ion_atoms.specs.Timestamps.{TimestampParts, IsTimestamp, IsTime, IsCut, IsOffset, HasOffset, minutes_ahead, precision_rank, local_date, local_minute}
-use Rattle.ion_scalar.specs.text.Timestamps.{AreTwoAt, two, four, BeginsWithDay, BeginsWithMinute, IsOffsetToken, offset_read, minute_read, dated, timed, IsTimestampToken, offset_minutes, year, month, day, minute, second, fraction, IsShort, stamp}
+use Rattle.ion_scalar.specs.text.Timestamps.{IsAt, AreTwoAt, two, four, BeginsWithDay, BeginsWithMinute, IsOffsetToken, offset_read, minute_read, dated, timed, IsTimestampToken, offset_minutes, year, month, day, minute, second, fraction, IsShort, stamp}
 use Rattle.ion_scalar.specs.text.Ints.{IsDigits, continued}
 use Rattle.ion_scalar.specs.text.laws.TimestampForms.{ShownEnd, end_some, number_small, short_parts, made}
 use Rattle.ion_scalar.specs.text.laws.ShortNumbers.{PlainRun, below_room}
@@ -33,11 +33,11 @@ there_in_utc l p o date time cut offset utc =
     }
 
 -- a token of a day, and the parts that it spells
-pub day_spelled : (os : List ℕ) (l : Local) (t : TimestampParts) → length os ≡ 10 → BeginsWithDay os
+pub day_spelled : (os : List ℕ) (l : Local) (t : TimestampParts) → (length os ≡ 10) ⊎ ((length os ≡ 11) × IsAt os 10 84) → BeginsWithDay os
     → l ≡ (dated precisions.Day (four os 0) (two os 5) (two os 8)).local → t ≡ record { local = l; precision = precisions.Day; offset = None }
     → IsTimestampToken os t
 day_spelled os l t long is same e =
-    subst (IsTimestampToken os) (sym (e ∙ (λ i. record { local = same i; precision = precisions.Day; offset = None }))) (day (is, inl long))
+    subst (IsTimestampToken os) (sym (e ∙ (λ i. record { local = same i; precision = precisions.Day; offset = None }))) (day (is, long))
 
 -- `Z` alone is the offset of UTC
 z_alone : (os : List ℕ) (at : ℕ) → length os ≡ at + 1 → get_or os at 0 ≡ 90 → IsOffsetToken (drop at os) × (offset_read (drop at os) ≡ Some (pos 0))
