@@ -3,7 +3,7 @@ use Rattle.std.proofs.Common.{◌≡◌, ℕ, zero, suc, ◌<◌, Bool, true, fa
 use Rattle.std.specs.Prelude.{◌&&◌}
 use Rattle.std.proofs.lemmas.Bool.{cases_order}
 
-both : (b c : Bool) → T (b && c) → T b × T c
+pub both : (b c : Bool) → T (b && c) → T b × T c
 both true c h = (tt, h)
 both false c h = absurd h
 

@@ -58,12 +58,14 @@ white_adds octets kept n e =
     let all = white_in (take n octets) (front_each is_white octets n e) in
     (all.0, sym (append-nil kept) ∙ ap (λ l. kept ++ l) (sym all.1))
 
--- base64 is kept as it is
+-- base64 without white space is kept as it is
+pub solid_adds : (octets kept : List ℕ) → Each is_base64 octets → AddsBase64 octets kept (kept ++ octets)
+solid_adds octets kept h = let all = base64_in octets h in (all.0, ap (λ l. kept ++ l) (sym all.1))
+
+-- so is that at the front
 pub base64_adds : (octets kept kept' : List ℕ) (n : ℕ) → n ≡ length (take_while is_base64 octets) → kept' ≡ kept ++ take n octets
     → AddsBase64 (take n octets) kept kept'
-base64_adds octets kept kept' n e is =
-    let all = base64_in (take n octets) (front_each is_base64 octets n e) in
-    (all.0, is ∙ ap (λ l. kept ++ l) (sym all.1))
+base64_adds octets kept kept' n e is = subst (AddsBase64 (take n octets) kept) (sym is) (solid_adds (take n octets) kept (front_each is_base64 octets n e))
 
 -- more content behind some
 pub adds_then : (octets rest kept kept' kept'' : List ℕ) (at n : ℕ) → rest ≡ drop at octets → AddsBase64 (take at octets) kept kept'

@@ -16,7 +16,7 @@ use Rattle.ion_tokens.specs.declared.mode.Keep.TheVariants as keeps
 use Rattle.ion_tokens.specs.declared.mode.Action.{Action}
 use Rattle.ion_tokens.specs.declared.mode.Action.TheVariants as actions
 use Rattle.ion_tokens.specs.Lexemes.{Each}
-use Rattle.ion_tokens.specs.laws.Each.{each_append}
+use Rattle.ion_tokens.specs.laws.Each.{each_append, each_split}
 use Rattle.ion_tokens.specs.machine.Table.{in_text, stands, is_long, is_clob, quote_of}
 use Rattle.ion_tokens.specs.machine.AtOnce.{is_plain, is_raw, goes_on, AreKept, GoesOver}
 use Rattle.ion_tokens.proofs.texts.Encodings.{encoding, order, one}
@@ -78,10 +78,6 @@ behind_kept s long quote octets rest ascii k e text l q h raw utf8 =
     (subst (λ b. Each (is_raw b (quote_of s)) (take k rest)) l (subst (λ (n : ℕ). Each (is_raw long n) (take k rest)) q raw)) utf8)
 
 -- Octets that are kept lead to the text's state between two characters.
-
-each_split : (class : ℕ → Bool) (xs ys : List ℕ) → Each class (xs ++ ys) → Each class xs × Each class ys
-each_split class [] ys h = (tt, h)
-each_split class (x ∷ xs) ys h = let rest = each_split class xs ys h.1 in ((h.0, rest.0), rest.1)
 
 -- what the table says of a plain character
 no_return : (long : Bool) (o : ℕ) → (stands o || (long && (o == 10))) ≡ true → (long && (o == 13)) ≡ false

@@ -8,6 +8,11 @@ pub each_append : (class : ℕ → Bool) (xs ys : List ℕ) → Each class xs �
 each_append class [] ys h k = k
 each_append class (x ∷ xs) ys h k = (h.0, each_append class xs ys h.1 k)
 
+-- and the other way round
+pub each_split : (class : ℕ → Bool) (xs ys : List ℕ) → Each class (xs ++ ys) → Each class xs × Each class ys
+each_split class [] ys h = (tt, h)
+each_split class (x ∷ xs) ys h = let rest = each_split class xs ys h.1 in ((h.0, rest.0), rest.1)
+
 -- one more octet of the class behind such octets
 pub each_last : (class : ℕ → Bool) (os : List ℕ) (o : ℕ) → Each class os → class o ≡ true → Each class (os ++ o ∷ [])
 each_last class [] o h e = (e, tt)

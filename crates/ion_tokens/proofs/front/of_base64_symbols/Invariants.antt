@@ -1,0 +1,10 @@
+use Rattle.std.proofs.Common.{◌-◌, length}
+use Rattle.ion_tokens.specs.Octets.{is_base64_symbol}
+use Rattle.ion_tokens.proofs.masks.LaneRuns.{GoesOnTo}
+use Rattle.ion_tokens.proofs.front.of_base64_symbols.Given as goal
+
+abbrev pub invariant-loop-at : goal.invariant-loop-at
+invariant-loop-at l = GoesOnTo is_base64_symbol l.octets l.at
+
+abbrev pub decreases-loop-at : goal.decreases-loop-at
+decreases-loop-at l = length l.octets - l.at
