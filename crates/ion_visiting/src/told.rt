@@ -18,8 +18,7 @@ pub trait TextVisitor {
     /// From which state to which it gets by what it takes.
     ghost visits: { Visits Self Self.Mark };
 
-    /// Whether it takes each part whatever it says, and stays as it is: parts needn't be read for
-    /// it.
+    /// Whether it takes every part, whatever it says, and stays as it is: then none is read for it.
     fn heeds_nothing(&self) -> bool
         ensures { result ≡ true →
             (payload : Payload) → visits.takes self.now (part payload) self.now }
