@@ -1,5 +1,5 @@
 -- Values that are gone over, and their visitor.
-use Rattle.std.proofs.Common.{◌≡◌, ℕ, ◌+◌, ◌-◌, ◌<◌, ◌≤◌, Bool, get_or, List, [], ◌∷◌, length, drop, Option, Some, None, IfSome, refl, sym, subst, ◌∙◌, arith, length-append, false}
+use Rattle.std.proofs.Common.{◌≡◌, ℕ, ◌+◌, ◌-◌, ◌<◌, ◌≤◌, min, Bool, get_or, List, [], ◌∷◌, length, drop, Option, Some, None, IfSome, refl, sym, subst, ◌∙◌, arith, length-append, false}
 use Rattle.ion_atoms.specs.declared.kind.Kind.{Kind}
 use Rattle.ion_model.specs.declared.value.Field.{Field}
 use Rattle.ion_model.specs.declared.value.Value.{Value}
@@ -12,14 +12,15 @@ use Rattle.ion_tokens.specs.declared.mode.Place.{Place}
 use Rattle.ion_tokens.specs.declared.mode.Place.TheVariants as places
 use Rattle.ion_tokens.specs.declared.plain_tokens.Rest.{Rest}
 use Rattle.ion_tokens.specs.Places.{is_name}
+use Rattle.ion_tokens.specs.machine.Rests.{past_blank, past_token}
 use Rattle.ion_visiting.specs.Visits.{IsPart, Visits, part, annotation, name, bare_visited, annotated_visited, Visited, VisitedPayload, in_one, in_list, in_sexp, in_struct, VisitedItems, VisitedFields, no_annotations, one_annotation}
 use Rattle.ion_text.specs.declared.reader.finders.Scalar.{Scalar}
 use Rattle.ion_text.specs.declared.reader.walks.Tally.{Tally}
 use Rattle.ion_text.specs.machine.Nested.{OpensAt}
-use Rattle.ion_text.specs.machine.Walked.{IsFlat, FoundLeft, behind_open, behind_close, Walked, WalkedName, WalkedNote, WalkedBare}
+use Rattle.ion_text.specs.machine.Walked.{most, IsFlat, FoundLeft, LeadsBehind, behind_open, behind_close, Walked, WalkedName, WalkedNote, WalkedBare}
 use Rattle.ion_text.specs.visiting.Walks.{FoundPart, VisitedValue, VisitedItem, VisitedContainer, VisitedInside, VisitedName, VisitedNotes, VisitedLeft, VisitedBare, VisitedTop}
-use Rattle.ion_text.proofs.Tops.{item_annotated, notes_none, notes_on, walked_bare, walked_top}
-use Rattle.ion_text.proofs.Walking.{ListGone, SexpGone, FieldsGone, item_bare, walked_container, list_inside, sexp_inside, fields_inside, inside_by}
+use Rattle.ion_text.proofs.Tops.{bare_scalar, item_annotated, notes_none, notes_on, walked_bare, walked_top}
+use Rattle.ion_text.proofs.Walking.{ListGone, SexpGone, FieldsGone, found_within, item_bare, scalar_leads, walked_container, walked_scalar, list_inside, sexp_inside, fields_inside, inside_by}
 
 module _ {S M : Type 0} (h : Visits S M) where
   -- a value of one token
@@ -36,6 +37,26 @@ module _ {S M : Type 0} (h : Visits S M) where
   scalar_visited p r octets s q f level n total before after a b e w t =
       subst (λ k. VisitedValue h p level octets k before after a b) (sym e)
       (record { walked = w.0; visited = part_visited p r octets s q f w.0.payload a b w.1 t })
+
+  -- so it is where it is a value at once, and is passed
+  pub scalar_passed : (p : Place) (octets : List ℕ) (s : Scalar) (q : Payload) (level total : ℕ) (before after : Tally) (a b : S)
+      → FoundPart p before.rest octets s q → s.waits ≡ false → before.level ≤ level → total ≡ s.token.count + 0
+      → after ≡ record {
+        kind = s.kind;
+        level = before.level;
+        nodes = min (before.nodes + 1) most;
+        rest = past_blank (past_token p before.rest s.token.kind s.token.count) 0;
+      } → h.takes a (part q) b → VisitedValue h p level octets total before after a b
+  scalar_passed p octets s q level total before after a b f ends low sum e t =
+      let rest = before.rest in
+      let found = f.token in
+      let inside = found_within p rest octets s.token.kind found.kept s.token.count s.token.left found.found in
+      let within : s.token.count + 0 ≤ length octets = omega arith in
+      let none : s.token.count ≡ s.token.count + 0 = omega arith in
+      scalar_visited p rest octets s q f level (s.token.count + 0) total before after a b sum
+      (walked_scalar p level rest octets s found before after 0 low refl within
+      (subst (λ k. LeadsBehind p level rest octets k (past_token p rest s.token.kind s.token.count) found.payload) none
+      (scalar_leads p level rest octets s found ends)) e) t
 
   -- a long string is visited where the visitor takes its text
   pub long_visited : (p : Place) (level : ℕ) (octets : List ℕ) (count : ℕ) (before after : Tally) (text : List ℕ) (a b : S)
@@ -56,6 +77,20 @@ module _ {S M : Type 0} (h : Visits S M) where
   bare_scalar_visited p r octets s q f level n total before after a b e w t =
       subst (λ k. VisitedBare h level octets k before after a b) (sym e)
       (record { walked = w.0; visited = part_visited p r octets s q f w.0.payload a b w.1 t })
+
+  -- so it is where it is a value at once, ends with its own last octet, and is passed
+  pub bare_passed : (octets : List ℕ) (s : Scalar) (q : Payload) (level total : ℕ) (before after : Tally) (a b : S)
+      → FoundPart places.Top before.rest octets s q → s.waits ≡ false → s.token.left ≡ false → before.level ≤ level → total ≡ s.token.count + 0
+      → after ≡ record {
+        kind = s.kind;
+        level = before.level;
+        nodes = min (before.nodes + 1) most;
+        rest = past_blank (past_token places.Top before.rest s.token.kind s.token.count) 0;
+      } → h.takes a (part q) b → VisitedBare h level octets total before after a b
+  bare_passed octets s q level total before after a b f ends given low sum e t =
+      let none : s.token.count + 0 ≡ s.token.count = omega arith in
+      bare_scalar_visited places.Top before.rest octets s q f level s.token.count total before after a b (sum ∙ none)
+      (bare_scalar level octets s before after f.token ends given low e) t
 
   -- a number, a symbol or a long string of the top level is visited where the visitor takes its part
   pub left_visited : (octets : List ℕ) (count : ℕ) (before after : Rest) (q : Payload) (k : Kind) (a b : S) → FoundLeft octets count before after q → IsFlat q k

@@ -1,6 +1,7 @@
 //! Tokens at the front of octets that are a value or a field's name, with what they say. Of a token
 //! that isn't whole, isn't plain or may be a symbol's id nothing is found.
 ghost use Rattle.std.specs.Prelude.{◌≡◌, ◌<◌, false, true, length, take, IfSome, Ok, Some};
+ghost use Rattle.ion_model.specs.declared.value.Payload.{Payload};
 ghost use Rattle.ion_tokens.specs.Bodies.{content, Number'};
 ghost use Rattle.ion_tokens.specs.machine.Said.{said};
 ghost use Rattle.ion_tokens.specs.Places.{is_name};
@@ -9,6 +10,7 @@ ghost use Rattle.ion_text.specs.machine.FrontTokens.{BeginsName, IsValue};
 ghost use Rattle.ion_text.specs.machine.EachToken.{held_word, held_payload};
 ghost use Rattle.ion_visiting.specs.Parts.{number_payload, payload_of};
 ghost use Rattle.ion_text.specs.machine.Walked.{IsFlat};
+ghost use Rattle.ion_visiting.specs.Visits.{part};
 ghost use Rattle.ion_text.specs.visiting.Walks.{FoundPart, FoundNumber, FoundSymbol};
 
 use super::symbols::plain_text;
@@ -16,9 +18,10 @@ use crate::words::{is_keyword, may_be_keyword};
 use ion_model::Kind;
 use ion_scalar::{Number, number_of};
 use ion_tokens::{
-    Body, FoundToken, Place, TokenKind, number, operator, quoted_symbol, short_string, typed_null, word,
+    Body, FoundToken, Place, TokenKind, judged_blob, number, operator, quoted_symbol, short_string,
+    typed_null, word,
 };
-use ion_visiting::Part;
+use ion_visiting::{Part, TextVisitor};
 
 /// A token that is a value without others in it.
 #[derive(Clone, Copy)]
@@ -200,6 +203,33 @@ pub(super) fn rare_part<'b>(body: &'b Body<'_>) -> Option<(Kind, bool, Part<'b>)
         Body::Blob(octets) => Some((Kind::Blob, false, Part::Blob(octets.as_slice()))),
         _ => None,
     }
+}
+
+/// The blob there as a value, for a visitor that heeds no part: its base64 is judged and not
+/// decoded. None where white space stands in it.
+#[inline(always)]
+pub(super) fn unheeded_blob<T: TextVisitor>(octets: &[u8], visitor: &T) -> Option<Scalar>
+    ensures found { IfSome result (λ scalar. (payload : Payload)
+        × T.visits.takes visitor.now (part payload) visitor.now
+        × ((here : Place) (rest : Rest) → is_name here ≡ false →
+        FoundPart here rest octets.now scalar payload)) }
+    ensures waits { IfSome result (λ scalar. scalar.waits ≡ false) }
+    ensures given { IfSome result (λ scalar. scalar.token.left ≡ false) }
+{
+    if !visitor.heeds_nothing() {
+        return None;
+    }
+    let count = judged_blob(octets)?;
+    let token = FoundToken {
+        kind: TokenKind::Blob,
+        count,
+        left: false,
+    };
+    Some(Scalar {
+        token,
+        kind: Kind::Blob,
+        waits: false,
+    })
 }
 
 /// The operator there, where an s-expression is open.

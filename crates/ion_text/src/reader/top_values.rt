@@ -7,7 +7,7 @@ ghost use Rattle.ion_visiting.specs.Parts.{payload_of};
 ghost use Rattle.ion_text.specs.visiting.Walks.{FoundPart, VisitedBare, VisitedTop};
 
 use super::annotations::walk_notes;
-use super::finders::{Scalar, rare_part, string_at};
+use super::finders::{Scalar, rare_part, string_at, unheeded_blob};
 use super::nested_containers::bracket_at;
 use super::walks::{Tally, walk_container};
 use ion_tokens::{Place, TokenReader};
@@ -61,6 +61,9 @@ fn walk_rare_given<T: TextVisitor>(
 {
     if !may_be_given(octets) {
         return None;
+    }
+    if let Some(scalar) = unheeded_blob(octets, visitor) {
+        return Some(tally.pass_scalar(Place::Top, scalar, 0));
     }
     let token = beside.token(Place::Top, tally.rest, octets)?;
     let Ok(body) = beside.body(token.kind) else {

@@ -20,7 +20,7 @@ use super::annotations::walk_notes;
 use super::escaped_tokens::may_be_rare;
 use super::finders::{
     Scalar, begins_number, begins_symbol, number_at, number_kind, operator_at, plain_at,
-    plain_name, rare_part, symbol_at,
+    plain_name, rare_part, symbol_at, unheeded_blob,
 };
 use super::long_strings::walk_long;
 use super::nested_containers::{bracket_at, close_mark, open_mark};
@@ -223,6 +223,7 @@ fn walk_rare<T: TextVisitor>(
     tally: &mut Tally,
     visitor: &mut T,
 ) -> Option<usize>
+    requires value { is_name here ≡ false }
     requires low { tally.old.level ≤ level }
     requires room { tally.old.rest.used + length octets.now < 2 ^ 63 }
     ensures { IfSome result (λ count. VisitedValue T.visits here level octets.now count
@@ -233,6 +234,9 @@ fn walk_rare<T: TextVisitor>(
     }
     if !may_be_rare(octets) {
         return walk_long(beside, here, octets, level, tally, visitor);
+    }
+    if let Some(scalar) = unheeded_blob(octets, visitor) {
+        return Some(tally.pass_scalar(here, scalar, 0));
     }
     let token = beside.token(here, tally.rest, octets)?;
     let Ok(body) = beside.body(token.kind) else {

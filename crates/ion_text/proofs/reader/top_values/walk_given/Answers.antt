@@ -1,8 +1,7 @@
-use Rattle.std.proofs.Common.{◌≡◌, ◌+◌, ◌∙◌, arith}
+use Rattle.std.proofs.Common.{arith}
 use Rattle.ion_tokens.specs.declared.mode.Place.TheVariants as places
 use Rattle.ion_visiting.specs.Parts.{payload_of}
-use Rattle.ion_text.proofs.Tops.{bare_scalar}
-use Rattle.ion_text.proofs.Visited.{bare_scalar_visited}
+use Rattle.ion_text.proofs.Visited.{bare_passed}
 use Rattle.ion_text.proofs.Walking.{found_within}
 use Rattle.ion_text.proofs.reader.top_values.walk_given.Goals as goal
 
@@ -17,12 +16,6 @@ pass_scalar-requires g c =
 
 pub returns : goal.returns
 returns g c =
-    let octets = c.args.octets.now in
-    let s = c.args.scalar in
-    let none : s.token.count + 0 ≡ s.token.count = omega arith in
-    let found = c.requires.found in
-    bare_scalar_visited g.T.TextVisitor.visits places.Top c.args.tally.now.rest octets s (payload_of c.args.said.now) found c.args.level s.token.count
-    c.pass_scalar.result c.args.tally.now c.pass_scalar.new.self _ _ (c.pass_scalar.ensures.total ∙ none)
-    (bare_scalar c.args.level octets s c.args.tally.now c.pass_scalar.new.self found.token c.requires.waits c.requires.given
-    c.requires.low c.pass_scalar.ensures.noted)
+    bare_passed g.T.TextVisitor.visits c.args.octets.now c.args.scalar (payload_of c.args.said.now) c.args.level c.pass_scalar.result c.args.tally.now
+    c.pass_scalar.new.self _ _ c.requires.found c.requires.waits c.requires.given c.requires.low c.pass_scalar.ensures.total c.pass_scalar.ensures.noted
     (c.part.ensures c.if-not-part.false)
