@@ -159,10 +159,10 @@ fn with_short_fraction(local: Local, octets: &[u8]) -> Option<Stamp>
 fn usual_parts(spelled: Stamp) -> Option<Timestamp>
     requires { (os : List ℕ) × (t : TimestampParts) × IsTimestampToken os t × (spelled ≡ stamp t) }
     ensures { let parts : TimestampParts = record {
-          local = spelled.local;
-          precision = spelled.precision;
-          offset = spelled.offset;
-        } in
+      local = spelled.local;
+      precision = spelled.precision;
+      offset = spelled.offset;
+    } in
         IfSome result (λ t. IsShort spelled.precision × IsTimestamp parts × (t ≡ parts)) }
 {
     if !is_short(spelled.precision) || !is_usual(spelled.local) {
