@@ -1,6 +1,6 @@
 -- The same octets do the same further on in a document: how many octets were used, and where an item began, matters to a run only by how many
 -- lie between.
-use Rattle.std.proofs.Common.{◌≡◌, ℕ, zero, suc, ◌+◌, ◌-◌, ◌^◌, ◌<◌, ◌≤◌, Bool, true, false, List, [], ◌∷◌, length, Option, Some, None, Result, Ok, Err, refl, sym, ap, ◌∙◌, subst, arith, if◌then◌else◌}
+use Rattle.std.proofs.Common.{◌≡◌, ℕ, zero, suc, ◌+◌, ◌^◌, ◌<◌, ◌≤◌, Bool, true, false, List, [], ◌∷◌, length, Option, Some, None, Result, Ok, Err, refl, sym, ap, ◌∙◌, subst, arith, if◌then◌else◌}
 use Rattle.std.specs.Prelude.{nat_le, ◌==◌, ◌&&◌, not, codes, bytes_eq}
 use Rattle.ion_model.specs.declared.value.Value.{Value}
 use Rattle.ion_atoms.specs.declared.refusal.Reason.{Reason}
@@ -9,7 +9,6 @@ use Rattle.ion_atoms.specs.declared.refusal.Reason.TheVariants as reasons
 use Rattle.ion_symtab.specs.declared.limits.Limits.{Limits}
 use Rattle.ion_symtab.specs.declared.catalog.Catalog.{Catalog}
 use Rattle.ion_symtab.specs.Slots.{Slot}
-use Rattle.ion_symtab.specs.Next.{next}
 use Rattle.ion_tokens.specs.declared.mode.Place.{Place}
 use Rattle.ion_tokens.specs.declared.mode.Action.{Action}
 use Rattle.ion_tokens.specs.declared.mode.Action.TheVariants as actions
@@ -22,11 +21,11 @@ use Rattle.ion_tokens.specs.machine.Table as table
 use Rattle.ion_tokens.specs.machine.Rests.{resting}
 use Rattle.ion_tokens.specs.machine.Scanning.{Known, Outcome, Next, Given, Left, Refused, feed, acts, go_to, cut, past, blob_ends}
 use Rattle.ion_tokens.specs.Blobs.{blob_of}
-use Rattle.ion_tokens.specs.Bodies.{Content, Word}
+use Rattle.ion_tokens.specs.Bodies.{Content}
 use Rattle.ion_tokens.specs.machine.Said.{said}
 use Rattle.ion_tokens.proofs.bounds.Steady.{feed_steady}
 use Rattle.ion_text.specs.declared.state.Now.TheVariants as nows
-use Rattle.ion_text.specs.machine.EachToken.{Reading, Turn, goes, gives, refuses, late, at, place, settle, within, ended, turn}
+use Rattle.ion_text.specs.machine.EachToken.{Reading, Turn, goes, gives, refuses, late, at, place, settle, turn}
 use Rattle.ion_text.specs.machine.Run.{State, Effect, uses, tells, leaves, fails, unsettled, shut, reaches, noticed, or_worse, with_scan, with_value, once_more, failed_at, token_of, behind_given, behind_left, on_said, on_scan, on_settled, on_octet, takes, eats, Run, run_on, run}
 use Rattle.ion_text.specs.machine.Pieces.{led}
 use Rattle.ion_text.specs.machine.Walked.{rested}

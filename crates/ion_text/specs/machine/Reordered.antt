@@ -1,10 +1,9 @@
 -- What is found of two structs of the top level whose fields are the same in some order.
-use Rattle.std.specs.Prelude.{◌≡◌, ◌+◌, ◌-◌, ◌≤◌, ◌<◌, ◌^◌, ℕ, true, false, List, [], ◌∷◌, length, drop, slice_get, Some, Ok}
+use Rattle.std.specs.Prelude.{◌≡◌, ◌+◌, ◌≤◌, ◌<◌, ◌^◌, ℕ, true, false, List, [], ◌∷◌, length, drop, slice_get, Some, Ok}
 use Rattle.std.proofs.Common.{arith}
 use Rattle.ion_model.specs.declared.value.Field.{Field}
 use Rattle.ion_model.specs.declared.value.Payload.{Payload}
 use Rattle.ion_model.specs.declared.value.Payload.TheVariants as payloads
-use Rattle.ion_model.specs.declared.value.Value.{Value}
 use Rattle.ion_model.specs.Measures.{bare, field_of}
 use Rattle.ion_model.specs.Same.{same, fields_same}
 use Rattle.ion_scalar.specs.declared.number.Number.{Number}

@@ -1,4 +1,4 @@
-use Rattle.std.proofs.Common.{◌∙◌, refl, string_bytes, subst}
+use Rattle.std.proofs.Common.{◌∙◌, refl, subst}
 use Rattle.ion_model.specs.declared.value.Payload.TheVariants as payloads
 use Rattle.ion_visiting.specs.Visits.{part}
 use Rattle.ion_text.proofs.TopLeft.{found_long}

@@ -1,4 +1,4 @@
-use Rattle.std.proofs.Common.{◌-◌, ◌++◌, ◌∙◌, refl, sym, ap, length, take, drop, string_bytes, []}
+use Rattle.std.proofs.Common.{◌-◌, ◌++◌, ◌∙◌, refl, sym, ap, length, take, drop, []}
 use Rattle.std.proofs.lemmas.List.{take_rest}
 use Rattle.ion_text.proofs.LongStrings.{first_segment, more_segments}
 use Rattle.ion_text.proofs.reader.long_strings.join_segments.Goals as goal

@@ -1,6 +1,4 @@
-use Rattle.std.proofs.Common.{refl, subst, sym, ◌∙◌}
 use Rattle.ion_model.specs.declared.value.Payload.TheVariants as payloads
-use Rattle.ion_text.specs.machine.LongStrings.{LongThere}
 use Rattle.ion_text.proofs.LongStrings.{walked_long}
 use Rattle.ion_text.proofs.Visited.{long_visited}
 use Rattle.ion_text.proofs.reader.long_strings.walk_joined.Goals as goal

@@ -1,4 +1,4 @@
-use Rattle.std.proofs.Common.{◌≡◌, ◌≤◌, length, List}
+use Rattle.std.proofs.Common.{◌≡◌, length, List}
 use Rattle.ion_model.specs.declared.value.Field.{Field}
 use Rattle.ion_text.specs.machine.Reordered.{AreSlots}
 use Rattle.ion_text.proofs.Walking.{FieldsGone}

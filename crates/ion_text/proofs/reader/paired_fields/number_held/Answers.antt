@@ -1,4 +1,4 @@
-use Rattle.std.proofs.Common.{◌≡◌, ◌+◌, ◌≤◌, false, length, take, refl, ap, sym, ◌∙◌, subst, arith}
+use Rattle.std.proofs.Common.{◌≡◌, ◌+◌, ◌≤◌, false, length, refl, sym, subst, arith}
 use Rattle.ion_tokens.specs.Bodies.{Number'}
 use Rattle.ion_tokens.specs.declared.mode.Place.TheVariants as places
 use Rattle.ion_tokens.specs.machine.Rests.{past_token}

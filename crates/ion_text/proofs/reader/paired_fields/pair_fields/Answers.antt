@@ -1,6 +1,5 @@
-use Rattle.std.proofs.Common.{◌-◌, ◌+◌, ◌≡◌, ◌<◌, [], ◌∷◌, ◌++◌, length, length-append, length-set, take, drop, map, sum, refl, false, subst, sym, ap, ◌∙◌, arith}
+use Rattle.std.proofs.Common.{◌-◌, ◌+◌, ◌≡◌, [], ◌∷◌, ◌++◌, length, length-append, length-set, take, drop, map, sum, refl, subst, ◌∙◌, arith}
 use Rattle.std.proofs.lemmas.List.{take_rest}
-use Rattle.ion_model.specs.declared.value.Field.{Field}
 use Rattle.ion_model.specs.Measures.{field_of}
 use Rattle.ion_visiting.specs.declared.bracket.Bracket.TheVariants as brackets
 use Rattle.ion_text.specs.laws.reading.complete.Complete.{field_depths}

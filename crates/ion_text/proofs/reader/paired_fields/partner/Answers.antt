@@ -1,5 +1,4 @@
 use Rattle.ion_text.proofs.Reordered.{partner_found}
-use Rattle.std.proofs.Common.{refl}
 use Rattle.ion_text.proofs.reader.paired_fields.partner.Goals as goal
 
 pub returns-then-are_alike : goal.returns-then-are_alike
