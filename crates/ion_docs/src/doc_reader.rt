@@ -1,5 +1,5 @@
 //! The reader that the first octet chooses.
-ghost use Rattle.std.specs.Prelude.{◌≡◌, ℕ, ◌+◌, ◌^◌, ◌<◌, List, ◌++◌, length, take, IfOk, IfErr, IfSome, IsNone};
+ghost use Rattle.std.specs.Prelude.{◌≡◌, ℕ, ◌+◌, ◌^◌, ◌<◌, List, ◌∷◌, ◌++◌, length, take, Option, Result, IfOk, IfErr, IfSome, IsNone, option_map};
 ghost use Rattle.ion_symtab.specs.Trace.{Answers, given_at};
 ghost use Rattle.ion_symtab.specs.Steps.{StepsOver, RefusesBy};
 ghost use Rattle.ion_symtab.specs.IsNew.{IsNew};
@@ -8,6 +8,7 @@ ghost use Rattle.ion_docs.specs.reading.DocStands.{DocStands, taken_of};
 ghost use Rattle.ion_atoms.specs.declared.refusal.Reason.TheVariants.{Memory};
 ghost use Rattle.ion_model.specs.declared.value.Value.{Value as AnyValue};
 ghost use Rattle.ion_model.specs.Kept.{IsKept};
+ghost use Rattle.ion_model.specs.Outlines.{outline_of};
 ghost use Rattle.ion_binary.specs.Carrying.{WritesValue};
 ghost use Rattle.ion_text.specs.Carrying.{WritesValue as WritesText};
 ghost use Rattle.ion_symtab.specs.TookUp.{TookUp};
@@ -123,6 +124,42 @@ impl<'a> DocReader<'a> {
                     result
                 }
             },
+        }
+    }
+}
+
+impl<'a> DocReader<'a> {
+    /// What `pass` answers where no octet has come or memory was refused before. As `begin`, it
+    /// stands by itself for the sake of the room.
+    #[inline(never)]
+    fn pass_begun(&mut self, piece: &[u8]) -> Result<Passed, Refusal>
+        requires room { let D = ⟦<DocReader<'a> as Items>⟧ in
+            IsNone (D.failed self.old) → D.taken self.old + length piece.now < 2 ^ 63 }
+        requires begins { let D = ⟦<DocReader<'a> as Items>⟧ in
+            IfSome (D.awaits self.old) (λ octet.
+            (rest : List ℕ) × (piece.now ≡ octet ∷ rest)) }
+        ensures setting { (self.new.catalog.now ≡ self.old.catalog.now)
+            × (self.new.limits ≡ self.old.limits) }
+        ensures leaves { let D = ⟦<DocReader<'a> as Items>⟧ in
+            IfOk result (λ passed. StepsOver D.taken D.pending D.awaits D.failed
+            self.old self.new piece.now passed.used passed.outline) }
+        ensures stands { IfOk result (λ passed. (u : List ℕ) (s : List (AnyValue × ℕ)) →
+            DocStands self.old u s → (value : Option AnyValue)
+            × (option_map outline_of value ≡ passed.outline)
+            × DocStands self.new (u ++ take passed.used piece.now)
+            (s ++ given_at value (length u + passed.used))) }
+        ensures answers { IfErr result (λ refusal. (u : List ℕ) (s : List (AnyValue × ℕ)) →
+            DocStands self.old u s → Answers (chosen self.old.catalog.now self.old.limits)
+            u s piece.now (Result.Err refusal)) }
+        ensures refuses { let D = ⟦<DocReader<'a> as Items>⟧ in
+            IfErr result (RefusesBy D.taken D.pending D.awaits D.failed
+            self.old self.new piece.now) }
+        ensures again { let D = ⟦<DocReader<'a> as Items>⟧ in
+            IfSome (D.failed self.old) (λ refusal. result ≡ Result.Err refusal) }
+    {
+        match self.step(piece) {
+            Err(refusal) => Err(refusal),
+            Ok(step) => Ok(step.passed()),
         }
     }
 }
@@ -266,10 +303,7 @@ impl Items for DocReader<'_> {
         match &mut self.format {
             Format::Binary(reader) => reader.pass(piece),
             Format::Text(reader) => reader.pass(piece),
-            _ => match self.step(piece) {
-                Err(refusal) => Err(refusal),
-                Ok(step) => Ok(step.passed()),
-            },
+            _ => self.pass_begun(piece),
         }
     }
 

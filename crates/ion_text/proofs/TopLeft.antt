@@ -22,7 +22,7 @@ use Rattle.ion_tokens.specs.declared.mode.Place.TheVariants as places
 use Rattle.ion_tokens.specs.declared.plain_tokens.Rest.{Rest}
 use Rattle.ion_tokens.specs.declared.scanner.Scanner.{Scanner}
 use Rattle.ion_tokens.specs.declared.token_reader.FoundToken.{FoundToken}
-use Rattle.ion_tokens.specs.machine.Rests.{resting, past_blank, past_token, lexeme_at, IsFound, IsPassed}
+use Rattle.ion_tokens.specs.machine.Rests.{resting, past_token, lexeme_at, IsFound, RestsBehind}
 use Rattle.ion_tokens.specs.machine.Scanning.{Known, Outcome, feed}
 use Rattle.ion_tokens.specs.machine.Views.{scanned}
 use Rattle.ion_visiting.specs.Parts.{number_payload}
@@ -42,7 +42,7 @@ use Rattle.ion_text.specs.machine.Run.{State, Effect, takes, on_scan, on_said, o
 use Rattle.ion_text.specs.machine.Views.{state_of}
 use Rattle.ion_text.specs.machine.Walked.{rested, FoundScalar, IsFlat, FoundLeft, LeavesTop, WalkedLeft}
 use Rattle.ion_text.specs.visiting.Walks.{FoundNumber, FoundSymbol, ItemAhead}
-use Rattle.ion_text.proofs.Arms.{blank_used, given_found, left_found}
+use Rattle.ion_text.proofs.Arms.{given_found, left_found}
 use Rattle.ion_text.proofs.Passing.{NoticesNothing, blank_quiet, blank_waits}
 use Rattle.ion_text.proofs.Symbols.{ends_waits, held_in, waits_so}
 use Rattle.ion_text.proofs.LongStrings.{long_unsettled}
@@ -175,10 +175,10 @@ released_free setting spot (helds.Null k) e = refl
 released_free setting spot (helds.Truth b) e = refl
 released_free setting spot helds.Nan e = refl
 
--- so does the octet behind a symbol and a blank
-module _ (rest : Rest) (item : List ℕ) (s : Scalar) (q : Payload) (f : FoundSymbol places.Top rest item s q) (m : ℕ)
-    (passed : IsPassed (drop s.token.count item) m) (within : s.token.count + m < length item)
-    (ends : ends_symbol (get_or item (s.token.count + m) 0) ≡ true) (some : 0 < m) where
+-- so does the octet behind a symbol and a blank with comments
+module _ (rest : Rest) (item : List ℕ) (s : Scalar) (q : Payload) (f : FoundSymbol places.Top rest item s q) (m : ℕ) (past_between : Rest)
+    (between : RestsBehind (drop s.token.count item) m (past_token places.Top rest s.token.kind s.token.count) past_between)
+    (within : s.token.count + m < length item) (ends : ends_symbol (get_or item (s.token.count + m) 0) ≡ true) (some : 0 < m) where
   abbrev n : ℕ
   n = s.token.count
 
@@ -187,9 +187,6 @@ module _ (rest : Rest) (item : List ℕ) (s : Scalar) (q : Payload) (f : FoundSy
 
   abbrev past_symbol : Rest
   past_symbol = past_token places.Top rest s.token.kind n
-
-  abbrev past_between : Rest
-  past_between = past_blank past_symbol m
 
   pays : (h : Held) × (held_of p.content ≡ Some h) × (held_payload h ≡ Ok p.payload)
   pays = held_in (held_of p.content) p.payload (subst (λ b. IsValue b p.content p.payload) f.waits p.is)
@@ -240,7 +237,7 @@ module _ (rest : Rest) (item : List ℕ) (s : Scalar) (q : Payload) (f : FoundSy
       blank_ran =
           let size = length-drop n item in
           let few = length-take-le m (drop n item) (omega arith) in
-          let ran = passed (place waiting) past_symbol in
+          let ran = between.ran (place waiting) in
           drive g l (take m (drop n item)) past_symbol.used waiting (resting past_symbol) (resting past_between) ran
           (blank_quiet g l waiting (rest.used + length item) waits (place waiting) (take m (drop n item)) (resting past_symbol) (resting past_between) refl
           refl ran (omega arith))
@@ -256,7 +253,7 @@ module _ (rest : Rest) (item : List ℕ) (s : Scalar) (q : Payload) (f : FoundSy
   pub found_symbol : (FoundLeft item (n + m) rest past_between q) × IsFlat q s.kind
   found_symbol =
       let some = p.found.some in
-      let used = blank_used past_symbol m in (
+      let used = between.used in (
         subst (λ x. FoundLeft item (n + m) rest past_between x) f.part.is
             (record {
               leaves = record { leaves = symbol_leaves; some = omega arith; within = within; used = used ∙ more rest.used n m };

@@ -9,6 +9,7 @@ ghost use Rattle.ion_tokens.specs.machine.Rests.{past_comment, RestsBehind};
 ghost use Rattle.ion_tokens.specs.declared.mode.Mode.TheVariants as modes;
 ghost use Rattle.ion_tokens.specs.declared.plain_tokens.Rest.{Rest};
 
+use crate::front::of_comment;
 use crate::octets::is_line_end;
 use crate::plain_tokens::{Rest, blanks};
 
@@ -23,14 +24,6 @@ fn of_line(octets: &[u8]) -> usize
         .count()
 }
 
-// Whether two octets end a block comment.
-#[inline(always)]
-fn is_close(first: u8, second: u8) -> bool
-    ensures { result ≡ ((first == asterisk) && (second == slash)) }
-{
-    second == b'/' && first == b'*'
-}
-
 // How many octets there are before the first `*/`.
 fn of_block(octets: &[u8]) -> Option<usize>
     ensures open { IfSome result (λ count. HasNoClose (take count octets.now)) }
@@ -38,10 +31,16 @@ fn of_block(octets: &[u8]) -> Option<usize>
     ensures star { IfSome result (λ count. get_or octets.now count 0 ≡ 42) }
     ensures slash { IfSome result (λ count. get_or octets.now (count + 1) 0 ≡ 47) }
 {
-    for i in 1..octets.len() {
-        if is_close(octets[i - 1], octets[i]) {
-            return Some(i - 1);
+    let mut at = 0;
+    for _ in 0..octets.len() {
+        let star = at + of_comment(&octets[at..]);
+        if octets.len() - star < 2 {
+            return None;
         }
+        if octets[star + 1] == b'/' {
+            return Some(star);
+        }
+        at = star + 1;
     }
     None
 }

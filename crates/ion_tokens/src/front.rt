@@ -5,8 +5,11 @@ ghost use Rattle.ion_tokens.specs.Octets.{is_base64, is_base64_symbol, is_white,
 ghost use Rattle.ion_tokens.specs.Lexemes.{Each};
 ghost use Rattle.ion_tokens.specs.machine.AtOnce.{is_between, is_plain, is_raw, is_numeric, is_plain_operator, goes_on, keeps_them, gone_on, AreKept, GoesOver};
 ghost use Rattle.ion_tokens.specs.machine.Machines.{known};
+ghost use Rattle.ion_tokens.specs.declared.mode.Mode.TheVariants as modes;
 
-use crate::lanes::{base64_ends, base64_symbol_ends, number_ends, raw_ends, text_ends, word_ends};
+use crate::lanes::{
+    base64_ends, base64_symbol_ends, number_ends, raw_ends, stars, text_ends, word_ends,
+};
 use crate::machine::{Machine, start_of};
 use crate::mode::{Lob, Mode, Style, Within};
 use crate::octets::{
@@ -202,6 +205,34 @@ fn each_of_number(octets: &[u8]) -> usize
         .count()
 }
 
+/// How many octets of a block comment there are at the front, up to a star.
+#[inline(always)]
+pub fn of_comment(octets: &[u8]) -> usize
+    ensures { result ≡ length (take_while (goes_on modes.BlockComment) octets.now) }
+{
+    let mut at = 0;
+    while octets.len() - at >= 16 {
+        let ends = stars(u8x16::from_slice(&octets[at..]));
+        if ends != 0 {
+            return at + ends.trailing_zeros() as usize;
+        }
+        at += 16;
+    }
+    at + each_of_comment(&octets[at..])
+}
+
+// The same, one by one.
+#[inline(never)]
+fn each_of_comment(octets: &[u8]) -> usize
+    ensures { result ≡ length (take_while (goes_on modes.BlockComment) octets.now) }
+{
+    octets
+        .iter()
+        .copied()
+        .take_while(|octet| !(*octet == b'*'))
+        .count()
+}
+
 // An octet of an operator that begins no comment.
 fn is_plain_operator(octet: u8) -> bool
     ensures { result ≡ is_plain_operator octet }
@@ -328,7 +359,7 @@ impl Machine {
         match self.mode {
             Mode::Blank => white(piece),
             Mode::LineComment => octets.take_while(|octet| !is_line_end(*octet)).count(),
-            Mode::BlockComment => octets.take_while(|octet| !(*octet == b'*')).count(),
+            Mode::BlockComment => of_comment(piece),
             Mode::Word => of_word(piece),
             Mode::Number => of_number(piece),
             Mode::Text(style, Within::Plain) => plain(style, piece),

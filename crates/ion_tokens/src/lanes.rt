@@ -2,7 +2,8 @@
 ghost use Rattle.std.specs.Prelude.{◌≡◌, map, not, if◌then◌else◌};
 ghost use Rattle.std.specs.Simd.Lanes.{mask_l};
 ghost use Rattle.ion_tokens.specs.Octets.{is_base64, is_base64_symbol, is_word_octet};
-ghost use Rattle.ion_tokens.specs.machine.AtOnce.{is_between, is_raw, is_numeric};
+ghost use Rattle.ion_tokens.specs.machine.AtOnce.{goes_on, is_between, is_raw, is_numeric};
+ghost use Rattle.ion_tokens.specs.declared.mode.Mode.TheVariants as modes;
 
 use std::simd::prelude::*;
 
@@ -96,4 +97,12 @@ pub fn base64_symbol_ends(octets: u8x16) -> u64
     (letter.simd_ge(u8x16::splat(26))
         & digit.simd_ge(u8x16::splat(11))
         & octets.simd_ne(u8x16::splat(b'+'))).to_bitmask()
+}
+
+/// The stars, with which no block comment goes on as it is.
+#[inline(always)]
+pub fn stars(octets: u8x16) -> u64
+    ensures { result ≡ mask_l (map (λ o. not (goes_on modes.BlockComment o)) octets) }
+{
+    octets.simd_eq(u8x16::splat(b'*')).to_bitmask()
 }

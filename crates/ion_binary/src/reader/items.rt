@@ -1,9 +1,13 @@
 //! The reader as `Items`: steps over pieces, and the end.
-ghost use Rattle.std.specs.Prelude.{◌≡◌, ◌+◌, ◌<◌, ◌^◌, length, IfOk, IfErr};
+ghost use Rattle.std.specs.Prelude.{◌≡◌, ℕ, ◌+◌, ◌<◌, ◌^◌, List, ◌++◌, length, take, None, Option, Result, IfOk, IfErr, option_map};
 ghost use Rattle.ion_atoms.specs.declared.refusal.Reason.TheVariants.{Memory};
+ghost use Rattle.ion_model.specs.Outlines.{outline_of};
+ghost use Rattle.ion_model.specs.declared.value.Value.{Value as AnyValue};
 ghost use Rattle.ion_symtab.specs.IsNew.{IsNew};
-ghost use Rattle.ion_binary.specs.machine.Run.{whole, Advances};
-ghost use Rattle.ion_binary.specs.machine.Views.{run_of, machine_of, open_frames, SameSetting};
+ghost use Rattle.ion_symtab.specs.Steps.{StepsOver, RefusesBy};
+ghost use Rattle.ion_symtab.specs.Trace.{Answers, given_at};
+ghost use Rattle.ion_binary.specs.machine.Run.{trace, whole, Advances};
+ghost use Rattle.ion_binary.specs.machine.Views.{run_of, machine_of, open_frames, SameSetting, Stands};
 
 use super::BinaryReader;
 use crate::state::{Effect, Mark, Phase};
@@ -89,6 +93,37 @@ impl BinaryReader<'_> {
             used: piece.len(),
             value: None,
         })
+    }
+}
+
+impl<'a> BinaryReader<'a> {
+    /// What `pass` answers where the value is built. It stands by itself so that `pass` has no room
+    /// for a value to clear each time.
+    #[inline(never)]
+    fn pass_built(&mut self, piece: &[u8]) -> Result<Passed, Refusal>
+        requires going { self.old.failed ≡ None }
+        requires room { self.old.used + length piece.now < 2 ^ 63 }
+        ensures setting { (self.new.catalog.now ≡ self.old.catalog.now)
+            × (self.new.limits ≡ self.old.limits) }
+        ensures leaves { let B = ⟦<BinaryReader<'a> as Items>⟧ in
+            IfOk result (λ passed. StepsOver B.taken B.pending B.awaits B.failed
+            self.old self.new piece.now passed.used passed.outline) }
+        ensures stands { IfOk result (λ passed. (u : List ℕ) (s : List (AnyValue × ℕ)) →
+            Stands self.old u s → (value : Option AnyValue)
+            × (option_map outline_of value ≡ passed.outline)
+            × Stands self.new (u ++ take passed.used piece.now)
+            (s ++ given_at value (length u + passed.used))) }
+        ensures answers { IfErr result (λ refusal. (u : List ℕ) (s : List (AnyValue × ℕ)) →
+            Stands self.old u s → Answers (trace self.old.catalog.now self.old.limits)
+            u s piece.now (Result.Err refusal)) }
+        ensures refuses { let B = ⟦<BinaryReader<'a> as Items>⟧ in
+            IfErr result (RefusesBy B.taken B.pending B.awaits B.failed
+            self.old self.new piece.now) }
+    {
+        match self.step(piece) {
+            Err(refusal) => Err(refusal),
+            Ok(step) => Ok(step.passed()),
+        }
     }
 }
 
@@ -183,15 +218,12 @@ impl Items for BinaryReader<'_> {
         if let Some(refusal) = self.failed {
             return Err(refusal);
         }
-        if let Some((used, outline)) = self.walk(piece) {
-            return Ok(Passed {
+        match self.walk(piece) {
+            None => self.pass_built(piece),
+            Some((used, outline)) => Ok(Passed {
                 used,
                 outline: Some(outline),
-            });
-        }
-        match self.step(piece) {
-            Err(refusal) => Err(refusal),
-            Ok(step) => Ok(step.passed()),
+            }),
         }
     }
 

@@ -227,21 +227,27 @@ fn behind_slash(piece: &[u8], at: usize) -> Result<usize, Told>
 
 /// Where a line comment ends.
 fn behind_line(piece: &[u8], from: usize) -> Result<usize, Told> {
-    for i in from..piece.len() {
-        if is_line_end(piece[i]) {
-            return Ok(i + 1);
-        }
+    let end = next_of(piece, from, [b'\n', b'\r', b'\n', b'\r']);
+    if end >= piece.len() {
+        return Err(Told::Cut);
     }
-    Err(Told::Cut)
+    Ok(end + 1)
 }
 
 /// Where a block comment ends, whose first star stands there.
 fn behind_star(piece: &[u8], star: usize) -> Result<usize, Told>
     requires { star < length piece.now }
 {
-    for i in star + 2..piece.len() {
-        if piece[i] == b'/' && piece[i - 1] == b'*' {
-            return Ok(i + 1);
+    let mut at = star + 1;
+    for _ in star..piece.len() {
+        at = next_of(piece, at, [b'*'; 4]);
+        if at >= piece.len() {
+            return Err(Told::Cut);
+        }
+        match piece.get(at + 1) {
+            None => return Err(Told::Cut),
+            Some(b'/') => return Ok(at + 2),
+            Some(_) => at += 1,
         }
     }
     Err(Told::Cut)
@@ -279,7 +285,7 @@ fn behind_quote(piece: &[u8], at: usize) -> Result<usize, Told>
 fn behind_text(piece: &[u8], from: usize, quote: u8) -> Result<usize, Told> {
     let mut at = from;
     for _ in from..piece.len() {
-        at = next_end(piece, at, quote);
+        at = next_of(piece, at, [quote, b'\\', b'\n', b'\r']);
         if at >= piece.len() {
             return Err(Told::Cut);
         }
@@ -308,7 +314,7 @@ fn behind_escape(piece: &[u8], at: usize) -> usize
 fn behind_segment(piece: &[u8], from: usize) -> Result<usize, Told> {
     let mut at = from;
     for _ in from..piece.len() {
-        at = next_end(piece, at, b'\'');
+        at = next_of(piece, at, [b'\'', b'\\', b'\'', b'\\']);
         if at >= piece.len() {
             return Err(Told::Cut);
         }
@@ -325,14 +331,14 @@ fn behind_segment(piece: &[u8], from: usize) -> Result<usize, Told> {
 fn behind_lob(piece: &[u8], from: usize) -> Result<usize, Told> {
     let mut at = from;
     for _ in from..piece.len() {
+        at = next_of(piece, at, [b'"', b'\'', b'}', b'}']);
         if at >= piece.len() {
             return Err(Told::Cut);
         }
         match piece[at] {
             b'"' => at = behind_text(piece, at + 1, b'"')?,
             b'\'' => at = behind_quote(piece, at)?,
-            b'}' => return behind_lob_close(piece, at),
-            _ => at += 1,
+            _ => return behind_lob_close(piece, at),
         }
     }
     Err(Told::Cut)
@@ -357,11 +363,6 @@ fn behind_blank(piece: &[u8], from: usize) -> usize {
         }
     }
     piece.len()
-}
-
-/// What ends a line comment.
-fn is_line_end(octet: u8) -> bool {
-    octet == b'\n' || octet == b'\r'
 }
 
 /// Tab, LF, VT, FF, CR and space.
@@ -404,29 +405,28 @@ fn marks_at(piece: &[u8], at: usize) -> u64 {
     marks
 }
 
-/// Which of sixteen octets may end a text in these quotes, as the bits of a number: the quote, a
-/// backslash and the ends of lines.
+/// Which of sixteen octets are among these, as the bits of a number.
 #[inline(always)]
-fn ends_of(quote: u8, octets: u8x16) -> u64 {
-    (octets.simd_eq(u8x16::splat(quote))
-        | octets.simd_eq(u8x16::splat(b'\\'))
-        | octets.simd_eq(u8x16::splat(b'\n'))
-        | octets.simd_eq(u8x16::splat(b'\r'))).to_bitmask()
+fn bits_of(among: [u8; 4], octets: u8x16) -> u64 {
+    (octets.simd_eq(u8x16::splat(among[0]))
+        | octets.simd_eq(u8x16::splat(among[1]))
+        | octets.simd_eq(u8x16::splat(among[2]))
+        | octets.simd_eq(u8x16::splat(among[3]))).to_bitmask()
 }
 
 /// Where the next of these octets stands, or else the octets end.
 #[inline(always)]
-fn next_end(piece: &[u8], from: usize, quote: u8) -> usize {
+fn next_of(piece: &[u8], from: usize, among: [u8; 4]) -> usize {
     let mut at = from;
     while piece.len().saturating_sub(at) >= 16 {
-        let ends = ends_of(quote, u8x16::from_slice(&piece[at..]));
-        if ends != 0 {
-            return at + ends.trailing_zeros() as usize;
+        let bits = bits_of(among, u8x16::from_slice(&piece[at..]));
+        if bits != 0 {
+            return at + bits.trailing_zeros() as usize;
         }
         at += 16;
     }
     for i in at..piece.len() {
-        if piece[i] == quote || matches!(piece[i], b'\\' | b'\n' | b'\r') {
+        if among.contains(&piece[i]) {
             return i;
         }
     }

@@ -1,5 +1,6 @@
 //! The reader as `Items`: steps over pieces, and the end.
-ghost use Rattle.std.specs.Prelude.{◌≡◌, ◌+◌, ◌++◌, ◌<◌, ◌^◌, ℕ, List, length, take, Err, IfOk, IfErr, IfSome, IsNone};
+ghost use Rattle.std.specs.Prelude.{◌≡◌, ◌+◌, ◌++◌, ◌<◌, ◌^◌, ℕ, List, length, take, Err, Option, IfOk, IfErr, IfSome, IsNone, option_map};
+ghost use Rattle.ion_model.specs.Outlines.{outline_of};
 ghost use Rattle.ion_model.specs.declared.value.Value.{Value as AnyValue};
 ghost use Rattle.ion_atoms.specs.declared.refusal.Reason.TheVariants.{Memory};
 ghost use Rattle.ion_symtab.specs.Trace.{Answers, Finishes, given_at};
@@ -81,6 +82,34 @@ impl TextReader<'_> {
             self.failed = Some(*refusal);
         }
         result
+    }
+
+    /// What `pass` answers of such a step. It stands by itself so that `pass` has no room for a value
+    /// to clear each time.
+    #[inline(never)]
+    fn pass_by_tokens(&mut self, piece: &[u8]) -> Result<Passed, Refusal>
+        requires well { IsNone (failed self.old) }
+        requires room { octets_used self.old + length piece.now < 2 ^ 63 }
+        requires begins { BeginsWith self.old.awaited piece.now }
+        ensures setting { (self.new.catalog.now ≡ self.old.catalog.now)
+            × (self.new.limits ≡ self.old.limits) }
+        ensures leaves { IfOk result (λ passed. StepsOver octets_used pending (λ r. r.awaited)
+            failed self.old self.new piece.now passed.used passed.outline) }
+        ensures stands { IfOk result (λ passed. (u : List ℕ) (s : List (AnyValue × ℕ)) →
+            Stands self.old u s → (value : Option AnyValue)
+            × (option_map outline_of value ≡ passed.outline)
+            × Stands self.new (u ++ take passed.used piece.now)
+            (s ++ given_at value (length u + passed.used))) }
+        ensures answers { IfErr result (λ refusal. (u : List ℕ) (s : List (AnyValue × ℕ)) →
+            Stands self.old u s → Answers (trace self.old.catalog.now self.old.limits)
+            u s piece.now (Err refusal)) }
+        ensures refuses { IfErr result (RefusesBy octets_used pending (λ r. r.awaited) failed
+            self.old self.new piece.now) }
+    {
+        match self.step_by_tokens(piece) {
+            Err(refusal) => Err(refusal),
+            Ok(step) => Ok(step.passed()),
+        }
     }
 
     /// What the end answers, where a step refused before too.
@@ -204,15 +233,12 @@ impl Items for TextReader<'_> {
             self.awaited = None;
             return Err(refusal);
         }
-        if let Some((used, outline)) = self.walk(piece) {
-            return Ok(Passed {
+        match self.walk(piece) {
+            None => self.pass_by_tokens(piece),
+            Some((used, outline)) => Ok(Passed {
                 used,
                 outline: Some(outline),
-            });
-        }
-        match self.step_by_tokens(piece) {
-            Err(refusal) => Err(refusal),
-            Ok(step) => Ok(step.passed()),
+            }),
         }
     }
 

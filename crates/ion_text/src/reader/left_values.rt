@@ -11,10 +11,10 @@ ghost use Rattle.ion_text.specs.visiting.Walks.{VisitedLeft};
 
 use super::finders::{begins_number, begins_symbol, number_at, number_kind, symbol_at};
 use super::long_strings::{begins_long, join_segments, one_segment};
-use super::symbols::behind_symbol;
+use super::symbols::ends_symbol;
 use ion_model::Kind;
 use ion_scalar::Number;
-use ion_tokens::{Place, Rest, TokenKind, TokenReader};
+use ion_tokens::{Place, Rest, TokenKind, TokenReader, blank_with_comments};
 use ion_visiting::{Part, TextVisitor};
 use std::alloc::Global;
 
@@ -33,8 +33,8 @@ pub(super) fn number_left(octets: &[u8], rest: Rest) -> Option<(usize, Rest, Num
     Some((token.count, behind, number))
 }
 
-/// The same of the symbol there and the blank behind it, where the octet behind that shows that no
-/// `::` follows.
+/// The same of the symbol there and the blank behind it with the comments in it, where the octet
+/// behind that shows that no `::` follows.
 #[inline(always)]
 pub(super) fn symbol_left(octets: &[u8], rest: Rest) -> Option<(usize, Rest, Kind, Part<'_>)>
     requires room { rest.used + length octets.now < 2 ^ 63 }
@@ -43,14 +43,17 @@ pub(super) fn symbol_left(octets: &[u8], rest: Rest) -> Option<(usize, Rest, Kin
     ensures flat { IfSome result (λ left. IsFlat (payload_of left.3) left.2) }
 {
     let (scalar, said) = symbol_at(octets)?;
-    let between = behind_symbol(octets, scalar.token.count)?;
-    if between == 0 {
+    let count = scalar.token.count;
+    if count >= octets.len() {
         return None;
     }
-    let behind = rest
-        .past_token(Place::Top, scalar.token.kind, scalar.token.count)
-        .past_blank(between);
-    Some((scalar.token.count + between, behind, scalar.kind, said))
+    let past_symbol = rest.past_token(Place::Top, scalar.token.kind, count);
+    let (between, behind) = blank_with_comments(&octets[count..], past_symbol);
+    let total = count + between;
+    if between == 0 || total >= octets.len() || !ends_symbol(octets[total]) {
+        return None;
+    }
+    Some((total, behind, scalar.kind, said))
 }
 
 // The long string there and the blanks behind its segments, where the octet behind them shows that

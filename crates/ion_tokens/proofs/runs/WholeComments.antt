@@ -108,7 +108,7 @@ still_open (o ∷ p ∷ os) (suc (suc n)) some within none last =
     )
 
 -- nor in fewer of them
-fewer_open : (octets : List ℕ) (n : ℕ) → HasNoClose (take (suc n) octets) → HasNoClose (take n octets)
+pub fewer_open : (octets : List ℕ) (n : ℕ) → HasNoClose (take (suc n) octets) → HasNoClose (take n octets)
 fewer_open octets zero none = tt
 fewer_open [] (suc n) none = tt
 fewer_open (o ∷ os) (suc zero) none = tt
@@ -120,6 +120,44 @@ open_before octets zero some none = absurd (omega arith)
 open_before octets (suc n) some none =
     let is : n ≡ suc n - 1 = omega arith in
     subst (λ k. HasNoClose (take k octets)) is (fewer_open octets n none)
+
+-- where none of these octets is a star, nothing closes before the one behind them
+front_open : (octets : List ℕ) (n : ℕ) → Each (goes_on modes.BlockComment) (take n octets) → HasNoClose (take (suc n) octets)
+front_open [] n stars = tt
+front_open (o ∷ os) zero stars = tt
+front_open (o ∷ []) (suc n) stars = tt
+front_open (o ∷ p ∷ os) (suc n) stars = (no_star (o == 42) stars.0, front_open (p ∷ os) n stars.1)
+  where
+    no_star : (b : Bool) → not b ≡ true → (b && (p == 47)) ≡ false
+    no_star false e = refl
+    no_star true e = absurd cc
+
+-- nor where nothing closed before them
+pub stars_open : (octets : List ℕ) (at n : ℕ) → HasNoClose (take (at + 1) octets) → Each (goes_on modes.BlockComment) (take n (drop at octets))
+    → HasNoClose (take (at + n + 1) octets)
+stars_open octets at n none stars =
+    let first : at + 1 ≡ suc at = omega arith in
+    let last : suc (at + n) ≡ at + n + 1 = omega arith in
+    subst (λ k. HasNoClose (take k octets)) last (go octets at (subst (λ k. HasNoClose (take k octets)) first none) stars)
+  where
+    go : (octets : List ℕ) (at : ℕ) → HasNoClose (take (suc at) octets) → Each (goes_on modes.BlockComment) (take n (drop at octets))
+        → HasNoClose (take (suc (at + n)) octets)
+    go [] at none stars = tt
+    go (o ∷ os) zero none stars = subst (λ k. HasNoClose (take (suc k) (o ∷ os))) (let k : n ≡ 0 + n = omega arith in k) (front_open (o ∷ os) n stars)
+    go (o ∷ []) (suc at) none stars = subst (λ k. HasNoClose (take (suc k) (o ∷ []))) (let k : suc (at + n) ≡ suc at + n = omega arith in k) tt
+    go (o ∷ p ∷ os) (suc at) none stars =
+        let more : suc (at + n) ≡ suc at + n = omega arith in
+        subst (λ k. HasNoClose (take (suc k) (o ∷ p ∷ os))) more (none.0, go (p ∷ os) at none.1 stars)
+
+-- nor behind a star that no slash follows
+pub star_open : (octets : List ℕ) (n : ℕ) → n + 1 < length octets → HasNoClose (take (n + 1) octets) → (get_or octets (n + 1) 0 == 47) ≡ false
+    → HasNoClose (take (n + 1 + 1) octets)
+star_open octets n within none no_slash =
+    still_open octets (n + 1) (omega arith) within none (ap (λ b. (get_or octets (n + 1 - 1) 0 == 42) && b) no_slash ∙ either (get_or octets (n + 1 - 1) 0 == 42))
+  where
+    either : (b : Bool) → (b && false) ≡ false
+    either false = refl
+    either true = refl
 
 -- a blank rests behind no octets where it rested
 pub rests_none : (octets : List ℕ) (r : Rest) → RestsBehind octets 0 r r

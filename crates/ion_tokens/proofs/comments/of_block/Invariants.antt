@@ -1,7 +1,7 @@
-use Rattle.std.proofs.Common.{take}
+use Rattle.std.proofs.Common.{◌+◌, ◌≤◌, length, take}
 use Rattle.ion_tokens.specs.Blanks.{HasNoClose}
 use Rattle.ion_tokens.proofs.comments.of_block.Given as goal
 
--- no `*/` stands before `i`
-abbrev pub invariant-loop-i : goal.invariant-loop-i
-invariant-loop-i l = HasNoClose (take l.i l.octets)
+-- no `*/` stands in front of `at` or begins before it
+abbrev pub invariant-loop : goal.invariant-loop
+invariant-loop l = (l.at ≤ length l.octets) × HasNoClose (take (l.at + 1) l.octets)

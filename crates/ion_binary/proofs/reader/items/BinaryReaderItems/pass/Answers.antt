@@ -11,7 +11,12 @@ returns-in-Some-walk-clause-stands c = λ u s h.
           c.in-Some-walk.ensures.used c.in-Some-walk.ensures.setting u s h,
     )
 
-pub returns-in-Err-clause-answers : goal.returns-in-Err-clause-answers
-returns-in-Err-clause-answers c = λ u s h.
+pub returns-in-None-clause-stands : goal.returns-in-None-clause-stands
+returns-in-None-clause-stands c =
     let same : c.walk.new.self ≡ c.args.self.now = search rules in
-    rw same at c.in-Err.ensures.answers u s h
+    rw same at c.pass_built.ensures.stands
+
+pub returns-in-None-clause-answers : goal.returns-in-None-clause-answers
+returns-in-None-clause-answers c =
+    let same : c.walk.new.self ≡ c.args.self.now = search rules in
+    rw same at c.pass_built.ensures.answers

@@ -1,6 +1,7 @@
-use Rattle.std.proofs.Common.{rules, arith, ◌≡◌, ◌+◌, ◌++◌, length, take, Ok, Err, Some, refl, ap, sym, subst}
-use Rattle.std.specs.Prelude.{IsNone}
-use Rattle.ion_symtab.specs.Trace.{Answers, given_at}
+use Rattle.std.proofs.Common.{rules, arith, ◌≡◌, Result, Ok, Err, Some, refl, ap, sym, subst}
+use Rattle.std.specs.Prelude.{IfOk, IfErr, IsNone}
+use Rattle.ion_atoms.specs.declared.refusal.Refusal.{Refusal}
+use Rattle.ion_symtab.specs.Trace.{Answers}
 use Rattle.ion_symtab.specs.declared.items.Passed.{Passed}
 use Rattle.ion_tokens.specs.declared.token_reader.TokenReader.{TokenReader}
 use Rattle.ion_text.specs.machine.Progress.{Stands}
@@ -35,23 +36,29 @@ returns-in-Some-walk-clause-stands c = λ u s h.
           c.in-Some-walk.ensures.used (c.in-Some-walk.ensures.fine h.scanner_fine) c.in-Some-walk.ensures.steady c.in-Some-walk.ensures.setting u s h,
     )
 
-pub returns-in-Err-clause-answers : goal.returns-in-Err-clause-answers
-returns-in-Err-clause-answers c = λ u s h.
-    let old = c.args.self.now in
-    let none : IsNone c.walk.result = search rules in
-    let same : (b : TokenReader) × (c.walk.new.self ≡ with_beside old b) = c.walk.ensures.none none in
-    subst (λ r. Answers (trace r.catalog.now r.limits) u s c.args.piece.now (Err c.in-Err.refusal)) same.1
-    (c.in-Err.ensures.answers u s (subst (λ r. Stands r u s) (sym same.1) (beside_stands old same.0 u s h)))
+-- what holds of an answer that is a value, or a refusal, implies what is asked of it
+if_ok : {P Q : Passed → Type 0} (result : Result Passed Refusal) → ((passed : Passed) → P passed → Q passed) → IfOk result P → IfOk result Q
+if_ok (Ok passed) f h = f passed h
+if_ok (Err refusal) f h = tt
 
-pub returns-in-Ok-clause-stands : goal.returns-in-Ok-clause-stands
-returns-in-Ok-clause-stands c = λ u s h.
+if_err : {P Q : Refusal → Type 0} (result : Result Passed Refusal) → ((refusal : Refusal) → P refusal → Q refusal) → IfErr result P → IfErr result Q
+if_err (Ok passed) f h = tt
+if_err (Err refusal) f h = f refusal h
+
+-- where nothing was gone over, the reader stands where it stood
+pub returns-in-None-clause-stands : goal.returns-in-None-clause-stands
+returns-in-None-clause-stands c =
     let old = c.args.self.now in
-    let value = c.in-Ok.step.value in
     let none : IsNone c.walk.result = search rules in
     let same : (b : TokenReader) × (c.walk.new.self ≡ with_beside old b) = c.walk.ensures.none none in
-    let used : c.in-Ok.step.used ≡ c.passed.result.used = sym (ap (λ (p : Passed). p.used) c.passed.ensures) in (
-      value,
-      sym (ap (λ (p : Passed). p.outline) c.passed.ensures),
-      subst (λ n. Stands c.step_by_tokens.new.self (u ++ take n c.args.piece.now) (s ++ given_at value (length u + n))) used
-          (c.in-Ok.ensures.stands u s (subst (λ r. Stands r u s) (sym same.1) (beside_stands old same.0 u s h))),
-    )
+    if_ok c.pass_by_tokens.result (λ passed f u s h. f u s (subst (λ r. Stands r u s) (sym same.1) (beside_stands old same.0 u s h)))
+    c.pass_by_tokens.ensures.stands
+
+pub returns-in-None-clause-answers : goal.returns-in-None-clause-answers
+returns-in-None-clause-answers c =
+    let old = c.args.self.now in
+    let none : IsNone c.walk.result = search rules in
+    let same : (b : TokenReader) × (c.walk.new.self ≡ with_beside old b) = c.walk.ensures.none none in
+    if_err c.pass_by_tokens.result
+    (λ refusal f u s h. subst (λ r. Answers (trace r.catalog.now r.limits) u s c.args.piece.now (Err refusal)) same.1
+    (f u s (subst (λ r. Stands r u s) (sym same.1) (beside_stands old same.0 u s h)))) c.pass_by_tokens.ensures.answers
