@@ -1,5 +1,5 @@
 -- What a device took of a document, one value after another.
-use Rattle.std.proofs.Common.{◌≡◌, ℕ, List, length, Bool, false, subst}
+use Rattle.std.proofs.Common.{◌≡◌, ℕ, List, length, Bool, subst}
 use Rattle.ion_model.specs.declared.value.Value.{Value}
 use Rattle.ion_model.specs.Kept.{AreKept}
 use Rattle.ion_symtab.specs.Took.{Took, TookFront}

@@ -302,8 +302,15 @@ impl Items for DocReader<'_> {
     fn pass(&mut self, piece: &[u8]) -> Result<Passed, Refusal> {
         match &mut self.format {
             Format::Binary(reader) => reader.pass(piece),
-            Format::Text(reader) => reader.pass(piece),
-            _ => self.pass_begun(piece),
+            // (taken apart, so that no answer of the former goes through memory)
+            Format::Text(reader) => match reader.pass(piece) {
+                Err(refusal) => Err(refusal),
+                Ok(passed) => Ok(passed),
+            },
+            _ => match self.pass_begun(piece) {
+                Err(refusal) => Err(refusal),
+                Ok(passed) => Ok(passed),
+            },
         }
     }
 

@@ -100,6 +100,7 @@ impl<I: Items + Drop> Source<I> {
 
     /// Takes up octets of the piece, up to the next value or to the piece's end: what is told of
     /// that value.
+    #[inline(always)]
     fn take<A: Asked>(&mut self) -> Result<Option<A>, Refusal>
         requires { IsReady I.Items self.old }
         ensures gives { IfOk result (λ found. (u : List ℕ) (given : List (Value × ℕ)) →

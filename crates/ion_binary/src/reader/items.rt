@@ -219,7 +219,11 @@ impl Items for BinaryReader<'_> {
             return Err(refusal);
         }
         match self.walk(piece) {
-            None => self.pass_built(piece),
+            // (taken apart, so that no other answer goes through memory)
+            None => match self.pass_built(piece) {
+                Err(refusal) => Err(refusal),
+                Ok(passed) => Ok(passed),
+            },
             Some((used, outline)) => Ok(Passed {
                 used,
                 outline: Some(outline),

@@ -11,12 +11,12 @@ returns-in-Some-walk-clause-stands c = λ u s h.
           c.in-Some-walk.ensures.used c.in-Some-walk.ensures.setting u s h,
     )
 
-pub returns-in-None-clause-stands : goal.returns-in-None-clause-stands
-returns-in-None-clause-stands c =
+pub returns-in-Ok-clause-stands : goal.returns-in-Ok-clause-stands
+returns-in-Ok-clause-stands c = λ u s h.
     let same : c.walk.new.self ≡ c.args.self.now = search rules in
-    rw same at c.pass_built.ensures.stands
+    rw same at c.in-Ok.ensures.stands u s h
 
-pub returns-in-None-clause-answers : goal.returns-in-None-clause-answers
-returns-in-None-clause-answers c =
+pub returns-in-Err-clause-answers : goal.returns-in-Err-clause-answers
+returns-in-Err-clause-answers c = λ u s h.
     let same : c.walk.new.self ≡ c.args.self.now = search rules in
-    rw same at c.pass_built.ensures.answers
+    rw same at c.in-Err.ensures.answers u s h
