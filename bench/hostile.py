@@ -96,6 +96,14 @@ def commented_lists(octets):
     return filled(b"[" + b"/**/" * 500 + b"1]\n", octets)
 
 
+def symbols_before_comments(octets):
+    return filled(b"a /* * */", octets)
+
+
+def symbol_before_one_comment(octets):
+    return b"a /*" + filled(b"*x", octets) + b"*/"
+
+
 def comments_before_an_id(octets):
     """Lists that are gone over up to the id of a symbol, and then built."""
     return filled(b"[" + b"/*\n*/ " * 300 + b"$4]\n", octets)
@@ -305,6 +313,8 @@ CASES = [
     ("one comment", "check A", [one_comment], STREAM, SMALL),
     ("lists of comments", "check A", [commented_lists], MILLION, SMALL),
     ("comments before what isn't passed over", "check A", [comments_before_an_id], MILLION, SMALL),
+    ("symbols before comments", "check A", [symbols_before_comments], MILLION, SMALL),
+    ("a symbol before one comment", "check A", [symbol_before_one_comment], STREAM, SMALL),
     ("escapes before what isn't taken at once", "check A", [escapes_before_a_number], MILLION, SMALL),
     ("fields of one name turned around, compared", "compare A B", [names_turned_around, lambda count: names_turned_around(count, True)], MILLION, SMALL),
     ("many fields turned around, the last spelled otherwise, compared", "compare A B", [names_in_turn, lambda count: names_in_turn(count, True)], MILLION, SMALL),
