@@ -299,14 +299,12 @@ impl Items for DocReader<'_> {
         }
     }
 
+    #[inline(always)]
     fn pass(&mut self, piece: &[u8]) -> Result<Passed, Refusal> {
         match &mut self.format {
             Format::Binary(reader) => reader.pass(piece),
-            // (taken apart, so that no answer of the former goes through memory)
-            Format::Text(reader) => match reader.pass(piece) {
-                Err(refusal) => Err(refusal),
-                Ok(passed) => Ok(passed),
-            },
+            Format::Text(reader) => reader.pass(piece),
+            // (taken apart, so that no answer of binary goes through memory)
             _ => match self.pass_begun(piece) {
                 Err(refusal) => Err(refusal),
                 Ok(passed) => Ok(passed),

@@ -1,4 +1,4 @@
-//! What is asked of the values of a document: each itself, or its outline.
+//! What is asked of the values of a document: each itself, its outline, or only that there is one.
 ghost use Rattle.std.specs.Prelude.{◌≡◌, ℕ, ◌+◌, ◌<◌, ◌^◌, List, ◌∷◌, ◌++◌, length, take, Option, Result, IfOk, IfErr, IfSome, IsNone, option_map};
 ghost use Rattle.ion_model.specs.Outlines.{outline_of};
 ghost use Rattle.ion_model.specs.declared.value.Value.{Value};
@@ -51,6 +51,25 @@ impl Asked for Value {
 
     fn tell(value: Value) -> Value {
         value
+    }
+}
+
+impl Asked for () {
+    ghost of = { λ v. tt };
+
+    // (the outline isn't copied, so that its parts needn't come back from memory as a whole)
+    fn take<I: Items>(items: &mut I, piece: &[u8]) -> Result<(usize, Option<()>), Refusal> {
+        match items.pass(piece) {
+            Err(refusal) => Err(refusal),
+            Ok(passed) => match passed.outline {
+                None => Ok((passed.used, None)),
+                Some(_) => Ok((passed.used, Some(()))),
+            },
+        }
+    }
+
+    fn tell(value: Value) {
+        drop(value);
     }
 }
 

@@ -6,7 +6,7 @@ ghost use Rattle.ion_streams.specs.reading.Read.{IsFresh};
 ghost use Rattle.ion_streams.specs.Checked.{IsChecked};
 
 use crate::source::{Source, Standing};
-use ion_model::{Outline, Refusal};
+use ion_model::Refusal;
 use ion_symtab::{Fault, Inlet, Items};
 use std::alloc::Global;
 
@@ -34,7 +34,7 @@ pub fn check_items<I: Items + Drop, R: Inlet>(
     let source = Source::new(alloc, items, reads)?;
     let mut place = Standing::Open(source);
     let mut values: u64 = 0;
-    while let Some(_) = place.advance::<Outline, R>(reader)? {
+    while let Some(_) = place.advance::<(), R>(reader)? {
         values += 1;
     }
     Ok(place.answer(values))

@@ -1,4 +1,4 @@
-use Rattle.std.proofs.Common.{true, false, Ok, Err}
+use Rattle.std.proofs.Common.{true, false}
 use Rattle.ion_binary.specs.machine.Views as binary
 use Rattle.ion_text.specs.machine.Progress as text
 use Rattle.ion_docs.specs.declared.doc_reader.Format.TheVariants.{Binary, Text}
@@ -20,18 +20,18 @@ returns-in-Binary-clause-answers c =
     forward_refuses d true old.limits old.catalog.now (binary.Stands old) (λ u s. inside d (Binary old) u s c.in-Binary.is) c.args.piece.now c.pass.result
     c.pass.ensures.answers
 
-pub returns-in-Ok-clause-stands : goal.returns-in-Ok-clause-stands
-returns-in-Ok-clause-stands c =
+pub returns-in-Text-clause-stands : goal.returns-in-Text-clause-stands
+returns-in-Text-clause-stands c =
     let d = c.args.self.now in
     let old = c.in-Text.reader in
     let new = c.pass-in-Text.new.self in
     forward_passed d false old.limits old.catalog.now (text.Stands old) (λ u s. inside d (Text old) u s c.in-Text.is)
-    new.limits new.catalog.now (text.Stands new) c.args.piece.now (Ok c.in-Ok.passed) c.in-Ok.ensures.stands c.pass-in-Text.ensures.setting.1
+    new.limits new.catalog.now (text.Stands new) c.args.piece.now c.pass-in-Text.result c.pass-in-Text.ensures.stands c.pass-in-Text.ensures.setting.1
     c.pass-in-Text.ensures.setting.0
 
-pub returns-in-Err-clause-answers : goal.returns-in-Err-clause-answers
-returns-in-Err-clause-answers c =
+pub returns-in-Text-clause-answers : goal.returns-in-Text-clause-answers
+returns-in-Text-clause-answers c =
     let d = c.args.self.now in
     let old = c.in-Text.reader in
-    forward_refuses d false old.limits old.catalog.now (text.Stands old) (λ u s. inside d (Text old) u s c.in-Text.is) c.args.piece.now
-    (Err c.in-Err.refusal) c.in-Err.ensures.answers
+    forward_refuses d false old.limits old.catalog.now (text.Stands old) (λ u s. inside d (Text old) u s c.in-Text.is) c.args.piece.now c.pass-in-Text.result
+    c.pass-in-Text.ensures.answers
