@@ -14,8 +14,8 @@ use crate::ints::split_sign;
 use crate::number::Number;
 use ion_atoms::{Decimal, Whole};
 
-// So many octets behind a sign have at most 19 digits, whose number 64 bits hold.
-const MOST_OCTETS: usize = 19;
+// So many octets have at most 19 digits, whose number 64 bits hold.
+pub(crate) const MOST_SHORT_OCTETS: usize = 19;
 
 // So many octets have at most 16 hexadecimal digits, whose number 64 bits hold.
 const MOST_HEXADECIMAL: usize = 16;
@@ -32,8 +32,9 @@ pub struct PlainDigits {
     pub used: usize,
 }
 
-/// The int or decimal that a whole token spells, if it has at most 19 octets behind the sign, no
-/// base two, and no `_` in a decimal.
+/// The int or decimal that a whole token spells, if it has at most 19 octets behind the sign. Not
+/// told are ints of base two, those of base sixteen with `_` or more than 16 digits, and decimals
+/// with `_` or more than 9 digits of an exponent.
 #[inline(always)]
 pub fn short_number(token: &[u8]) -> Option<Number>
     ensures { IfSome result (λ x. ReadsNumeral token.now (Ok x)) }
@@ -71,7 +72,7 @@ fn short_whole(body: &[u8]) -> Option<PlainDigits>
     ensures whole { IfSome result (λ d. IsWholePart (take d.used body.now)) }
     ensures few { IfSome result (λ _. length body.now ≤ 19) }
 {
-    if body.len() > MOST_OCTETS {
+    if body.len() > MOST_SHORT_OCTETS {
         return None;
     }
     let whole = plain_digits(body, 0);
@@ -241,29 +242,13 @@ fn hexadecimal_number(octets: &[u8]) -> Option<u64>
     let mut value = 0u64;
     let mut used = 0usize;
     while used < octets.len() {
-        let Some(digit) = hexadecimal_digit(octets[used]) else {
+        let Some(digit) = digit_at(octets, used, 16) else {
             return None;
         };
-        value = value * 16 + digit;
+        value = value * 16 + u64::from(digit);
         used += 1;
     }
     Some(value)
-}
-
-/// The value of a hexadecimal digit.
-#[inline(always)]
-fn hexadecimal_digit(octet: u8) -> Option<u64>
-    ensures { IfSome result (λ d. (d ≡ digit_value octet) × (d < 16)) }
-{
-    if b'0' <= octet && octet <= b'9' {
-        Some(u64::from(octet) - 48)
-    } else if b'a' <= octet && octet <= b'f' {
-        Some(u64::from(octet) - 87)
-    } else if b'A' <= octet && octet <= b'F' {
-        Some(u64::from(octet) - 55)
-    } else {
-        None
-    }
 }
 
 /// The number of digits with at most one `_` between two of them, if all of at most 19 octets are

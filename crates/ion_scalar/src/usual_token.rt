@@ -9,16 +9,13 @@ ghost use Rattle.ion_atoms.specs.Timestamps.{TimestampParts, IsTimestamp, IsTime
 ghost use Rattle.ion_scalar.specs.text.Timestamps.{IsTimestampToken, IsShort, stamp};
 ghost use Rattle.ion_scalar.specs.text.laws.TimestampForms.{ShownEnd};
 
-use crate::short_number::plain_digits;
+use crate::short_number::{MOST_SHORT_OCTETS, plain_digits};
 use crate::timestamps::{
     Stamp, date_token, day_front, ends_day, is_at, is_short, minute_front, two_at, with_offset,
 };
 use ion_atoms::bounds::{LAST_HOUR, LAST_MINUTE, LAST_MONTH, LAST_SECOND, LAST_YEAR};
 use ion_atoms::calendar::has_day;
 use ion_atoms::{Local, Precision, Timestamp};
-
-// So many octets have at most 19 digits, whose number 64 bits hold.
-const MOST_SHORT_OCTETS: usize = 19;
 
 /// The timestamp that a whole token of a usual form spells.
 #[inline(always)]
