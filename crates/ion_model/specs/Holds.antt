@@ -5,7 +5,6 @@ use Rattle.ion_atoms.specs.Timestamps.{TimestampParts}
 use Rattle.ion_model.specs.declared.value.Value.{Value}
 use Rattle.ion_model.specs.declared.value.Field.{Field}
 use Rattle.ion_model.specs.declared.value.Payload.TheOpen.{Payload-F}
-use Rattle.ion_model.specs.declared.value.Payload.TheViews.{out-Payload}
 use Rattle.ion_model.specs.Measures.{Layer}
 use Rattle.ion_model.specs.Symbols.{has_text}
 

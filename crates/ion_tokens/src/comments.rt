@@ -1,8 +1,7 @@
 //! Blanks with comments in them that lie whole in memory, where a scanner rests (Ion 1.0, "Ion Text
 //! Encoding", comments). What is cut isn't told here: the scanner takes it up octet by octet.
-ghost use Rattle.std.specs.Prelude.{◌≡◌, ◌+◌, ◌≤◌, ◌<◌, ◌^◌, ◌==◌, ◌&&◌, length, get_or, take, IfSome};
+ghost use Rattle.std.specs.Prelude.{◌≡◌, ◌+◌, ◌≤◌, ◌<◌, ◌^◌, length, get_or, take, IfSome};
 ghost use Rattle.std.specs.List.{take_while};
-ghost use Rattle.ion_tokens.specs.Ascii.{asterisk, slash};
 ghost use Rattle.ion_tokens.specs.Blanks.{HasNoClose};
 ghost use Rattle.ion_tokens.specs.machine.AtOnce.{goes_on};
 ghost use Rattle.ion_tokens.specs.machine.Rests.{past_comment, RestsBehind};

@@ -1,5 +1,5 @@
 -- How often a device was asked without an end.
-use Rattle.std.proofs.Common.{◌-◌, inl, arith, refl}
+use Rattle.std.proofs.Common.{inl, arith, refl}
 use Rattle.ion_symtab.specs.Cause.{WereMade}
 use Rattle.ion_symtab.specs.declared.inlet.Inlet.{Ghosts}
 

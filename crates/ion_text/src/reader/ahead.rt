@@ -414,7 +414,8 @@ fn bits_of(among: [u8; 4], octets: u8x16) -> u64 {
         | octets.simd_eq(u8x16::splat(among[3]))).to_bitmask()
 }
 
-/// Where the next of these octets stands, or else the octets end.
+/// Where the next of these octets stands, or else the octets end. Where fewer than four are looked
+/// for, some are given twice.
 #[inline(always)]
 fn next_of(piece: &[u8], from: usize, among: [u8; 4]) -> usize {
     let mut at = from;
