@@ -15,7 +15,6 @@ use std::fmt::{self, Debug, Formatter};
 use std::mem;
 
 mod advance;
-mod ahead;
 mod alike;
 mod annotation_or_value;
 mod annotations;

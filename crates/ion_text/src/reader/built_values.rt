@@ -6,9 +6,9 @@ ghost use Rattle.ion_text.specs.machine.Progress.{Advances, SameSettings, StaysS
 ghost use Rattle.ion_text.specs.machine.Views.{state_of, IsFine};
 
 use super::TextReader;
-use super::ahead::seems_cut;
 use crate::building::Building;
 use crate::recent_symbols::RecentSymbols;
+use ion_lookahead::seems_cut;
 use ion_symtab::{Glance, Step};
 use std::mem;
 

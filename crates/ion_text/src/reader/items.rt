@@ -10,9 +10,9 @@ ghost use Rattle.ion_text.specs.machine.Run.{trace};
 ghost use Rattle.ion_text.specs.machine.Progress.{BeginsWith, Stands, failed, octets_used, pending};
 
 use super::TextReader;
-use super::ahead::seems_cut;
 use crate::recent_symbols::RecentSymbols;
 use crate::state::Now;
+use ion_lookahead::seems_cut;
 use ion_model::{Reason, Refusal, Sequence, Value};
 use ion_symtab::{Catalog, Context, Glance, Items, Limits, Passed, Step};
 use ion_tokens::{Scanner, TokenReader};

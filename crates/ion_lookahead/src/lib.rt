@@ -1,5 +1,8 @@
-//! Whether the value at the front of octets seems to go on behind them. Its quotes, brackets and
-//! comments tell that; the rest of it is looked over without regard to what it says.
+//! Whether the value at the front of octets of a text document seems to go on behind them. Its
+//! quotes, brackets and comments tell that; the rest of it is looked over without regard to what it
+//! says.
+#![tactic(auto)]
+
 ghost use Rattle.std.specs.Prelude.{◌<◌, length};
 
 use ion_symtab::Glance;
@@ -20,9 +23,11 @@ enum Told {
     NotCut,
 }
 
-/// Whether the octets seem to end in the value at their front. In `glance` the innermost open
-/// container is two bits of `open`, those around it are above, and a 1 is above all.
-pub(super) fn seems_cut(piece: &[u8], glance: &mut Glance) -> bool {
+/// Whether octets of a text document seem to end in the value at their front (Ion 1.0, "Ion Text
+/// Encoding"): a hint, on which no answer rests. `glance` holds what was found of fewer of them, so
+/// that none is looked over twice. In it the innermost open container is two bits of `open`, those
+/// around it are above, and a 1 is above all.
+pub fn seems_cut(piece: &[u8], glance: &mut Glance) -> bool {
     // each turn goes over an octet at least
     for _ in glance.looked..piece.len() {
         let looked = if glance.open > LONG_STRING {
