@@ -214,6 +214,7 @@ impl Items for BinaryReader<'_> {
         result
     }
 
+    #[inline(always)]
     fn pass(&mut self, piece: &[u8]) -> Result<Passed, Refusal> {
         if let Some(refusal) = self.failed {
             return Err(refusal);
