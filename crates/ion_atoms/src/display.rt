@@ -38,31 +38,45 @@ impl Display for Timestamp {
     ghost output = { λ timestamp. Some (timestamp_text timestamp) };
 
     fn fmt<W: fmt::Write>(&self, f: &mut Formatter<W>) -> fmt::Result {
-        let local = self.local();
-        match self.precision() {
-            Precision::Year => {
-                four(f, local.year)?;
-                f.write_str("T")
-            }
-            Precision::Month => {
-                month(f, local)?;
-                f.write_str("T")
-            }
-            Precision::Day => day(f, local),
-            Precision::Minute => {
-                minute(f, local)?;
-                offset(f, self.offset())
-            }
-            Precision::Second => {
-                second(f, local)?;
-                offset(f, self.offset())
-            }
-            Precision::Fraction(digits) => {
-                second(f, local)?;
-                f.write_str(".")?;
-                places(f, digits, local.fraction)?;
-                offset(f, self.offset())
-            }
+        cut(f, self.precision(), self.local(), self.offset())
+    }
+}
+
+/// Local fields to this precision, and the offset behind a time.
+fn cut<W: fmt::Write>(
+    f: &mut Formatter<W>,
+    precision: Precision,
+    local: Local,
+    ahead: Option<i16>,
+) -> fmt::Result
+    requires date { (local.year < 10000) × (local.month < 100) × (local.day < 100) }
+    requires time { (local.hour < 100) × (local.minute < 100) × (local.second < 100) }
+    requires ahead { IfSome ahead IsOffset }
+    ensures { WritesOnOk W.write_str_gives f.old result (cut_text precision local ahead) f.new }
+{
+    match precision {
+        Precision::Year => {
+            four(f, local.year)?;
+            f.write_str("T")
+        }
+        Precision::Month => {
+            month(f, local)?;
+            f.write_str("T")
+        }
+        Precision::Day => day(f, local),
+        Precision::Minute => {
+            minute(f, local)?;
+            offset(f, ahead)
+        }
+        Precision::Second => {
+            second(f, local)?;
+            offset(f, ahead)
+        }
+        Precision::Fraction(digits) => {
+            second(f, local)?;
+            f.write_str(".")?;
+            places(f, digits, local.fraction)?;
+            offset(f, ahead)
         }
     }
 }
@@ -101,13 +115,21 @@ fn places<W: fmt::Write>(f: &mut Formatter<W>, digits: u8, value: u128) -> fmt::
     digit(f, (value % 10) as u8)
 }
 
+/// Two digits behind a mark.
+fn marked<W: fmt::Write>(f: &mut Formatter<W>, mark: &str, value: u8) -> fmt::Result
+    requires { value < 100 }
+    ensures { WritesOnOk W.write_str_gives f.old result (mark.now ++ two_digits value) f.new }
+{
+    f.write_str(mark)?;
+    two(f, value)
+}
+
 fn month<W: fmt::Write>(f: &mut Formatter<W>, local: Local) -> fmt::Result
     requires { (local.year < 10000) × (local.month < 100) }
     ensures { WritesOnOk W.write_str_gives f.old result (month_text local) f.new }
 {
     four(f, local.year)?;
-    f.write_str("-")?;
-    two(f, local.month)
+    marked(f, "-", local.month)
 }
 
 fn day<W: fmt::Write>(f: &mut Formatter<W>, local: Local) -> fmt::Result
@@ -115,8 +137,7 @@ fn day<W: fmt::Write>(f: &mut Formatter<W>, local: Local) -> fmt::Result
     ensures { WritesOnOk W.write_str_gives f.old result (day_text local) f.new }
 {
     month(f, local)?;
-    f.write_str("-")?;
-    two(f, local.day)
+    marked(f, "-", local.day)
 }
 
 fn minute<W: fmt::Write>(f: &mut Formatter<W>, local: Local) -> fmt::Result
@@ -125,10 +146,8 @@ fn minute<W: fmt::Write>(f: &mut Formatter<W>, local: Local) -> fmt::Result
     ensures { WritesOnOk W.write_str_gives f.old result (minute_text local) f.new }
 {
     day(f, local)?;
-    f.write_str("T")?;
-    two(f, local.hour)?;
-    f.write_str(":")?;
-    two(f, local.minute)
+    marked(f, "T", local.hour)?;
+    marked(f, ":", local.minute)
 }
 
 fn second<W: fmt::Write>(f: &mut Formatter<W>, local: Local) -> fmt::Result
@@ -137,8 +156,7 @@ fn second<W: fmt::Write>(f: &mut Formatter<W>, local: Local) -> fmt::Result
     ensures { WritesOnOk W.write_str_gives f.old result (second_text local) f.new }
 {
     minute(f, local)?;
-    f.write_str(":")?;
-    two(f, local.second)
+    marked(f, ":", local.second)
 }
 
 fn offset<W: fmt::Write>(f: &mut Formatter<W>, ahead: Option<i16>) -> fmt::Result
@@ -159,8 +177,6 @@ fn clock<W: fmt::Write>(f: &mut Formatter<W>, sign: &str, minutes: u16) -> fmt::
     requires { minutes < 6000 }
     ensures { WritesOnOk W.write_str_gives f.old result (sign.now ++ clock_text minutes) f.new }
 {
-    f.write_str(sign)?;
-    two(f, (minutes / 60) as u8)?;
-    f.write_str(":")?;
-    two(f, (minutes % 60) as u8)
+    marked(f, sign, (minutes / 60) as u8)?;
+    marked(f, ":", (minutes % 60) as u8)
 }
