@@ -5,19 +5,25 @@ use std::alloc::Global;
 /// A document of one struct.
 pub(crate) fn written(alloc: Global, target: Target) -> Result<Vec<u8>, Fault> {
     let value = order(alloc).map_err(|_| Fault::Memory)?;
-    let mut out = ToWrite::new(Vec::new(alloc));
     match target {
-        Target::Binary => {
-            let mut writer = BinaryWriter::new(alloc)?;
-            writer.put(&mut out, &value)?;
-            writer.finish(&mut out)?;
-        }
-        Target::Text => {
-            let mut writer = TextWriter::new(alloc);
-            writer.put(&mut out, &value)?;
-            writer.finish(&mut out)?;
-        }
+        Target::Binary => as_binary(alloc, &value),
+        Target::Text => as_text(alloc, &value),
     }
+}
+
+fn as_binary(alloc: Global, value: &Value) -> Result<Vec<u8>, Fault> {
+    let mut out = ToWrite::new(Vec::new(alloc));
+    let mut writer = BinaryWriter::new(alloc)?;
+    writer.put(&mut out, value)?;
+    writer.finish(&mut out)?;
+    Ok(out.into_inner())
+}
+
+fn as_text(alloc: Global, value: &Value) -> Result<Vec<u8>, Fault> {
+    let mut out = ToWrite::new(Vec::new(alloc));
+    let mut writer = TextWriter::new(alloc);
+    writer.put(&mut out, value)?;
+    writer.finish(&mut out)?;
     Ok(out.into_inner())
 }
 

@@ -7,8 +7,8 @@ mod catalogs;
 mod comparing;
 mod summing;
 
+use anyhow::Result;
 use ion::Target;
-use std::io;
 
 const LEFT: &[u8] = b"{name: \"a\", tags: [1, 2]}";
 
@@ -24,31 +24,21 @@ const TABLES: &[u8] =
 const USES: &[u8] =
     b"$ion_symbol_table::{imports: [{name: \"shop\", version: 1, max_id: 1}]} $10 $10";
 
-fn main(rt: HostRuntime) -> io::Result<()> {
+fn main(rt: HostRuntime) -> Result<()> {
     let alloc = rt.alloc();
     for right in [LEFT, RIGHT, CUT] {
-        match comparing::told(alloc, LEFT, right) {
-            Ok(line) => println!(rt; "{line}")?,
-            Err(fault) => println!(rt; "{fault}")?,
-        }
+        let line = comparing::told(alloc, LEFT, right)?;
+        println!(rt; "{line}")?;
     }
-    match summing::sum_of(alloc, ORDERS, "count") {
-        Ok(sum) => println!(rt; "{sum} pieces")?,
-        Err(stop) => println!(rt; "{stop}")?,
-    }
-    match building::spelled(alloc) {
-        Ok(text) => println!(rt; "{text}")?,
-        Err(reason) => println!(rt; "{reason}")?,
-    }
+    let sum = summing::sum_of(alloc, ORDERS, "count")?;
+    println!(rt; "{sum} pieces")?;
+    let text = building::spelled(alloc)?;
+    println!(rt; "{text}")?;
     for target in [Target::Text, Target::Binary] {
-        match building::written(alloc, target) {
-            Ok(octets) => println!(rt; "{} octets", octets.len())?,
-            Err(fault) => println!(rt; "{fault}")?,
-        }
+        let octets = building::written(alloc, target)?;
+        println!(rt; "{} octets", octets.len())?;
     }
-    match catalogs::counted(alloc, TABLES, USES) {
-        Ok(count) => println!(rt; "{count} values under the catalog")?,
-        Err(error) => println!(rt; "{error}")?,
-    }
+    let count = catalogs::counted(alloc, TABLES, USES)?;
+    println!(rt; "{count} values under the catalog")?;
     Ok(())
 }

@@ -6,14 +6,14 @@ use std::alloc::Global;
 pub(crate) fn sum_of(alloc: Global, octets: &[u8], name: &str) -> Result<i128, Stop> {
     let catalog = Catalog::new(alloc);
     let mut reader = FromRead::new(octets);
-    let mut sum: i128 = 0;
-    for value in values(alloc, &mut reader, &catalog, Limits::usual())?.each() {
+    let mut stream = values(alloc, &mut reader, &catalog, Limits::usual())?.each();
+    let sum = stream.try_fold(0, |sum: i128, value: Result<Value, Stop>| {
         let value = value?;
-        if let Some(number) = int_in(&value, name) {
-            sum = sum.saturating_add(number);
-        }
-    }
-    Ok(sum)
+        Ok(sum.saturating_add(int_in(&value, name).unwrap_or(0)))
+    });
+    // (by a call, or a proof goes through all that it owns)
+    drop(stream);
+    sum
 }
 
 /// The int in a field of a struct, if there is one.
