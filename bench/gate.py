@@ -1,9 +1,10 @@
 #!/usr/bin/env python3
 """Where the gate's processor time goes, by crate: bench/gate.py [COMMAND..], at the top; `.ci/run` if none is given.
 
-Runs the command, looks once a second at the processes that it started, and prints minutes of processor time: of the proof
-of each crate, of its tests, of the second proof with which its edits begin, and of its edits. What ends within a second is
-missed; the last line has what the machine counted, of which others may have a part.
+Runs the command, looks once a second at the processes that it started, and prints minutes of processor time: of the
+proof of each crate, of its tests, of the second proof with which its edits begin (kit 13b counts it among them), and of
+its edits. What ends within a second is missed; the last line has what the machine counted, of which others may have a
+part.
 """
 import collections
 import os

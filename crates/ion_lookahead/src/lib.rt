@@ -25,8 +25,8 @@ enum Told {
 
 /// Whether octets of a text document seem to end in the value at their front (Ion 1.0, "Ion Text
 /// Encoding"): a hint, on which no answer rests. `glance` holds what was found of fewer of them, so
-/// that none is looked over twice. In it the innermost open container is two bits of `open`, those
-/// around it are above, and a 1 is above all.
+/// that only a token that these ended in is looked over again. In it the innermost open container is
+/// two bits of `open`, those around it are above, and a 1 is above all.
 pub fn seems_cut(piece: &[u8], glance: &mut Glance) -> bool {
     // each turn goes over an octet at least
     for _ in glance.looked..piece.len() {
