@@ -1,8 +1,7 @@
 #!/bin/sh
 # Times a program on text documents: records, the same records indented, and long texts, with the peak of memory
 # (the Python that starts it has some 14 MiB). The document is its standard input.
-# usage: bench/texts.sh PROGRAM [MEGABYTES [WORDS..]]: the scanner alone by crates/scan_speed/out/scan_speed, which
-# `rt run` builds there; the command by crates/ion_cmd/out/ion_cmd 100 check - or 100 convert - --to binary
+# usage: bench/texts.sh PROGRAM [MEGABYTES [WORDS..]]: crates/ion_cmd/out/ion_cmd 100 check -, or 100 convert - --to binary
 set -eu
 program=$1
 megabytes=${2:-100}

@@ -11,8 +11,6 @@ mod alike_texts;
 #[cfg(test)]
 mod answers;
 #[cfg(test)]
-mod devices;
-#[cfg(test)]
 mod errors;
 #[cfg(test)]
 mod faults;
@@ -24,17 +22,11 @@ mod lines;
 #[cfg(test)]
 mod memory;
 #[cfg(test)]
-mod model;
-#[cfg(test)]
-mod parts;
-#[cfg(test)]
 mod readers;
 #[cfg(test)]
 mod reordered;
 #[cfg(test)]
 mod reordered_texts;
-#[cfg(test)]
-mod scanner;
 #[cfg(test)]
 mod shelves;
 #[cfg(test)]
@@ -43,11 +35,7 @@ mod starved;
 mod steps;
 #[cfg(test)]
 mod streams;
-#[cfg(test)]
-mod tokens;
 mod wanted;
-#[cfg(test)]
-mod words;
 #[cfg(test)]
 mod writers;
 

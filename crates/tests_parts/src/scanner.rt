@@ -1,5 +1,6 @@
 //! What a scanner holds, foresees and lends, and what it says again.
 use crate::answers::same;
+use crate::counting::{Count, Uncounted, count_piece};
 use ion_model::{Reason, Refusal};
 use ion_tokens::{Body, Foresight, Form, Place, Scanner, Token};
 use std::alloc::Global;
@@ -234,4 +235,39 @@ static LENT_OPERATORS: [(&[u8], Stepped); 3] = [
 #[test]
 fn lent_operators(rt: HostRuntime) {
     gives(&rt, rt.alloc(), Place::Sexp, &LENT_OPERATORS);
+}
+
+/// How many tokens two pieces end together, or why that isn't counted.
+fn counted(alloc: Global, first: &[u8], second: &[u8]) -> Result<u64, Uncounted> {
+    if first.len() > 4096 || second.len() > 4096 {
+        return Err(Uncounted::TooLong);
+    }
+    let mut scanner = Scanner::new(alloc);
+    let mut count = Count::new(alloc);
+    let answer = match count_piece(&mut scanner, &mut count, first) {
+        Ok(()) => count_piece(&mut scanner, &mut count, second),
+        Err(uncounted) => Err(uncounted),
+    };
+    let tokens = count.tokens();
+    drop(count);
+    drop(scanner);
+    match answer {
+        Ok(()) => Ok(tokens),
+        Err(uncounted) => Err(uncounted),
+    }
+}
+
+/// Tokens are counted, however the octets are cut, up to the octet that is refused.
+#[test]
+fn tokens_are_counted(rt: HostRuntime) {
+    let whole = counted(rt.alloc(), b"{a:1, b:\"x\"}", b"");
+    same(&rt, "in one piece", whole, Ok(9));
+    let cut = counted(rt.alloc(), b"{a:1, b:\"", b"x\"}");
+    same(&rt, "in two", cut, Ok(9));
+    let refusal = Refusal {
+        offset: 3,
+        reason: Reason::BadEscape,
+    };
+    let refused = counted(rt.alloc(), b"\"\\q", b"\"");
+    same(&rt, "refused", refused, Err(Uncounted::Refused(refusal)));
 }
