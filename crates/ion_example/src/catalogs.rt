@@ -8,6 +8,7 @@ use std::alloc::Global;
 pub(crate) fn counted(alloc: Global, tables: &[u8], octets: &[u8]) -> Result<u64> {
     let limits = Limits::usual();
     let catalog = load_catalog(alloc, &mut FromRead::new(tables), limits)??;
-    let count = check(alloc, &mut FromRead::new(octets), &catalog, limits)??;
-    Ok(count)
+    let count = check(alloc, &mut FromRead::new(octets), &catalog, limits);
+    drop(catalog); // before the `?`, as in `comparing.rt`
+    Ok(count??)
 }

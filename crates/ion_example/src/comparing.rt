@@ -10,11 +10,16 @@ pub(crate) fn told(alloc: Global, left: &[u8], right: &[u8]) -> Result<String, F
     let limits = Limits::usual();
     let mut first = FromRead::new(left);
     let mut second = FromRead::new(right);
-    let line = match compare(alloc, &mut first, &mut second, &catalog, limits)? {
-        Verdict::Equivalent { values } => format!(in alloc; "{values} values, the same data")?,
+    let verdict = compare(alloc, &mut first, &mut second, &catalog, limits);
+    // What is let go before a `?` isn't let go on its way out, which would have to be proved too.
+    drop(catalog);
+    match verdict? {
+        Verdict::Equivalent { values } => Ok(format!(in alloc; "{values} values, the same data")?),
         Verdict::Different { index, path } => {
-            let path = spelling_of_path(&path);
-            format!(in alloc; "value {index} differs at {path}")?
+            let spelled = spelling_of_path(&path);
+            let line = format!(in alloc; "value {index} differs at {spelled}");
+            drop(path);
+            Ok(line?)
         }
         Verdict::Refused { side, refusal } => {
             let octets = match side {
@@ -22,8 +27,7 @@ pub(crate) fn told(alloc: Global, left: &[u8], right: &[u8]) -> Result<String, F
                 Side::Right => right,
             };
             let at = position_of(&mut FromRead::new(octets), refusal.offset)?;
-            format!(in alloc; "no document: line {}, column {}", at.line, at.column)?
+            Ok(format!(in alloc; "no document: line {}, column {}", at.line, at.column)?)
         }
-    };
-    Ok(line)
+    }
 }
