@@ -156,17 +156,21 @@ pub fn convert_with_hasher<H: BuildHasher + Drop, R: Inlet, W: Outlet>(
         (W.has_failed writer.new) fault) }
 {
     let items = DocReader::new(alloc, catalog, limits).map_err(|_| Fault::Memory)?;
+    let reads = limits.reads();
     match target {
-        Target::Binary => {
-            let encoder = BinaryWriter::with_hasher(alloc, hasher)?;
-            let reads = limits.reads();
-            convert_by::<Transcribing, BinaryWriter<H>, DocReader<'_>, R, W>(
+        Target::Binary => match BinaryWriter::with_hasher(alloc, hasher) {
+            Ok(encoder) => convert_by::<Transcribing, BinaryWriter<H>, DocReader<'_>, R, W>(
                 alloc, encoder, items, reads, reader, writer,
-            )
-        }
+            ),
+            Err(fault) => {
+                // by a call, as in `compare`
+                drop(items);
+                Err(fault)
+            }
+        },
         Target::Text => {
+            drop(hasher);
             let encoder = TextWriter::new(alloc);
-            let reads = limits.reads();
             convert_by::<Transcribing, TextWriter, DocReader<'_>, R, W>(
                 alloc, encoder, items, reads, reader, writer,
             )
@@ -209,7 +213,11 @@ pub fn compare<L: Inlet, R: Inlet>(
         ⊎ IsReadCause R.Inlet limits.reads right.old right.new fault) }
 {
     let left_items = DocReader::new(alloc, catalog, limits).map_err(|_| Fault::Memory)?;
-    let right_items = DocReader::new(alloc, catalog, limits).map_err(|_| Fault::Memory)?;
+    let Ok(right_items) = DocReader::new(alloc, catalog, limits) else {
+        // by a call, which is one step of the proof; `?` would let go of it part by part
+        drop(left_items);
+        return Err(Fault::Memory);
+    };
     let reads = limits.reads();
     compare_by::<SideBySide, DocReader<'_>, DocReader<'_>, L, R>(
         alloc,

@@ -1,15 +1,12 @@
-use Rattle.std.proofs.Common.{rules, [], ◌≡◌, IfOk}
-use Rattle.ion_symtab.specs.laws.Took.{Front-none}
-use Rattle.ion_docs.specs.Converted.{at_start}
-use Rattle.ion_streams.proofs.Steps.{on_err}
+use Rattle.std.proofs.Common.{rules, ◌≡◌, IfOk}
 use Rattle.ion_docs.specs.Encodings.{encoding_of}
 use Rattle.ion_docs.specs.Formats.{documents}
 use Rattle.ion_docs.specs.Conversion.{WritesKept}
 use Rattle.ion_docs.specs.laws.Conversion.{keeps_if}
 use Rattle.ion_docs.proofs.documents.convert_with_hasher.Goals as goal
 
-pub returns-in_ok-encoder-in-Binary-clause-same : goal.returns-in_ok-encoder-in-Binary-clause-same
-returns-in_ok-encoder-in-Binary-clause-same g c =
+pub returns-in-Ok-clause-same : goal.returns-in-Ok-clause-same
+returns-in-Ok-clause-same g c =
     let under : c.in_ok-items.items.catalog.now ≡ c.args.catalog.now = search rules in
     let within : c.in_ok-items.items.limits ≡ c.args.limits = search rules in
     let kept : IfOk c.convert_by.result (WritesKept g.R.Inlet g.W.Outlet (encoding_of c.args.target) (documents c.args.catalog.now c.args.limits)
@@ -18,15 +15,11 @@ returns-in_ok-encoder-in-Binary-clause-same g c =
     keeps_if g.R.Inlet g.W.Outlet c.args.catalog.now c.args.limits c.args.reader.now c.convert_by.new.reader c.args.writer.now c.convert_by.new.writer
     c.args.target c.convert_by.result kept
 
-pub returns-in_ok-encoder-in-Binary-clause-converted : goal.returns-in_ok-encoder-in-Binary-clause-converted
-returns-in_ok-encoder-in-Binary-clause-converted g c =
+pub returns-in-Ok-clause-converted : goal.returns-in-Ok-clause-converted
+returns-in-Ok-clause-converted g c =
     let under : c.in_ok-items.items.catalog.now ≡ c.args.catalog.now = search rules in
     let within : c.in_ok-items.items.limits ≡ c.args.limits = search rules in
     rw (c.in-Binary.is, ← under, ← within) c.convert_by.ensures.converted
-
-pub returns-in_err-encoder-in-Binary-clause-so_far : goal.returns-in_err-encoder-in-Binary-clause-so_far
-returns-in_err-encoder-in-Binary-clause-so_far g c =
-    on_err c.from_residual-in_err-encoder-in-Binary.result _ (at_start (Front-none g.W.Outlet.took g.W.Outlet.written c.args.writer.now []))
 
 pub returns-in-Text-clause-same : goal.returns-in-Text-clause-same
 returns-in-Text-clause-same g c =
@@ -44,8 +37,8 @@ returns-in-Text-clause-converted g c =
     let within : c.in_ok-items.items.limits ≡ c.args.limits = search rules in
     rw (c.in-Text.is, ← under, ← within) c.convert_by-in-Text.ensures.converted
 
-pub returns-in_ok-encoder-in-Binary-clause-cause : goal.returns-in_ok-encoder-in-Binary-clause-cause
-returns-in_ok-encoder-in-Binary-clause-cause g c =
+pub returns-in-Ok-clause-cause : goal.returns-in-Ok-clause-cause
+returns-in-Ok-clause-cause g c =
     let under : c.in_ok-items.items.catalog.now ≡ c.args.catalog.now = search rules in
     let within : c.in_ok-items.items.limits ≡ c.args.limits = search rules in
     let asked : c.reads-reads.result ≡ c.args.limits.reads = search rules in
@@ -57,7 +50,7 @@ pub returns-in-Text-clause-cause : goal.returns-in-Text-clause-cause
 returns-in-Text-clause-cause g c =
     let under : c.in_ok-items.items.catalog.now ≡ c.args.catalog.now = search rules in
     let within : c.in_ok-items.items.limits ≡ c.args.limits = search rules in
-    let asked : c.reads-reads-in-Text.result ≡ c.args.limits.reads = search rules in
-    let few : c.reads-reads-in-Text.result ≡ c.in_ok-items.items.limits.reads = rw within asked in
+    let asked : c.reads-reads.result ≡ c.args.limits.reads = search rules in
+    let few : c.reads-reads.result ≡ c.in_ok-items.items.limits.reads = rw within asked in
     let cause = rw few at c.convert_by-in-Text.ensures.cause in
     rw (c.in-Text.is, ← under, ← within) cause
