@@ -5,6 +5,7 @@ pub mod Levels
 pub mod Inserted
 pub mod Insides
 pub mod Encoded
+pub mod Appended
 pub mod Numbered
 pub mod Ids
 pub mod Later
