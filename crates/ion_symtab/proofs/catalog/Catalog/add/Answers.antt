@@ -1,4 +1,5 @@
-use Rattle.std.proofs.Common.{◌≡◌, None, Some, [], ◌∷◌, ◌++◌, ◌&&◌, ◌==◌, inl, inr, cond, length, ℕ, List, Bool, true, false, Option, Bor, is_some, option_copied, refl, sym, subst, arith, rules}
+use Rattle.std.proofs.Common.{◌≡◌, None, Some, [], ◌∷◌, ◌++◌, ◌&&◌, ◌==◌, inl, inr, cond, length, ℕ, List, Bool, true, false}
+use Rattle.std.proofs.Common.{Option, Bor, is_some, option_copied, refl, sym, subst, arith, rules}
 use Rattle.std.specs.Str.{bytes_eq}
 use Rattle.std.specs.Option.{IsSome}
 use Rattle.ion_symtab.specs.kept.Places.{Indexes, newest_place, newest_of, place_of}
@@ -56,7 +57,8 @@ invariant_of-self-in-Ok c =
     c.find.result c.is_some.result _ c.is_some.ensures c.if-is_some.false (rw (c.name.ensures, c.version.ensures) at c.find.ensures)) in
     let count : c.len-place.result ≡ length c.self.inside.tables.items = omega (arith, c.len-place.ensures, c.self.inside.tables.ok.0) in
     let place : (q : List ℕ) (v : ℕ) → place_of c.add.new.self q v ≡ cond (bytes_eq c.args.table.name q && (c.args.table.version == v))
-    (Some (length c.self.inside.tables.items)) (place_of c.self.inside.places q v) = λ q v. rw (c.name-2.ensures, c.version-version.ensures, count) at (c.in-Ok.ensures.place q v) in
+    (Some (length c.self.inside.tables.items)) (place_of c.self.inside.places q v) =
+    λ q v. rw (c.name-2.ensures, c.version-version.ensures, count) at (c.in-Ok.ensures.place q v) in
     let noted : (q : List ℕ) → newest_of c.add.new.self q ≡ cond (bytes_eq c.args.table.name q)
     (Some (newest_place (newest_of c.self.inside.places c.args.table.name) (newest c.self.inside.tables.items c.args.table.name) c.args.table
     (length c.self.inside.tables.items))) (newest_of c.self.inside.places q) = λ q. cc (c.in-Ok.ensures.newest q) in
