@@ -1,5 +1,6 @@
-use Rattle.std.proofs.Common.{ℕ, inl, inr, drop, subst, arith}
+use Rattle.std.proofs.Common.{ℕ, inl, inr, drop, refl, subst, arith}
 use Rattle.std.proofs.lemmas.Bool.{false≢true}
+use Rattle.std.proofs.lemmas.List.{take_all}
 use Rattle.ion_scalar.specs.text.Ints.{BeginsWithNone}
 use Rattle.ion_scalar.specs.text.laws.OneRun.{all_used, none_begins}
 use Rattle.ion_scalar.proofs.digits.all_digits.Goals as goal
@@ -16,3 +17,16 @@ returns-then-digits-octets-clause-digits c =
             absurd (omega arith)
       ]),
     )
+
+pub returns-else-digits-octets-clause-digits : goal.returns-else-digits-octets-clause-digits
+returns-else-digits-octets-clause-digits c =
+    let whole = take_all c.digits_at-digits.result.used c.args.octets.now (omega arith) in
+    (λ some. rw whole at (c.digits_at-digits.ensures.digits (omega arith)), λ all. refl)
+
+pub returns-else-digits-octets-clause-value : goal.returns-else-digits-octets-clause-value
+returns-else-digits-octets-clause-value c =
+    rw (take_all c.digits_at-digits.result.used c.args.octets.now (omega arith)) at c.digits_at-digits.ensures.value
+
+pub returns-else-digits-octets-clause-count : goal.returns-else-digits-octets-clause-count
+returns-else-digits-octets-clause-count c =
+    rw (take_all c.digits_at-digits.result.used c.args.octets.now (omega arith)) at c.digits_at-digits.ensures.count
