@@ -224,10 +224,13 @@ impl<S: BuildHasher + Drop> BinaryWriter<S> {
         ensures again { (fault : AnyFault) → self.failed ≡ Some fault → (result ≡ Err fault)
             × (out.new ≡ out.old) }
     {
-        if let Some(fault) = self.failed {
+        let (failed, begun) = (self.failed, self.begun);
+        // by a call, which is one step of the proof; each way out would let go of it part by part
+        drop(self);
+        if let Some(fault) = failed {
             return Err(fault);
         }
-        if self.begun {
+        if begun {
             return flushed(out);
         }
         write_whole(out, &MARKER)?;
