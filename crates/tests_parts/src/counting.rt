@@ -1,8 +1,8 @@
 //! A client of the scanner: the clauses of `Scanner::step` alone say that its loop ends.
-ghost use Rattle.std.specs.Prelude.{◌≡◌, ◌+◌, ◌≤◌, Some, None, length, OnOk, IfErr};
+ghost use Rattle.std.specs.Prelude.{◌≡◌, ◌+◌, ◌<◌, ◌^◌, ◌≤◌, Some, None, length, OnOk, IfErr};
 ghost use Rattle.ion_atoms.specs.declared.refusal.Refusal.{Refusal};
-ghost use Rattle.ion_tokens.specs.machine.Views.{scanned, failure};
-ghost use Rattle.tests_parts.specs.declared.counting.Uncounted.TheVariants.{Refused};
+ghost use Rattle.ion_tokens.specs.machine.Views.{scanned, looks, failure};
+ghost use Rattle.tests_parts.specs.declared.counting.Uncounted.TheVariants.{Refused, TooLong};
 
 use ion_model::{Reason, Refusal};
 use ion_tokens::{Body, Mark, Place, Scan, Scanner};
@@ -81,6 +81,7 @@ pub fn count_piece(scanner: &mut Scanner, count: &mut Count, piece: &[u8]) -> Re
         ((scanned scanner.new).used ≡ (scanned scanner.old).used + length piece.now) }
     ensures refused { IfErr result (λ uncounted. (refusal : Refusal) →
         uncounted ≡ Refused refusal → failure scanner.new ≡ Some refusal) }
+    ensures too_long { IfErr result (λ uncounted. uncounted ≡ TooLong → 2 ^ 62 < looks scanner.new) }
 {
     let mut at = 0usize;
     while at < piece.len() {
