@@ -4,7 +4,7 @@ ghost use Rattle.ion_atoms.specs.declared.refusal.Refusal.{Refusal};
 ghost use Rattle.ion_tokens.specs.machine.Views.{scanned, looks, failure};
 ghost use Rattle.tests_parts.specs.declared.counting.Uncounted.TheVariants.{Refused, TooLong};
 
-use ion_model::{Reason, Refusal};
+use ion_model::Refusal;
 use ion_tokens::{Body, Mark, Place, Scan, Scanner};
 use std::alloc::{AllocError, Global};
 

@@ -1,6 +1,6 @@
-//! The tests of `tests_calls` that need no reader of documents: of values, tokens, devices, and the
-//! words of a command line. So the gate proves them while the readers are proved. For callers it has
-//! a client of the scanner, whose loop is proved to end.
+//! The tests that no row says and that need no reader of documents (`tests_calls` has the others): of
+//! values, tokens, devices, and what words ask for. So the gate proves them beside the readers. For
+//! callers there is a client of the scanner, whose loop is proved to end.
 #![tactic(auto)]
 
 #[cfg(test)]
