@@ -3,11 +3,16 @@ import os
 import subprocess
 import sys
 
+from shapes import SHAPES
+
 SINGLE = [["check"], ["show"], ["convert", "--to", "text"], ["convert", "--to", "binary"]]
 DOCUMENTS = [
     "records.ion", "shuffled.ion", "pretty.ion", "texts.ion", "nested.ion", "lines.ion",
     "mixed.10n", "small.10n", "blobs.10n", "records.10n", "nested.10n",
+    *(f"{name}.ion" for name in SHAPES),
 ]  # fmt: skip
+# One value of a shape is as long as its document, so the greatest limit is given.
+LIMITS = ["--item", str(1 << 30)]
 # Beside each document with itself.
 PAIRS = [
     ("records.ion", "records.10n"),
@@ -21,7 +26,7 @@ PAIRS = [
 def write(folder, megabytes, program):
     """Writes the documents there. What stands in both encodings is converted by that program."""
     here = os.path.dirname(os.path.abspath(__file__))
-    for script in ("documents.py", "texts.py"):
+    for script in ("documents.py", "texts.py", "shapes.py"):
         subprocess.run([sys.executable, f"{here}/{script}", folder, megabytes], check=True)
     for name in ("records", "shuffled", "nested"):
         with open(f"{folder}/{name}.10n", "wb") as out:
@@ -32,7 +37,7 @@ def rows(folder):
     """Of each row its label, the words, and the size of its document, in `compare` of the left one."""
     for name in DOCUMENTS:
         for words in SINGLE:
-            yield f"{name} {' '.join(words)}", [words[0], f"{folder}/{name}", *words[1:]], os.path.getsize(f"{folder}/{name}")
+            yield f"{name} {' '.join(words)}", [words[0], f"{folder}/{name}", *words[1:], *LIMITS], os.path.getsize(f"{folder}/{name}")
     for left, right in [(name, name) for name in DOCUMENTS] + PAIRS:
-        words = ["compare", f"{folder}/{left}", f"{folder}/{right}"]
+        words = ["compare", f"{folder}/{left}", f"{folder}/{right}", *LIMITS]
         yield f"compare {left} {right}", words, os.path.getsize(f"{folder}/{left}")
