@@ -95,8 +95,8 @@ impl Reason {
 
     /// Whether octets that are refused for it may be Ion 1.0 all the same, which this project
     /// doesn't read (`docs/FORMAT.md`), or not within these limits and under this catalog. Octets
-    /// refused for another reason are no Ion 1.0, or want of memory and of further octets says
-    /// nothing of them.
+    /// refused for another reason are no Ion 1.0, or are refused for a choice that
+    /// `docs/FORMAT.md` marks as own, or want of memory and of further octets says nothing of them.
     pub fn is_of_profile(self) -> bool
         ensures { result ≡ is_of_profile self }
     {
