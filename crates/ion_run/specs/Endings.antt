@@ -44,6 +44,7 @@ module _ {T : Type 0} (W : Outlet T) where
       × IsPassedOn new
   EndsCompared old new (verdicts.Refused side refusal) ending = (ending ≡ Refused (One side) refusal) × Took W.took W.written old new []
 
-  -- between old and new a device that had passed on all that it took has passed on all again
+  -- Between old and new a device that had passed on all that it took has passed on all again: where nothing was written, what was kept back before may
+  -- still be. Where something was, the endings above say so without this condition.
   abbrev pub PassesOn : T → T → Type 0
   PassesOn old new = IsPassedOn old → IsPassedOn new
