@@ -9,6 +9,7 @@ mod display;
 mod halves;
 mod int;
 mod kind;
+pub mod order_laws;
 mod orders;
 mod refusal;
 mod text;
