@@ -1,5 +1,5 @@
 //! The place of an octet in a text.
-ghost use Rattle.std.specs.Prelude.{◌≡◌, ◌+◌, ◌≤◌, ◌⊎◌, true, false, IfOk, IfErr, OnOk};
+ghost use Rattle.std.specs.Prelude.{◌≡◌, ◌+◌, ◌≤◌, ◌⊎◌, true, false, length, IfOk, IfErr, OnOk};
 ghost use Rattle.ion_lines.specs.Lines.{IsPosition};
 
 use crate::spot::Spot;
@@ -27,6 +27,7 @@ pub struct Position {
 pub fn position_of<R: Inlet>(reader: &mut R, offset: u64) -> Result<Position, Fault>
     ensures position { IfOk result (IsPosition R.Inlet reader.old reader.new offset) }
     ensures few_calls { R.calls_made reader.new ≤ R.calls_made reader.old + offset }
+    ensures few_octets { length (R.handed reader.new) ≤ length (R.handed reader.old) + offset }
     ensures no_read_failed { OnOk result
         ((reader.new ≡ reader.old) ⊎ (R.has_failed reader.new ≡ false)) }
     ensures cause { IfErr result (λ fault. (fault ≡ Fault.Read)

@@ -1,8 +1,9 @@
-use Rattle.std.proofs.Common.{inr, ℕ, ◌≤◌, ◌<◌, ◌≡◌, List, [], ◌++◌, take, drop, length, min, Bool, true, false, ap, sym, ◌∙◌, arith, length-take, length-drop, length-append, append-nil}
+use Rattle.std.proofs.Common.{inr, ℕ, ◌+◌, ◌≤◌, ◌<◌, ◌≡◌, List, [], ◌++◌, take, drop, length, min, Bool, true, false, ap, sym, ◌∙◌, arith, length-take, length-drop, length-append, append-nil}
 use Rattle.std.proofs.lemmas.Bool.{false≢true}
 use Rattle.std.proofs.lemmas.List.{take-append-le, take_all, length-take-le}
 use Rattle.ion_symtab.specs.declared.inlet.Inlet.{Ghosts as Inlet}
 use Rattle.ion_symtab.specs.Heard.{Heard}
+use Rattle.ion_symtab.specs.Told.{Told}
 use Rattle.ion_symtab.specs.laws.Heard.{Heard-trans}
 use Rattle.ion_lines.specs.Lines.{IsPosition, position}
 use Rattle.ion_lines.specs.declared.position.Position.{Position}
@@ -123,3 +124,32 @@ returns-clause-position g c =
     let none = c.loop-left-test.false in
     there g.R.Inlet c.args.reader.now c.loop-left.reader c.args.offset c.position-2.result i.0 false i.1 (λ _. omega (arith, all, none)) (omega (arith, all))
     (c.position-2.ensures i.0 i.2)
+
+-- how many octets a device has handed over, once it told these
+handed_length : {S : Type 0} (R : Inlet S) (before now : S) (octets : List ℕ) → Told R.tells R.handed before now octets
+    → length (R.handed now) ≡ length (R.handed before) + length octets
+handed_length R before now octets told = ap length told.handed_over ∙ length-append (R.handed before) octets
+
+pub returns-in-Err-clause-few_octets : goal.returns-in-Err-clause-few_octets
+returns-in-Err-clause-few_octets g c =
+    let i = c.loop-left.invariant in
+    let first = handed_length g.R.Inlet c.args.reader.now c.loop-left.reader i.0 i.1.told in
+    let more = handed_length g.R.Inlet c.loop-left.reader c.read.new.self [] c.in-Err.ensures.kept in
+    let all = i.3 in
+    omega (arith, first, more, all)
+
+pub returns-in-Ok-eq0-clause-few_octets : goal.returns-in-Ok-eq0-clause-few_octets
+returns-in-Ok-eq0-clause-few_octets g c =
+    let i = c.loop-left.invariant in
+    let zero = c.in-Ok-eq0.field-0-test in
+    let first = handed_length g.R.Inlet c.args.reader.now c.loop-left.reader i.0 i.1.told in
+    let more = handed_length g.R.Inlet c.loop-left.reader c.read.new.self [] (rw zero at c.in-Ok-eq0.ensures.told) in
+    let all = i.3 in
+    omega (arith, first, more, all)
+
+pub returns-clause-few_octets : goal.returns-clause-few_octets
+returns-clause-few_octets g c =
+    let i = c.loop-left.invariant in
+    let first = handed_length g.R.Inlet c.args.reader.now c.loop-left.reader i.0 i.1.told in
+    let all = i.3 in
+    omega (arith, first, all)
