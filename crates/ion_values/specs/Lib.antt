@@ -1,3 +1,4 @@
 pub mod Given
 pub mod Readable
 pub mod Each
+pub mod Messages

@@ -1,5 +1,5 @@
 //! The values of a document, one by one.
-ghost use Rattle.std.specs.Prelude.{◌≡◌, ℕ, ◌+◌, ◌^◌, ◌<◌, ◌≤◌, List, [], ◌++◌, false, Ok, None, IfOk, IfErr, OnOk, OnErr, IfSome, IsSome, option_to_list};
+ghost use Rattle.std.specs.Prelude.{◌≡◌, ℕ, ◌+◌, ◌^◌, ◌<◌, ◌≤◌, List, [], ◌++◌, ◌*◌, length, false, Ok, Some, None, IfOk, IfErr, OnOk, OnErr, IfSome, IsSome, option_to_list};
 ghost use Rattle.ion_model.specs.declared.value.Value.{Value};
 ghost use Rattle.ion_symtab.specs.declared.catalog.Catalog.{Catalog};
 ghost use Rattle.ion_symtab.specs.declared.limits.Limits.{Limits};
@@ -93,11 +93,16 @@ impl<'r, I: Items + Drop, R: Inlet> Values<'r, I, R> {
         ensures fused { IfSome (settled self.old.place self.old.fault) (λ answer.
             (result ≡ answer) × (self.new.reader.now ≡ self.old.reader.now)
             × (self.new.place ≡ self.old.place) × (self.new.fault ≡ self.old.fault)) }
+        ensures settles { given_by result ≡ [] →
+            settled self.new.place self.new.fault ≡ Some result }
         ensures less { IfOk result (λ value. IsSome value →
             work_of I.Items self.new.place < work_of I.Items self.old.place) }
         ensures no_more { work_of I.Items self.new.place ≤ work_of I.Items self.old.place }
         ensures few_calls { R.calls_made self.new.reader.now + reads_of self.new.place
             ≤ R.calls_made self.old.reader.now + reads_of self.old.place }
+        ensures few_octets { length (R.handed self.new.reader.now)
+            + 4096 * reads_of self.new.place
+            ≤ length (R.handed self.old.reader.now) + 4096 * reads_of self.old.place }
         ensures no_read_failed { IfAnswered result
             (NoReadFailed R.Inlet self.old.reader.now self.new.reader.now) }
     {
@@ -151,6 +156,8 @@ fn go_on<I: Items + Drop, R: Inlet>(
         IfOpen place.new (IsWithin R.Inlet reads first reader.new)) }
     ensures few_calls { R.calls_made reader.new + reads_of place.new
         ≤ R.calls_made reader.old + reads_of place.old }
+    ensures few_octets { length (R.handed reader.new) + 4096 * reads_of place.new
+        ≤ length (R.handed reader.old) + 4096 * reads_of place.old }
     ensures no_read_failed { OnOk result (NoReadFailed R.Inlet reader.old reader.new) }
     ensures cause { IfErr result (λ fault. (first : R) (reads : ℕ) →
         IfOpen place.old (IsWithin R.Inlet reads first reader.old) →

@@ -14,6 +14,10 @@ pub enum Stop {
 }
 
 impl Display for Stop {
+    ghost use Rattle.ion_values.specs.Messages.{stop_text};
+
+    ghost output = { stop_text };
+
     fn fmt<W: fmt::Write>(&self, f: &mut Formatter<W>) -> fmt::Result {
         match self {
             Stop::Refused(refusal) => refusal.fmt(f),
