@@ -1,10 +1,13 @@
--- The slots of a context: the system slots that it keeps, and those behind them.
-use Rattle.std.proofs.Common.{◌≡◌, ◌≢◌, ℕ, zero, suc, ◌<◌, ◌≤◌, ◌+◌, ◌-◌, Option, None, Some, Ok, List, [], ◌∷◌, ◌++◌, map, length, get_or, option_map, slice_get, refl, ap, sym, ◌∙◌, arith, length-append}
+-- The slots of a context by id, and the symbols of the system slots.
+use Rattle.std.proofs.Common.{◌≡◌, ◌≢◌, ℕ, zero, suc, ◌<◌, ◌≤◌, ◌+◌, ◌-◌, Option, None, Some, Ok, List, [], ◌∷◌, ◌++◌, map, length, take, drop, slice_get, option_map, Bor, refl, ap, sym, ◌∙◌, arith}
+use Rattle.std.specs.Prelude.{IfSome, MatchOption}
+use Rattle.std.specs.List.{HoldsAt}
+use Rattle.std.proofs.lemmas.List.{length-map, length-take-le, take-append-drop}
 use Rattle.std.proofs.lemmas.Option.{slice_get-map, slice_get_read}
-use Rattle.std.proofs.lemmas.List.{length-map}
 use Rattle.std.proofs.lemmas.Bool.{cond-false, ne_eqb}
 use Rattle.ion_symtab.specs.Slots.{Slot, system_slots, nine_system_slots, slot_symbol, symbol_at, resolve}
 use Rattle.ion_symtab.specs.Next.{local_slot}
+use Rattle.ion_symtab.specs.kept.Segments.{Indexes}
 
 -- a place within the first of two lists has its item
 pub slice_get-append_left : {X : Type 0} (xs ys : List X) (i : ℕ) → i < length xs → slice_get (xs ++ ys) i ≡ slice_get xs i
@@ -17,10 +20,6 @@ pub slice_get-append_right : {X : Type 0} (xs ys : List X) (i j : ℕ) → i ≡
 slice_get-append_right [] ys i j h = let e : i ≡ j = omega arith in ap (slice_get ys) e
 slice_get-append_right (x ∷ xs) ys zero j h = absurd (omega arith)
 slice_get-append_right (x ∷ xs) ys (suc i) j h = slice_get-append_right xs ys i j (omega arith)
-
--- how many slots there are
-pub length_of : (slots context : List Slot) → system_slots ++ slots ≡ context → length context ≡ 9 + length slots
-length_of slots context e = omega (arith, ap length e, length-append system_slots slots, nine_system_slots)
 
 -- nine symbols are kept
 pub nine_symbols : (symbols : List (Option (List ℕ))) → map local_slot symbols ≡ system_slots → length symbols ≡ 9
@@ -36,30 +35,21 @@ slot_symbol-local : (s : Option (List ℕ)) → slot_symbol (local_slot s) ≡ O
 slot_symbol-local None = refl
 slot_symbol-local (Some t) = refl
 
--- an id among the system slots
-pub resolve_system : (symbols : List (Option (List ℕ))) (slots context : List Slot) (id : ℕ) (s : Option (List ℕ)) → map local_slot symbols ≡ system_slots →
-    system_slots ++ slots ≡ context → id ≢ 0 → id - 1 < 9 → s ≡ get_or symbols (id - 1) s → resolve context id ≡ Ok s
-resolve_system symbols slots context id s e v h l r =
-    let n : length symbols ≡ 9 = nine_symbols symbols e in
-    let g : slice_get (system_slots ++ slots) (id - 1) ≡ Some (local_slot s) =
-    slice_get-append_left system_slots slots (id - 1) (omega (arith, nine_system_slots)) ∙ ap (λ xs. slice_get xs (id - 1)) (sym e)
-    ∙ slice_get-map local_slot symbols (id - 1)
-    ∙ ap (λ o. option_map local_slot o) (slice_get_read symbols (length symbols) (id - 1) s refl (omega arith) r) in
-    resolve_place context id h ∙ ap (λ xs. symbol_at (slice_get xs (id - 1))) (sym v) ∙ ap symbol_at g ∙ slot_symbol-local s
-
--- an id behind the system slots
-pub resolve_behind : (slots context : List Slot) (id : ℕ) → system_slots ++ slots ≡ context → id ≢ 0 → 9 ≤ id - 1 →
-    resolve context id ≡ symbol_at (slice_get slots (id - 1 - 9))
-resolve_behind slots context id v h l =
-    resolve_place context id h ∙ ap (λ xs. symbol_at (slice_get xs (id - 1))) (sym v)
-    ∙ ap symbol_at (slice_get-append_right system_slots slots (id - 1) (id - 1 - 9) (omega (arith, nine_system_slots)))
-
--- a place behind the earlier slots, among the symbols of local tables that stand there
-pub resolve_last : (first end place : ℕ) (slots : List Slot) (symbols : List (Option (List ℕ))) (s : Option (List ℕ)) → end ≡ first + length slots → end ≤ place
-    →
-    place - end < length symbols → s ≡ get_or symbols (place - end) s → symbol_at (slice_get (slots ++ map local_slot symbols) (place - first)) ≡ Ok s
-resolve_last first end place slots symbols s e l h r =
-    ap symbol_at
-    (slice_get-append_right slots (map local_slot symbols) (place - first) (place - end) (omega arith) ∙ slice_get-map local_slot symbols (place - end)
-    ∙ ap (λ o. option_map local_slot o) (slice_get_read symbols (length symbols) (place - end) s refl h r))
-    ∙ slot_symbol-local s
+-- the symbol of an id among those that stand by their ids
+pub resolve_indexed : (slots : List Slot) (from id : ℕ) (symbols : List (Option (List ℕ))) (r : Option (Bor (Option (List ℕ)))) → Indexes slots from symbols
+    → from < id →
+    MatchOption r (length symbols ≤ id - 1 - from) (λ x. (id - 1 - from < length symbols) × HoldsAt (λ y. x.now ≡ y) symbols (id - 1 - from)) →
+    IfSome r (λ x. resolve slots id ≡ Ok x.now)
+resolve_indexed slots from id symbols None i b m = record {}
+resolve_indexed slots from id symbols (Some x) i b m =
+    let n = length symbols in
+    let behind : id - 1 ≡ length (take from slots) + (id - 1 - from) = omega (arith, length-take-le from slots i.within, b) in
+    let near : id - 1 - from < length (take n (drop from slots)) = omega (arith, m.0, ap length i.are, length-map symbols local_slot) in
+    resolve_place slots id (omega (arith, b))
+    ∙ ap symbol_at (ap (λ xs. slice_get xs (id - 1)) (sym (take-append-drop from slots))
+    ∙ slice_get-append_right (take from slots) (drop from slots) (id - 1) (id - 1 - from) behind
+    ∙ ap (λ xs. slice_get xs (id - 1 - from)) (sym (take-append-drop n (drop from slots)))
+    ∙ slice_get-append_left (take n (drop from slots)) (drop n (drop from slots)) (id - 1 - from) near
+    ∙ ap (λ xs. slice_get xs (id - 1 - from)) (sym i.are) ∙ slice_get-map local_slot symbols (id - 1 - from)
+    ∙ ap (λ o. option_map local_slot o) (slice_get_read symbols n (id - 1 - from) x.now refl m.0 (m.1 x.now)))
+    ∙ slot_symbol-local x.now

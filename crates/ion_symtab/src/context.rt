@@ -1,16 +1,15 @@
 //! Contexts: what the symbol ids of a document stand for (Ion 1.0, "Symbols").
-ghost use Rattle.std.specs.Prelude.{◌≡◌, ◌⊎◌, ◌≤◌, true, length, Ok, Err, IfErr, IfOk, OnOk, OnErr, MatchResult, option_copied};
+ghost use Rattle.std.specs.Prelude.{◌≡◌, ◌⊎◌, ◌≤◌, true, length, Ok, Err, IfErr, OnOk, OnErr, MatchResult, option_copied};
 ghost use Rattle.ion_atoms.specs.declared.refusal.Reason.TheVariants as reasons;
 ghost use Rattle.ion_model.specs.Kinds.{is_table};
 ghost use Rattle.ion_symtab.specs.Slots.{greatest_id, system_slots, resolve};
-ghost use Rattle.ion_symtab.specs.Next.{next, extended, appends};
+ghost use Rattle.ion_symtab.specs.Next.{next, appends};
 ghost use Rattle.ion_symtab.specs.Outcome.{Gives};
-ghost use Rattle.ion_symtab.specs.kept.Segments.{Fills};
 
-use crate::added_slots::Added;
 use crate::catalog::Catalog;
-use crate::fields::{elements, only};
+use crate::fields::only;
 use crate::segments::Segments;
+use crate::symbols::Symbols;
 use ion_model::{Payload, Reason, Symbol, Value};
 use std::alloc::Global;
 use std::fmt::{self, Debug, Formatter};
@@ -21,8 +20,8 @@ use std::marker::Model;
 #[derive(Drop)]
 pub struct Context {
     unknown: Symbol,
-    system: Vec<Symbol>,
-    added: Added,
+    system: Symbols,
+    segments: Segments,
 }
 
 impl Debug for Context {
@@ -32,21 +31,18 @@ impl Debug for Context {
 }
 
 impl Model for Context {
-    ghost use Rattle.std.specs.Prelude.{List, None, ◌≡◌, map, ◌++◌};
+    ghost use Rattle.std.specs.Prelude.{List, None, ◌≡◌, map, take};
     ghost use Rattle.ion_symtab.specs.Slots.{Slot, system_slots};
+    ghost use Rattle.ion_symtab.specs.Next.{local_slot};
+    ghost use Rattle.ion_symtab.specs.kept.Segments.{slots_of};
 
     ghost Value = { List Slot };
 
-    ghost use Rattle.ion_symtab.specs.Next.{local_slot};
+    ghost view = { λ c. slots_of c.segments };
 
-    ghost view = { λ c. system_slots ++ c.added.slots };
-
-    ghost invariant = { λ c. (map local_slot c.system.items ≡ system_slots) × (c.added.first ≡ 9)
-        × (c.unknown ≡ None) };
+    ghost invariant = { λ c. (map local_slot c.system ≡ system_slots)
+        × (slots_of (take 1 c.segments) ≡ system_slots) × (c.unknown ≡ None) };
 }
-
-// How many system slots there are.
-const SYSTEM_SLOTS: u32 = 9;
 
 /// The texts of the system slots, from the id 1 on (Ion 1.0, "Symbols", "System Symbols").
 pub const SYSTEM_TEXTS: [&str; 9] = [
@@ -73,10 +69,12 @@ impl Context {
             let symbol = Symbol::known(alloc, text)?;
             system.push(symbol)?;
         }
+        let system = Symbols::from_vec(alloc, system)?;
+        let segments = Segments::of_system(alloc, system.share()?)?;
         Ok(Context {
             unknown: Symbol::unknown(),
             system,
-            added: Added::new(alloc, SYSTEM_SLOTS),
+            segments,
         })
     }
 
@@ -84,16 +82,15 @@ impl Context {
     pub fn reset(&mut self)
         ensures { self.new ≡ system_slots }
     {
-        self.added.clear();
+        self.segments.truncate(1);
     }
 
     /// The greatest id, which is the number of slots: 9 to 2^31-1. Takes no memory.
-    #[tactic(auto, using(crate::specs::Slots::nine_system_slots))]
     pub fn max_id(&self) -> u32
         ensures count { result ≡ length self.now }
         ensures bound { result ≤ greatest_id }
     {
-        self.added.end()
+        self.segments.end()
     }
 
     /// A copy of the symbol of an id, as `symbol` answers it, or `Memory`.
@@ -113,7 +110,7 @@ impl Context {
         ensures { MatchResult result (λ s. resolve self.now id ≡ Ok s.now)
             (λ r. resolve self.now id ≡ Err r) }
     {
-        match self.added.last_symbol(id) {
+        match self.segments.local_symbol(id) {
             Some(symbol) => Ok(symbol),
             None => self.any_symbol(id),
         }
@@ -132,11 +129,7 @@ impl Context {
         if id > self.max_id() as u64 {
             return Err(Reason::SymbolRange);
         }
-        let place = (id - 1) as u32;
-        if place < SYSTEM_SLOTS {
-            return Ok(&self.system.as_slice()[place as usize]);
-        }
-        self.added.symbol_at(place)
+        self.segments.symbol_at((id - 1) as u32)
     }
 
     /// Makes it the context behind a local symbol table (Ion 1.0, "Symbols", "Local Symbol Tables"
@@ -169,32 +162,14 @@ impl Context {
         };
         let imports = only(fields, "imports")?;
         let symbols = only(fields, "symbols")?;
-        let alloc = self.added.alloc();
         if appends(imports) {
-            let added = added(alloc, self.max_id(), imports, symbols, catalog)?;
-            self.added.append(added)?;
-        } else {
-            self.added = added(alloc, SYSTEM_SLOTS, imports, symbols, catalog)?;
+            return self.segments.extend(imports, symbols, catalog);
         }
+        let mut segments = Segments::of_system(self.segments.alloc(), self.system.share()?)?;
+        segments.extend(imports, symbols, catalog)?;
+        self.segments = segments;
         Ok(())
     }
-}
-
-// The slots that `imports` and `symbols` give, behind so many.
-fn added(
-    alloc: Global,
-    first: u32,
-    imports: Option<&Value>,
-    symbols: Option<&Value>,
-    catalog: &Catalog,
-) -> Result<Added, Reason>
-    requires { first ≤ greatest_id }
-    ensures { Fills (λ slots. extended catalog.now slots (option_copied imports.entry)
-        (option_copied symbols.entry)) first result }
-{
-    let mut earlier = Segments::new(alloc, first);
-    earlier.push_imports(elements(imports), catalog)?;
-    Added::behind(earlier, elements(symbols))
 }
 
 // Whether `imports` is the symbol `$ion_symbol_table`.

@@ -2,7 +2,6 @@
 //! and the devices that octets come from and go to.
 #![tactic(auto)]
 
-mod added_slots;
 mod catalog;
 mod catalog_index;
 mod context;

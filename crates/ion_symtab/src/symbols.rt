@@ -60,3 +60,15 @@ impl Symbols {
         self.shared.as_slice()
     }
 }
+
+/// Copies that share the texts. The only refusal is `Memory`.
+pub(crate) fn copies_of(alloc: Global, symbols: &[Symbol]) -> Result<Vec<Symbol>, Reason>
+    ensures { MatchResult result (λ c. c.items ≡ symbols.now) (λ r. r ≡ reasons.Memory) }
+{
+    let mut copies = Vec::new(alloc);
+    for symbol in symbols {
+        let copy = symbol.copy()?;
+        copies.push(copy)?;
+    }
+    Ok(copies)
+}

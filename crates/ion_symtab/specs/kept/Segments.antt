@@ -1,5 +1,5 @@
 -- The slots that the segments of a context stand for.
-use Rattle.std.specs.Prelude.{◌≡◌, ◌⊎◌, ℕ, ◌+◌, ◌≤◌, ◌<◌, List, ◌++◌, map, take, length, Result, Ok, Err, MatchResult}
+use Rattle.std.specs.Prelude.{◌≡◌, ◌⊎◌, ℕ, ◌≤◌, ◌<◌, List, map, take, drop, length, Option, Result, Ok, Err, MatchResult}
 use Rattle.std.specs.List.{flat_map}
 use Rattle.std.specs.Prelude.{slice_index_or}
 use Rattle.ion_atoms.specs.declared.refusal.Reason.{Reason}
@@ -7,22 +7,26 @@ use Rattle.ion_atoms.specs.declared.refusal.Reason.TheVariants as reasons
 use Rattle.ion_symtab.specs.Slots.{Slot, greatest_id}
 use Rattle.ion_symtab.specs.Next.{local_slot, shared_slot, cut_or_filled}
 use Rattle.ion_symtab.specs.declared.segments.Part.{Part}
-use Rattle.ion_symtab.specs.declared.segments.Part.TheVariants.{Local, Import}
+use Rattle.ion_symtab.specs.declared.segments.Part.TheVariants.{System, Import, Local}
 use Rattle.ion_symtab.specs.declared.segments.Segment.{Segment}
 
--- the slots of one table
+-- the slots of the system, of an import, or of one table
 abbrev pub part_slots : Part → List Slot
-part_slots (Local symbols) = map local_slot symbols.items
+part_slots (System symbols) = map local_slot symbols
 part_slots (Import symbols count) = cut_or_filled count (map shared_slot symbols)
+part_slots (Local symbols) = map local_slot symbols.items
 
 -- the slots of a segment's part
 abbrev pub segment_slots : Segment → List Slot
 segment_slots s = part_slots s.part
 
--- slots behind a first few that stand elsewhere
-pub record Row : Type 0 where
-  pub first : ℕ
-  pub slots : List Slot
+-- the slots of segments
+abbrev pub slots_of : List Segment → List Slot
+slots_of segments = flat_map segment_slots segments
+
+-- the segment of the system slots, of these symbols
+abbrev pub system_segment : List (Option (List ℕ)) → Segment
+system_segment symbols = record { before = 0; part = System symbols }
 
 -- a segment begins at a place or before it, or behind it
 abbrev pub StartsBy : ℕ → List Segment → ℕ → Type 0
@@ -33,29 +37,18 @@ abbrev pub StartsBehind : ℕ → List Segment → ℕ → Type 0
 StartsBehind place segments k = (d : Segment) → place < (slice_index_or segments k d).before
 
 -- each segment knows how many slots stand before it, and the number of all slots is in range
-pub record Counts (first : ℕ) (segments : List Segment) (end : ℕ) : Type 0 where
-  pub before : (k : ℕ) (d : Segment) → k < length segments →
-      (slice_index_or segments k d).before ≡ first + length (flat_map segment_slots (take k segments))
-  pub ends : end ≡ first + length (flat_map segment_slots segments)
+pub record Counts (segments : List Segment) (end : ℕ) : Type 0 where
+  pub before : (k : ℕ) (d : Segment) → k < length segments → (slice_index_or segments k d).before ≡ length (slots_of (take k segments))
+  pub ends : end ≡ length (slots_of segments)
   pub small : end ≤ greatest_id
 
--- whatever slots stand first, the row came to be what a function makes of all slots, or the reason is
--- its reason, or memory was refused
-pub record Adds (f : List Slot → Result (List Slot) Reason) (old new : Row) (result : Result (Unit {0}) Reason) : Type 0 where
-  pub first : new.first ≡ old.first
-  pub gives : (front : List Slot) → length front ≡ old.first → MatchResult result
-      (λ _. f (front ++ old.slots) ≡ Ok (front ++ new.slots))
-      (λ r. (r ≡ reasons.Memory) ⊎ (f (front ++ old.slots) ≡ Err r))
+-- the symbols are local ones of the slots behind so many
+pub record Indexes (slots : List Slot) (from : ℕ) (symbols : List (Option (List ℕ))) : Type 0 where
+  pub are : map local_slot symbols ≡ take (length symbols) (drop from slots)
+  pub within : from ≤ length slots
 
--- whatever slots stand first, so many as the row says, the row is what a function puts behind them, or
--- the reason is its reason, or memory was refused
-abbrev pub Fills : (List Slot → Result (List Slot) Reason) → ℕ → Result Row Reason → Type 0
-Fills f first result = (front : List Slot) → length front ≡ first → MatchResult result
-    (λ row. (row.first ≡ first) × (f front ≡ Ok (front ++ row.slots)))
-    (λ r. (r ≡ reasons.Memory) ⊎ (f front ≡ Err r))
-
--- as `Adds`, of a row that is made of another
-abbrev pub Builds : (List Slot → Result (List Slot) Reason) → Row → Result Row Reason → Type 0
-Builds f old result = (front : List Slot) → length front ≡ old.first → MatchResult result
-    (λ row. (row.first ≡ old.first) × (f (front ++ old.slots) ≡ Ok (front ++ row.slots)))
-    (λ r. (r ≡ reasons.Memory) ⊎ (f (front ++ old.slots) ≡ Err r))
+-- the segments that there were stay, and their slots and those behind are what a function makes of
+-- the slots that there were, or the reason is its reason, or memory was refused
+pub record Adds (f : List Slot → Result (List Slot) Reason) (old new : List Segment) (result : Result (Unit {0}) Reason) : Type 0 where
+  pub kept : take (length old) new ≡ old
+  pub gives : MatchResult result (λ _. f (slots_of old) ≡ Ok (slots_of new)) (λ r. (r ≡ reasons.Memory) ⊎ (f (slots_of old) ≡ Err r))

@@ -1,11 +1,10 @@
-use Rattle.std.proofs.Common.{◌≡◌, ◌++◌, List, length, drop}
-use Rattle.ion_symtab.specs.Slots.{Slot}
+use Rattle.std.proofs.Common.{◌≡◌, length, take, drop}
 use Rattle.ion_symtab.specs.Next.{imported}
+use Rattle.ion_symtab.specs.kept.Segments.{slots_of}
 use Rattle.ion_symtab.proofs.segments.Segments.push_imports.Given as goal
 
 abbrev pub invariant-loop-element : goal.invariant-loop-element
 invariant-loop-element l = record {
-  first : l.self.first ≡ l.initial.self.first;
-  so_far : (front : List Slot) → length front ≡ l.initial.self.first →
-      imported l.catalog (front ++ l.initial.self.slots) l.elements ≡ imported l.catalog (front ++ l.self.slots) (drop l.element-index l.elements);
+  kept : take (length l.initial.self) l.self ≡ l.initial.self;
+  so_far : imported l.catalog (slots_of l.initial.self) l.elements ≡ imported l.catalog (slots_of l.self) (drop l.element-index l.elements);
 }
