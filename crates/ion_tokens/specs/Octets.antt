@@ -51,18 +51,6 @@ is_stop o = among (codes "{}[](),\"'") o || is_white o
 abbrev pub is_base64 : ℕ → Bool
 is_base64 o = is_letter o || is_digit o || among (codes "+/=") o
 
--- the alphabet of base64
-abbrev pub is_base64_symbol : ℕ → Bool
-is_base64_symbol o = is_letter o || is_digit o || among (codes "+/") o
-
--- a symbol of base64 that may stand before `==`: of its six bits the last four are unused, and 0
-abbrev pub ends_before_two : ℕ → Bool
-ends_before_two o = among (codes "AQgw") o
-
--- a symbol that may stand before one `=`: its last two bits are unused, and 0
-abbrev pub ends_before_one : ℕ → Bool
-ends_before_one o = among (codes "AEIMQUYcgkosw048") o
-
 -- the number that a hexadecimal digit stands for, in upper or lower case
 abbrev pub hexadecimal_digit : ℕ → Option ℕ
 hexadecimal_digit o =

@@ -3,6 +3,7 @@
 ghost use Rattle.std.specs.Prelude.{◌≡◌, ◌+◌, ◌≤◌, ◌<◌, ◌^◌, length, get_or, take, IfSome};
 ghost use Rattle.std.specs.List.{take_while};
 ghost use Rattle.ion_tokens.specs.Blanks.{HasNoClose};
+ghost use Rattle.ion_tokens.specs.Octets.{is_white};
 ghost use Rattle.ion_tokens.specs.machine.AtOnce.{goes_on};
 ghost use Rattle.ion_tokens.specs.machine.Rests.{past_comment, RestsBehind};
 ghost use Rattle.ion_tokens.specs.declared.mode.Mode.TheVariants as modes;
@@ -107,11 +108,13 @@ fn comments(octets: &[u8], rest: Rest) -> (usize, Rest)
 }
 
 /// The blank at the front with the comments in it that end there: how many octets it has, and where
-/// a scanner rests behind it.
+/// a scanner rests behind it. All octets before the first comment are among them; which comments
+/// are, and what stands behind them, isn't promised.
 #[inline(always)]
 pub fn blank_with_comments(octets: &[u8], rest: Rest) -> (usize, Rest)
     requires room { rest.used + length octets.now < 2 ^ 63 }
-    ensures { RestsBehind octets.now result.0 rest result.1 }
+    ensures rests { RestsBehind octets.now result.0 rest result.1 }
+    ensures least { length (take_while is_white octets.now) ≤ result.0 }
 {
     let blank = blanks(octets);
     let behind = rest.past_blank(blank);

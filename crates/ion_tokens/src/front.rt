@@ -1,20 +1,16 @@
 //! Octets at the front of a piece with which the mode goes on as it is: they are taken up at once.
-ghost use Rattle.std.specs.Prelude.{◌≡◌, ◌+◌, ◌-◌, ◌^◌, ◌<◌, ◌≤◌, min, length, take, IfOk, IsUtf8};
+ghost use Rattle.std.specs.Prelude.{◌≡◌, ◌+◌, ◌-◌, ◌^◌, ◌<◌, ◌≤◌, min, length, take, IfOk, IsUtf8, false};
 ghost use Rattle.std.specs.List.{take_while};
-ghost use Rattle.ion_tokens.specs.Octets.{is_base64, is_base64_symbol, is_white, is_word_octet};
+ghost use Rattle.ion_tokens.specs.Octets.{is_base64, is_white, is_word_octet};
 ghost use Rattle.ion_tokens.specs.Lexemes.{Each};
 ghost use Rattle.ion_tokens.specs.machine.AtOnce.{is_between, is_plain, is_raw, is_numeric, is_plain_operator, goes_on, keeps_them, gone_on, AreKept, GoesOver};
 ghost use Rattle.ion_tokens.specs.machine.Machines.{known};
 ghost use Rattle.ion_tokens.specs.declared.mode.Mode.TheVariants as modes;
 
-use crate::lanes::{
-    base64_ends, base64_symbol_ends, number_ends, raw_ends, stars, text_ends, word_ends,
-};
+use crate::lanes::{base64_ends, number_ends, raw_ends, stars, text_ends, word_ends};
 use crate::machine::{Machine, start_of};
 use crate::mode::{Lob, Mode, Style, Within};
-use crate::octets::{
-    is_base64, is_base64_symbol, is_line_end, is_operator_octet, is_stop, is_white, is_word_octet,
-};
+use crate::octets::{is_base64, is_line_end, is_operator_octet, is_stop, is_white, is_word_octet};
 use crate::quoted::{is_clob, is_long, quote_of};
 use simdutf8::{compat, is_utf8};
 use std::alloc::AllocError;
@@ -279,34 +275,6 @@ fn each_of_base64(octets: &[u8]) -> usize
         .count()
 }
 
-/// How many symbols of base64 there are at the front.
-#[inline(always)]
-pub fn of_base64_symbols(octets: &[u8]) -> usize
-    ensures { result ≡ length (take_while is_base64_symbol octets.now) }
-{
-    let mut at = 0;
-    while octets.len() - at >= 16 {
-        let ends = base64_symbol_ends(u8x16::from_slice(&octets[at..]));
-        if ends != 0 {
-            return at + ends.trailing_zeros() as usize;
-        }
-        at += 16;
-    }
-    at + each_base64_symbol(&octets[at..])
-}
-
-// The same, one by one.
-#[inline(never)]
-fn each_base64_symbol(octets: &[u8]) -> usize
-    ensures { result ≡ length (take_while is_base64_symbol octets.now) }
-{
-    octets
-        .iter()
-        .copied()
-        .take_while(|octet| is_base64_symbol(*octet))
-        .count()
-}
-
 // How many ASCII characters there are at the front that a quoted text keeps as they are.
 #[inline(always)]
 fn plain(style: Style, octets: &[u8]) -> usize
@@ -375,10 +343,12 @@ impl Machine {
         ensures known { IfOk result (λ _. known self.new ≡ gone_on (known self.old) octets.now) }
         ensures looked { IfOk result (λ _. self.new.looked
             ≡ min (self.old.looked + length octets.now) (2 ^ 64 - 1)) }
+        ensures left { IfOk result (λ _. self.new.left ≡ false) }
     {
         if keeps_them(self.mode) {
             self.kept.extend_from_slice(octets)?;
         }
+        self.left = false;
         let count = octets.len() as u64;
         self.start = start_of(self.mode, self.start, self.used + (count - 1));
         self.used += count;

@@ -1,7 +1,7 @@
 //! Which of sixteen octets end a run, as the bits of a number, the first octet's lowest.
 ghost use Rattle.std.specs.Prelude.{◌≡◌, map, not, if◌then◌else◌};
 ghost use Rattle.std.specs.Simd.Lanes.{mask_l};
-ghost use Rattle.ion_tokens.specs.Octets.{is_base64, is_base64_symbol, is_word_octet};
+ghost use Rattle.ion_tokens.specs.Octets.{is_base64, is_word_octet};
 ghost use Rattle.ion_tokens.specs.machine.AtOnce.{goes_on, is_between, is_raw, is_numeric};
 ghost use Rattle.ion_tokens.specs.declared.mode.Mode.TheVariants as modes;
 
@@ -84,19 +84,6 @@ pub fn base64_ends(octets: u8x16) -> u64
         & digit.simd_ge(u8x16::splat(11))
         & octets.simd_ne(u8x16::splat(b'+'))
         & octets.simd_ne(u8x16::splat(b'='))).to_bitmask()
-}
-
-/// The octets that are no symbol of base64.
-#[inline(always)]
-pub fn base64_symbol_ends(octets: u8x16) -> u64
-    ensures { result ≡ mask_l (map (λ o. not (is_base64_symbol o)) octets) }
-{
-    let letter = (octets | u8x16::splat(0x20)) - u8x16::splat(b'a');
-    // `/` stands before `0`
-    let digit = octets - u8x16::splat(b'/');
-    (letter.simd_ge(u8x16::splat(26))
-        & digit.simd_ge(u8x16::splat(11))
-        & octets.simd_ne(u8x16::splat(b'+'))).to_bitmask()
 }
 
 /// The stars, with which no block comment goes on as it is.

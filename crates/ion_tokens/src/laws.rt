@@ -1,6 +1,6 @@
 //! What the definitions that this crate's contracts name have to do with the specification. A law
 //! is called for its clause alone.
-ghost use Rattle.std.specs.Prelude.{◌≡◌, ◌↔◌, ◌+◌, ◌<◌, ◌^◌, ◌++◌, ◌∷◌, ℕ, List, [], Bool, Some, Result, length, take, false};
+ghost use Rattle.std.specs.Prelude.{◌≡◌, ◌↔◌, ◌+◌, ◌<◌, ◌^◌, ◌++◌, ◌∷◌, ℕ, List, [], Bool, Some, Ok, Result, length, take, false};
 ghost use Rattle.std.specs.List.{flat_map};
 ghost use Rattle.ion_atoms.specs.declared.refusal.Reason.{Reason};
 ghost use Rattle.ion_tokens.specs.declared.mode.Place.{Place};
@@ -12,8 +12,9 @@ ghost use Rattle.ion_tokens.specs.Lexed.{Placed, Lexes, LooksIn, Passes};
 ghost use Rattle.ion_tokens.specs.machine.Scanned.{Scanned, Continues, ShowsBegun};
 ghost use Rattle.ion_tokens.specs.machine.Scanning.{Known, feed, follow, run, start_of};
 ghost use Rattle.ion_tokens.specs.declared.plain_tokens.Rest.{Rest};
-ghost use Rattle.ion_tokens.specs.machine.Rests.{resting, past_blank, past_token, lexeme_at, left_after, IsPassed, IsFound};
-ghost use Rattle.ion_tokens.specs.machine.Traces.{Told, Places, over, over_pieces, IsTraced};
+ghost use Rattle.ion_tokens.specs.machine.Rests.{resting, past_blank, past_token, lexeme_at, left_after, IsPassed, IsFound, RestsBehind};
+ghost use Rattle.ion_tokens.specs.machine.Said.{said};
+ghost use Rattle.ion_tokens.specs.machine.Traces.{Told, Places, over, over_pieces, told_there, IsTraced};
 ghost use Rattle.ion_tokens.specs.laws.Tokens.{TellsRightly, ToldAll, OneBegun, TracesTokens};
 ghost use Rattle.ion_tokens.specs.laws.TokensTraced.{TokensTraced};
 
@@ -84,9 +85,10 @@ pub fn one_begun()
     ensures { OneBegun }
 {}
 
-/// What is promised of a scanner that rests goes on where `move_to` sets it behind octets that were
-/// found: behind a blank the same tokens are told, and behind a token that one, too. An octet that
-/// showed the token's end and isn't part of it must come next.
+/// What is promised of a scanner that rests, and the trace in which it stands, go on where `move_to`
+/// sets it behind octets that were found: behind a blank, with comments or without, the same tokens
+/// are told, and behind a token that one, too. An octet that showed the token's end and isn't part
+/// of it must come next.
 pub fn moved()
     ensures blank { (p : Place) (r : Rest) (u octets : List ℕ) (ts : List Placed) (ahead : List ℕ)
         (n : ℕ) →
@@ -99,4 +101,24 @@ pub fn moved()
         Scanned q (resting (past_token p r kind n)) (u ++ take n octets)
         (ts ++ record { place = p; lexeme = lexeme_at r kind kept n } ∷ [])
         (left_after left n octets) }
+    ensures comments { (p : Place) (r behind : Rest) (u octets : List ℕ) (ts : List Placed)
+        (ahead : List ℕ) (n : ℕ) →
+        Scanned p (resting r) u ts ahead → Continues (take n octets) ahead →
+        RestsBehind octets n r behind → Scanned p (resting behind) (u ++ take n octets) ts [] }
+    ensures blank_traced { (places : Places) (r : Rest) (u octets : List ℕ) (told : List Told)
+        (ahead : List ℕ) (n : ℕ) →
+        IsTraced places (resting r) u told ahead → Continues (take n octets) ahead →
+        IsPassed octets n →
+        IsTraced places (resting (past_blank r n)) (u ++ take n octets) told [] }
+    ensures comments_traced { (places : Places) (r behind : Rest) (u octets : List ℕ)
+        (told : List Told) (ahead : List ℕ) (n : ℕ) →
+        IsTraced places (resting r) u told ahead → Continues (take n octets) ahead →
+        RestsBehind octets n r behind →
+        IsTraced places (resting behind) (u ++ take n octets) told [] }
+    ensures token_traced { (places : Places) (r : Rest) (u octets : List ℕ) (told : List Told)
+        (ahead : List ℕ) (kind : TokenKind) (kept : List ℕ) (n : ℕ) (left : Bool) (c : Content) →
+        IsTraced places (resting r) u told ahead → Continues octets ahead →
+        IsFound (places told) r octets kind kept n left → said kind kept ≡ Ok c →
+        IsTraced places (resting (past_token (places told) r kind n)) (u ++ take n octets)
+        (told ++ told_there r n c ∷ []) (left_after left n octets) }
 {}

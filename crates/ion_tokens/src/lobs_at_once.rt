@@ -1,6 +1,7 @@
 //! Blobs and clobs that lie whole in memory: each run of a blob's base64 is kept at once, and so is
 //! what stands between two escapes of a clob.
-ghost use Rattle.std.specs.Prelude.{◌≡◌, ◌+◌, ◌^◌, ◌<◌, ◌≤◌, ℕ, List, true, false, [], ◌∷◌, length, slice_index, take, IfSome};
+ghost use Rattle.std.specs.Prelude.{◌≡◌, ◌+◌, ◌^◌, ◌<◌, ◌≤◌, ℕ, List, true, false, [], ◌∷◌, length, slice_index, take, IfSome, Some};
+ghost use Rattle.ion_tokens.specs.Blobs.{blob_of};
 ghost use Rattle.ion_tokens.specs.machine.Contents.{AddsBase64, AddsSegments, StandsIn};
 ghost use Rattle.ion_tokens.specs.machine.Table.{is_name};
 
@@ -80,6 +81,24 @@ fn clob_segments(octets: &[u8], kept: &mut Vec<u8>) -> Option<usize>
     None
 }
 
+// The blob with so much content, whose base64 is this, where it stands for octets: they are put into
+// the buffer.
+fn blob(text: &[u8], count: usize, octets: &mut Vec<u8>) -> Option<FoundToken>
+    requires { count < 2 ^ 63 }
+    ensures { IfSome result (λ token.
+        (token ≡ record { kind = TokenKind.Blob; count = count + 4; left = false })
+        × (blob_of text.now ≡ Some octets.new.items)) }
+{
+    if !decoded(text, octets).ok()? {
+        return None;
+    }
+    Some(FoundToken {
+        kind: TokenKind::Blob,
+        count: count + 4,
+        left: false,
+    })
+}
+
 // Whether octets begin with the braces that close a blob.
 fn begins_close(octets: &[u8]) -> bool
     ensures { result ≡ true → (behind : List ℕ) × (octets.now ≡ 125 ∷ 125 ∷ behind) }
@@ -116,27 +135,11 @@ impl Machine {
     {
         let solid = of_base64(behind);
         if begins_close(&behind[solid..]) {
-            let octets = decoded(self.alloc, &behind[..solid]).ok()??;
-            return Some(self.blob(octets, solid));
+            return blob(&behind[..solid], solid, &mut self.ended);
         }
         let count = before_brace(behind, &mut self.kept)?;
         behind[count..].strip_prefix(b"}}")?;
-        let octets = decoded(self.alloc, self.kept.as_slice()).ok()??;
-        Some(self.blob(octets, count))
-    }
-
-    // These octets are those of a blob with so much content.
-    fn blob(&mut self, octets: Vec<u8>, count: usize) -> FoundToken
-        requires { count < 2 ^ 63 }
-        ensures token { result ≡ record { kind = TokenKind.Blob; count = count + 4; left = false } }
-        ensures ended { self.new.ended.items ≡ octets.items }
-    {
-        self.ended = octets;
-        FoundToken {
-            kind: TokenKind::Blob,
-            count: count + 4,
-            left: false,
-        }
+        blob(self.kept.as_slice(), count, &mut self.ended)
     }
 
     // A clob in one short text behind the braces that open it.

@@ -185,14 +185,12 @@ impl Machine {
             ≡ blob_ends (known self.old) (blob_of self.old.kept.items)) }
         ensures looked { self.new.looked ≡ self.old.looked }
     {
-        match decoded(self.alloc, self.kept.as_slice())? {
-            Some(octets) => {
-                self.kept = octets;
-                self.go(Mode::Lob(Lob::BlobClose));
-                Ok(Taken::Next)
-            }
-            None => Ok(self.refuse(Reason::BadBase64)),
+        if !decoded(self.kept.as_slice(), &mut self.ended)? {
+            return Ok(self.refuse(Reason::BadBase64));
         }
+        mem::swap(&mut self.kept, &mut self.ended);
+        self.go(Mode::Lob(Lob::BlobClose));
+        Ok(Taken::Next)
     }
 
     // A word ended, unless it is `null` and the octet a dot.

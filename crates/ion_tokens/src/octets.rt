@@ -1,6 +1,6 @@
 //! Classes of octets (Ion 1.0, "Ion Text Encoding").
 ghost use Rattle.std.specs.Prelude.{◌≡◌, IfSome, ◌<◌};
-ghost use Rattle.ion_tokens.specs.Octets.{is_white, is_line_end, is_digit, is_upper, is_lower, is_letter, begins_word, is_word_octet, is_operator_octet, is_stop, hexadecimal_digit, escaped, is_base64, is_base64_symbol, ends_before_two, ends_before_one};
+ghost use Rattle.ion_tokens.specs.Octets.{is_white, is_line_end, is_digit, is_upper, is_lower, is_letter, begins_word, is_word_octet, is_operator_octet, is_stop, hexadecimal_digit, escaped, is_base64};
 
 /// Tab, LF, VT, FF, CR and space.
 pub fn is_white(octet: u8) -> bool
@@ -96,44 +96,6 @@ pub fn is_base64(octet: u8) -> bool
     ensures { result ≡ is_base64 octet }
 {
     is_letter(octet) || is_digit(octet) || matches!(octet, b'+' | b'/' | b'=')
-}
-
-/// The alphabet of base64 (RFC 4648, section 4), without its padding.
-pub fn is_base64_symbol(octet: u8) -> bool
-    ensures { result ≡ is_base64_symbol octet }
-{
-    is_letter(octet) || is_digit(octet) || matches!(octet, b'+' | b'/')
-}
-
-/// A symbol whose last four bits are 0, as that before `==` (RFC 4648, section 3.5).
-pub fn ends_before_two(octet: u8) -> bool
-    ensures { result ≡ ends_before_two octet }
-{
-    matches!(octet, b'A' | b'Q' | b'g' | b'w')
-}
-
-/// A symbol whose last two bits are 0, as that before one `=` (RFC 4648, section 3.5).
-pub fn ends_before_one(octet: u8) -> bool
-    ensures { result ≡ ends_before_one octet }
-{
-    matches!(
-        octet,
-        b'A' | b'E'
-            | b'I'
-            | b'M'
-            | b'Q'
-            | b'U'
-            | b'Y'
-            | b'c'
-            | b'g'
-            | b'k'
-            | b'o'
-            | b's'
-            | b'w'
-            | b'0'
-            | b'4'
-            | b'8'
-    )
 }
 
 /// The value of a hexadecimal digit in either case.

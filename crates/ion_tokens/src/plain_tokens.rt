@@ -1,7 +1,9 @@
 //! Blanks and plain tokens that lie whole in memory, read where a scanner rests. What is cut,
 //! refused or unusual isn't told here: the scanner takes it up octet by octet.
 ghost use Rattle.std.specs.Prelude.{◌≡◌, ◌+◌, ◌-◌, ◌<◌, ◌≤◌, ◌∷◌, ◌^◌, ℕ, List, Some, false, true, length, take, drop, IfSome, IsUtf8};
+ghost use Rattle.std.specs.List.{take_while};
 ghost use Rattle.ion_tokens.specs.Bodies.{kind_named};
+ghost use Rattle.ion_tokens.specs.Octets.{is_white};
 ghost use Rattle.ion_tokens.specs.Places.{is_name};
 ghost use Rattle.ion_tokens.specs.machine.Rests.{past_blank, past_token, IsPassed, IsFound};
 ghost use Rattle.ion_tokens.specs.declared.mode.Place.{Place};
@@ -55,8 +57,9 @@ impl Rest {
     }
 }
 
-/// How many octets of a blank without comments stand at the front.
+/// How many octets of a blank without comments stand at the front, all of them.
 pub fn blanks(octets: &[u8]) -> usize
+    ensures most { result ≡ length (take_while is_white octets.now) }
     ensures within { result ≤ length octets.now }
     ensures passed { IsPassed octets.now result }
 {

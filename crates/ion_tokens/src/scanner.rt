@@ -34,7 +34,7 @@ impl Debug for Scanner {
 }
 
 impl Scanner {
-    ghost use Rattle.std.specs.Prelude.{◌≢◌, ◌+◌, ◌-◌, ◌*◌, ◌≤◌, ◌<◌, ◌^◌, length, [], OnOk, IfOk, IfErr, IfSome, IsNone, List, ℕ, true, false, take, min};
+    ghost use Rattle.std.specs.Prelude.{Ok, ◌≢◌, ◌+◌, ◌-◌, ◌*◌, ◌≤◌, ◌<◌, ◌^◌, length, [], OnOk, IfOk, IfErr, IfSome, IsNone, List, ℕ, true, false, take, min};
     ghost use Rattle.ion_atoms.specs.declared.refusal.Reason.TheVariants.{Memory};
     ghost use Rattle.ion_tokens.specs.machine.Scanning.{Next, run, at_end, initial, feed, start_of};
     ghost use Rattle.ion_tokens.specs.machine.Bounds.{debt};
@@ -46,7 +46,7 @@ impl Scanner {
     ghost use Rattle.ion_tokens.specs.machine.Rests.{resting};
     ghost use Rattle.ion_tokens.specs.machine.Scanned.{Scanned, Goes, RefusesAt, EndsWith, NeverEnds, EndsFor, AlwaysShows};
     ghost use Rattle.ion_tokens.specs.machine.Traces.{Places, IsTraced, AnswersTrace, EndsTrace};
-    ghost use Rattle.ion_tokens.specs.machine.Steps.{answered, stepped, Answers, Ends, IsWithin, deciding, is_step_reason};
+    ghost use Rattle.ion_tokens.specs.machine.Steps.{answered, stepped, passed, Answers, Ends, IsWithin, deciding, is_step_reason};
 
     /// A scanner of no octets yet. It takes no memory.
     pub fn new(alloc: Global) -> Scanner
@@ -189,8 +189,10 @@ impl Scanner {
             ≡ min (looks self.old + (rest.used - (scanned self.old).used)) (2 ^ 64 - 1) }
         ensures steady { IsSteady (scanned self.old) (looks self.old) →
             IsSteady (scanned self.new) (looks self.new) }
+        ensures left { left_in self.new ≡ false }
     {
         let machine = &mut self.machine;
+        machine.left = false;
         machine.looked = machine.looked.saturating_add(rest.used - machine.used);
         machine.kept.clear();
         machine.mode = Mode::Blank;
@@ -199,7 +201,8 @@ impl Scanner {
         machine.used = rest.used;
     }
 
-    /// How many octets there are at the front of a piece over which what is open goes on as it is.
+    /// How many octets there are at the front of a piece over which what is open goes on as it is:
+    /// all or some of these.
     pub fn front(&self, piece: &[u8]) -> usize
         ensures within { result ≤ length piece.now }
         ensures over { GoesOver (scanned self.now).mode (take result piece.now) }
@@ -218,6 +221,12 @@ impl Scanner {
         requires over { GoesOver (scanned self.old).mode octets.now }
         ensures ran { IsNone (failure self.old) → OnOk result ((place : Place) →
             run place octets.now (scanned self.old) ≡ Next (scanned self.new)) }
+        ensures goes { IsNone (failure self.old) → OnOk result ((place : Place) →
+            Goes place (scanned self.old) octets.now (passed octets.now) (scanned self.new)) }
+        ensures traced { IsNone (failure self.old) → OnOk result ((place : Place) →
+            AnswersTrace place (scanned self.old) octets.now
+            (Ok (passed octets.now)) (scanned self.new)) }
+        ensures left { OnOk result (left_in self.new ≡ false) }
         ensures steady { OnOk result (IsSteady (scanned self.old) (looks self.old) →
             IsSteady (scanned self.new) (looks self.new)) }
         ensures looked { OnOk result (looks self.new
@@ -248,7 +257,7 @@ impl Scanner {
     }
 
     /// Whether the octet behind those that the last step used ended the token that it gave: the
-    /// next piece has to begin with that octet.
+    /// next piece has to begin with that octet. Behind `go_on` and `move_to` it is false.
     pub fn left(&self) -> bool
         ensures { result ≡ left_in self.now }
     {

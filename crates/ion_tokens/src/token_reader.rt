@@ -1,6 +1,6 @@
 //! Tokens of any form that lie whole in memory: those with escapes, typed nulls, clobs and blobs,
 //! read by a machine beside the scanner's.
-ghost use Rattle.std.specs.Prelude.{◌≡◌, ◌≢◌, ◌+◌, ◌<◌, ◌^◌, [], length, Ok, Err, IfOk, IfErr, IfSome};
+ghost use Rattle.std.specs.Prelude.{◌≡◌, ◌≢◌, ◌+◌, ◌<◌, ◌^◌, [], length, Ok, Err, IfOk, IfErr, IfSome, IsNone};
 ghost use Rattle.ion_atoms.specs.declared.refusal.Reason.TheVariants.{Memory};
 ghost use Rattle.ion_tokens.specs.Bodies.{content};
 ghost use Rattle.ion_tokens.specs.machine.Rests.{resting, past_token, lexeme_at, IsFound};
@@ -59,17 +59,26 @@ impl TokenReader {
 
     /// The token at the front of these octets, where a scanner rests, if its end shows in them.
     /// `None` also where it is refused or unusual, where a comment stands before it, and where
-    /// memory runs out. Of a token that isn't found nothing is kept.
+    /// memory runs out. Where none is found no octets are kept.
     #[inline(never)]
     pub fn token(&mut self, place: Place, rest: Rest, octets: &[u8]) -> Option<FoundToken>
         requires { rest.used + length octets.now < 2 ^ 63 }
-        ensures { IfSome result (λ found. IsFound place rest octets.now found.kind
+        ensures found { IfSome result (λ found. IsFound place rest octets.now found.kind
             (octets_in self.new) found.count found.left) }
+        ensures none { IsNone result → octets_in self.new ≡ [] }
     {
         self.machine.token(place, rest, octets)
     }
 
-    /// What the token found last says as one of this kind. What is kept of it is taken.
+    /// The octets of the token found last; of a text, a clob or a blob what they mean.
+    pub fn octets(&self) -> &[u8]
+        ensures { result.now ≡ octets_in self.now }
+    {
+        self.machine.ended.as_slice()
+    }
+
+    /// What the token found last says as one of this kind. What is kept of a text, a clob or a blob
+    /// is taken.
     pub fn body<'p>(&mut self, kind: TokenKind) -> Result<Body<'p>, Reason>
         ensures says { IfOk result (λ body. said kind (octets_in self.old) ≡ Ok (content body)) }
         ensures refused { IfErr result (λ reason. reason ≢ Memory →
@@ -82,15 +91,19 @@ impl TokenReader {
 impl Machine {
     ghost use Rattle.ion_tokens.specs.machine.Machines.{known, lexeme_in};
 
-    // The token at the front of octets, where it rests. Then no octets are kept of an open one.
+    // The token at the front of octets, where it rests. No octets are kept of another one.
     fn token(&mut self, place: Place, rest: Rest, octets: &[u8]) -> Option<FoundToken>
         requires { rest.used + length octets.now < 2 ^ 63 }
         ensures found { IfSome result (λ found. IsFound place rest octets.now found.kind
             self.new.ended.items found.count found.left) }
+        ensures none { IsNone result → self.new.ended.items ≡ [] }
         ensures none_open { self.new.kept.items ≡ [] }
     {
         let found = self.find(place, rest, octets);
         self.kept.clear();
+        if found.is_none() {
+            self.ended.clear();
+        }
         found
     }
 

@@ -1,8 +1,8 @@
 //! Tokens at the front of octets that are a value or a field's name, with what they say. Of a token
 //! that isn't whole, isn't plain or may be a symbol's id nothing is found.
-ghost use Rattle.std.specs.Prelude.{◌≡◌, ◌<◌, false, true, length, take, IfSome, Ok, Some};
-ghost use Rattle.ion_model.specs.declared.value.Payload.{Payload};
+ghost use Rattle.std.specs.Prelude.{◌≡◌, ◌<◌, ℕ, List, false, true, length, take, IfSome, Ok, Some};
 ghost use Rattle.ion_tokens.specs.Bodies.{content, Number'};
+ghost use Rattle.ion_tokens.specs.machine.Rests.{IsFound};
 ghost use Rattle.ion_tokens.specs.machine.Said.{said};
 ghost use Rattle.ion_tokens.specs.Places.{is_name};
 ghost use Rattle.ion_tokens.specs.declared.plain_tokens.Rest.{Rest};
@@ -10,7 +10,6 @@ ghost use Rattle.ion_text.specs.machine.FrontTokens.{BeginsName, IsValue};
 ghost use Rattle.ion_text.specs.machine.EachToken.{held_word, held_payload};
 ghost use Rattle.ion_visiting.specs.Parts.{number_payload, payload_of};
 ghost use Rattle.ion_text.specs.machine.Walked.{IsFlat};
-ghost use Rattle.ion_visiting.specs.Visits.{part};
 ghost use Rattle.ion_text.specs.visiting.Walks.{FoundPart, FoundNumber, FoundSymbol};
 
 use super::symbols::plain_text;
@@ -18,10 +17,10 @@ use crate::words::{is_keyword, may_be_keyword};
 use ion_model::Kind;
 use ion_scalar::{Number, number_of};
 use ion_tokens::{
-    Body, FoundToken, Place, TokenKind, judged_blob, number, operator, quoted_symbol, short_string,
-    typed_null, word,
+    Body, FoundToken, Place, TokenKind, number, operator, quoted_symbol, short_string, typed_null,
+    word,
 };
-use ion_visiting::{Part, TextVisitor};
+use ion_visiting::Part;
 
 /// A token that is a value without others in it.
 #[derive(Clone, Copy)]
@@ -188,8 +187,8 @@ pub(super) fn number_at(octets: &[u8]) -> Option<(FoundToken, Number)>
     Some((token, read))
 }
 
-/// What a token that isn't plain is as a value: its kind, and whether it would be an annotation if
-/// `::` followed.
+/// What a token that isn't plain, and is no clob or blob, is as a value: its kind, and whether it
+/// would be an annotation if `::` followed.
 pub(super) fn rare_part<'b>(body: &'b Body<'_>) -> Option<(Kind, bool, Part<'b>)>
     ensures { IfSome result (λ found. IsValue found.1 (content body.now) (payload_of found.2)
         × IsFlat (payload_of found.2) found.0) }
@@ -199,37 +198,30 @@ pub(super) fn rare_part<'b>(body: &'b Body<'_>) -> Option<(Kind, bool, Part<'b>)
         Body::TypedNull(kind) => Some((*kind, true, Part::Null(*kind))),
         Body::Short(text) => Some((Kind::Str, false, Part::Str(text.as_str()))),
         Body::Operator(word) => Some((Kind::Symbol, false, Part::Symbol(word.as_str()))),
-        Body::Clob(octets) => Some((Kind::Clob, false, Part::Clob(octets.as_slice()))),
-        Body::Blob(octets) => Some((Kind::Blob, false, Part::Blob(octets.as_slice()))),
         _ => None,
     }
 }
 
-/// The blob there as a value, for a visitor that heeds no part: its base64 is judged and not
-/// decoded. None where white space stands in it.
+/// The clob or the blob that this token is, as a value: it has these octets.
 #[inline(always)]
-pub(super) fn unheeded_blob<T: TextVisitor>(octets: &[u8], visitor: &T) -> Option<Scalar>
-    ensures found { IfSome result (λ scalar. (payload : Payload)
-        × T.visits.takes visitor.now (part payload) visitor.now
-        × ((here : Place) (rest : Rest) → is_name here ≡ false →
-        FoundPart here rest octets.now scalar payload)) }
-    ensures waits { IfSome result (λ scalar. scalar.waits ≡ false) }
-    ensures given { IfSome result (λ scalar. scalar.token.left ≡ false) }
+pub(super) fn lob_part(token: FoundToken, octets: &[u8]) -> Option<(Scalar, Part<'_>)>
+    ensures found { IfSome result (λ found. (here : Place) (rest : Rest) (there : List ℕ) →
+        IsFound here rest there token.kind octets.now token.count token.left →
+        FoundPart here rest there found.0 (payload_of found.1)) }
+    ensures waits { IfSome result (λ found. found.0.waits ≡ false) }
+    ensures token { IfSome result (λ found. found.0.token ≡ token) }
 {
-    if !visitor.heeds_nothing() {
-        return None;
-    }
-    let count = judged_blob(octets)?;
-    let token = FoundToken {
-        kind: TokenKind::Blob,
-        count,
-        left: false,
+    let (kind, said) = match token.kind {
+        TokenKind::Clob => (Kind::Clob, Part::Clob(octets)),
+        TokenKind::Blob => (Kind::Blob, Part::Blob(octets)),
+        _ => return None,
     };
-    Some(Scalar {
+    let scalar = Scalar {
         token,
-        kind: Kind::Blob,
+        kind,
         waits: false,
-    })
+    };
+    Some((scalar, said))
 }
 
 /// The operator there, where an s-expression is open.

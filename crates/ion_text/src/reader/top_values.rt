@@ -7,7 +7,7 @@ ghost use Rattle.ion_visiting.specs.Parts.{payload_of};
 ghost use Rattle.ion_text.specs.visiting.Walks.{FoundPart, VisitedBare, VisitedTop};
 
 use super::annotations::walk_notes;
-use super::finders::{Scalar, rare_part, string_at, unheeded_blob};
+use super::finders::{Scalar, lob_part, rare_part, string_at};
 use super::nested_containers::bracket_at;
 use super::walks::{Tally, walk_container};
 use ion_tokens::{Place, TokenReader};
@@ -62,15 +62,18 @@ fn walk_rare_given<T: TextVisitor>(
     if !may_be_given(octets) {
         return None;
     }
-    if let Some(scalar) = unheeded_blob(octets, visitor) {
-        return Some(tally.pass_scalar(Place::Top, scalar, 0));
-    }
     let token = beside.token(Place::Top, tally.rest, octets)?;
+    if token.left {
+        return None;
+    }
+    if let Some((scalar, said)) = lob_part(token, beside.octets()) {
+        return walk_given(octets, scalar, &said, level, tally, visitor);
+    }
     let Ok(body) = beside.body(token.kind) else {
         return None;
     };
     let (kind, waits, said) = rare_part(&body)?;
-    if waits || token.left {
+    if waits {
         return None;
     }
     let scalar = Scalar { token, kind, waits };

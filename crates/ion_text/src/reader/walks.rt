@@ -19,8 +19,8 @@ ghost use Rattle.ion_text.specs.visiting.Walks.{FoundPart, FoundNumber, VisitedV
 use super::annotations::walk_notes;
 use super::escaped_tokens::may_be_rare;
 use super::finders::{
-    Scalar, begins_number, begins_symbol, number_at, number_kind, operator_at, plain_at,
-    plain_name, rare_part, symbol_at, unheeded_blob,
+    Scalar, begins_number, begins_symbol, lob_part, number_at, number_kind, operator_at, plain_at,
+    plain_name, rare_part, symbol_at,
 };
 use super::long_strings::walk_long;
 use super::nested_containers::{bracket_at, close_mark, open_mark};
@@ -235,10 +235,10 @@ fn walk_rare<T: TextVisitor>(
     if !may_be_rare(octets) {
         return walk_long(beside, here, octets, level, tally, visitor);
     }
-    if let Some(scalar) = unheeded_blob(octets, visitor) {
-        return Some(tally.pass_scalar(here, scalar, 0));
-    }
     let token = beside.token(here, tally.rest, octets)?;
+    if let Some((scalar, said)) = lob_part(token, beside.octets()) {
+        return walk_part(here, octets, scalar, &said, level, tally, visitor);
+    }
     let Ok(body) = beside.body(token.kind) else {
         return None;
     };

@@ -1,5 +1,7 @@
--- What is promised of a scanner that rests goes on where octets lead it: behind a blank, and behind a token that was found whole.
+-- What is promised of a scanner that rests, and its trace, go on where octets lead it: behind a blank, and behind a token that was found
+-- whole.
 use Rattle.std.proofs.Common.{◌≡◌, ℕ, zero, suc, ◌+◌, ◌-◌, ◌≤◌, ◌<◌, Bool, true, false, List, [], ◌∷◌, ◌++◌, length, take, drop, slice_index, inl, inr, refl, sym, ap, ◌∙◌, subst, arith, append_assoc, append-nil}
+use Rattle.std.specs.Prelude.{Ok}
 use Rattle.std.proofs.lemmas.List.{length-take-le, take-append-drop}
 use Rattle.ion_tokens.specs.declared.mode.Place.{Place}
 use Rattle.ion_tokens.specs.declared.mode.TokenKind.{TokenKind}
@@ -8,8 +10,16 @@ use Rattle.ion_tokens.specs.machine.Scanning.{Known, Outcome, Next, feed, run}
 use Rattle.ion_tokens.specs.machine.Rests.{resting, past_blank, past_token, lexeme_at, before_end, ended, IsPassed, IsFound, left_after}
 use Rattle.ion_tokens.specs.machine.Scanned.{Scanned, IsAhead, Continues}
 use Rattle.ion_tokens.specs.Lexed.{Placed, Passes}
+use Rattle.ion_tokens.specs.Lexemes.{Lexeme}
+use Rattle.ion_tokens.specs.Bodies.{Content}
+use Rattle.ion_tokens.specs.machine.Said.{said}
+use Rattle.ion_tokens.specs.machine.Traces.{Told, Places, Leads, judged, told_there, IsTraced}
 use Rattle.ion_tokens.proofs.histories.Stepped.{at_most_one, begins_front, goes_on}
+use Rattle.ion_tokens.proofs.runs.LastOctets.{LastOctet}
+use Rattle.ion_tokens.proofs.runs.Runs.{next_used}
 use Rattle.ion_tokens.proofs.runs.Scans.{placed, scanned_given, scanned_left}
+use Rattle.ion_tokens.proofs.runs.Splits.{given_one, left_one}
+use Rattle.ion_tokens.proofs.traces.Traced.{given_stands, left_stands}
 
 -- behind a blank that lies whole in memory, a scanner that rests rests with the same tokens told
 pub blank_moves : (p : Place) (r : Rest) (u octets : List ℕ) (ts : List Placed) (ahead : List ℕ) (n : ℕ) → Scanned p (resting r) u ts ahead
@@ -73,3 +83,47 @@ module _ (p : Place) (r : Rest) (u octets : List ℕ) (ts : List Placed) (kind :
         subst (λ (k : ℕ). Continues (take k octets) ahead) (let k : m + 1 ≡ before_end left n = omega (arith, e) in k) (front m (omega arith)) in
         last [] left f.known (goes_on p (resting r) u ts ahead h (take (before_end left n) octets) f.known goes f.ran)
         (slice_index octets (before_end left n) ∷ [], refl) f.some f.shown f.ends
+
+-- so does the trace
+module _ (places : Places) (r : Rest) (u octets : List ℕ) (told : List Told) (kind : TokenKind) (kept : List ℕ) (n : ℕ) (c : Content)
+    (says : said kind kept ≡ Ok c) where
+  abbrev p : Place
+  p = places told
+
+  abbrev l : Lexeme
+  l = lexeme_at r kind kept n
+
+  abbrev t : Known
+  t = resting (past_token p r kind n)
+
+  judged_so : (decided : ℕ) → judged told l decided t (said kind kept) ≡ Leads (told ++ told_there r n c ∷ []) t
+  judged_so decided = ap (λ x. judged told l decided t x) says
+
+  -- the octet that shows the end
+  shown_by : (left : Bool) → IsFound p r octets kind kept n left → LastOctet p octets (resting r) (ended left l t)
+  shown_by left f =
+      let m = before_end left n in
+      record {
+        before = take m octets;
+        octet = slice_index octets m;
+        rest = drop (m + 1) octets;
+        known = f.known;
+        cut = sym (take-append-drop (m + 1) octets) ∙ ap (λ w. w ++ drop (m + 1) octets) (take_more m octets f.shown)
+            ∙ append_assoc (take m octets) (slice_index octets m ∷ []) (drop (m + 1) octets);
+        ran = f.ran;
+        fed = f.ends;
+        counted = next_used p (take m octets) (resting r) f.known (sym f.ran);
+      }
+
+  pub trace_moves : (ahead : List ℕ) (left : Bool) → IsTraced places (resting r) u told ahead → Continues octets ahead → IsFound p r octets kind kept n left
+      → IsTraced places t (u ++ take n octets) (told ++ told_there r n c ∷ []) (left_after left n octets)
+  unfolding shown_by
+  trace_moves ahead true h goes f =
+      left_stands p (resting r) octets places u told ahead l t (told_there r n c) (shown_by true f) judged_so h goes refl
+      (left_one p (slice_index octets n) f.known t l f.ends)
+  trace_moves ahead false h goes f =
+      let one : take n octets ≡ take (n - 1) octets ++ slice_index octets (n - 1) ∷ [] =
+      ap (λ (k : ℕ). take k octets) (let some = f.some in let k : n ≡ (n - 1) + 1 = omega arith in k) ∙ take_more (n - 1) octets f.shown in
+      subst (λ w. IsTraced places t (u ++ w) (told ++ told_there r n c ∷ []) []) (sym one)
+      (given_stands p (resting r) octets places u told ahead l t (told_there r n c) (shown_by false f) judged_so h goes refl
+      (given_one p (slice_index octets (n - 1)) f.known t l f.ends))

@@ -199,21 +199,28 @@ module _ (p : Place) (s : Known) (piece : List ℕ) where
       (subst (λ x. IsTraced places t (u ++ w) x (left_by scan piece)) (sym c)
       (subst (λ x. IsTraced places t (u ++ w) us x) (sym b) h)))
 
-  -- behind a token that was given
-  given_stands : (places : Places) (u : List ℕ) (ts : List Told) (ahead : List ℕ) (l : Lexeme) (t : Known) (tok : Token) (d : LastOctet p piece s (Given l t))
-      → IsToken l tok → IsTraced places s u ts ahead
-      → Continues piece ahead → places ts ≡ p → t.used ≡ d.known.used + 1 → IsTraced places t (u ++ shown (Given l t) d) (ts ++ told_as tok t.used ∷ []) []
-  given_stands places u ts ahead l t tok d is h c place one =
-      let x = Given l t in
-      stands_on places u ts (ts ++ told_as tok t.used ∷ []) ahead [] (shown x d) t h (omega arith) (omega (arith, one, before_used x d, size_shown x d))
-      (λ rest k. continues_more (shown x d) rest ahead (begins x d ahead h.one c))
-      (λ rest k. over_shown x d places ts rest place ∙ ap (λ y. then_by y (over places rest)) (judged_so ts l t.used t tok is))
+  -- behind a piece that is used and gives no token
+  pub next_stands : (places : Places) (u : List ℕ) (ts : List Told) (ahead : List ℕ) (t : Known) → run p piece s ≡ Next t → IsTraced places s u ts ahead
+      → Continues piece ahead → places ts ≡ p → IsTraced places t (u ++ piece) ts []
+  next_stands places u ts ahead t e h c place =
+      stands_on places u ts ts ahead [] piece t h (omega arith) (next_used p piece s t (sym e)) (λ rest k. continues_more piece rest ahead c)
+      (λ rest k. over_next places ts p piece rest s t place e)
+
+  -- behind a token that was given, whatever octet decides it
+  pub given_stands : (places : Places) (u : List ℕ) (ts : List Told) (ahead : List ℕ) (l : Lexeme) (t : Known) (x : Told) (d : LastOctet p piece s (Given l t))
+      → ((decided : ℕ) → judged ts l decided t (said l.kind l.octets) ≡ Leads (ts ++ x ∷ []) t) → IsTraced places s u ts ahead
+      → Continues piece ahead → places ts ≡ p → t.used ≡ d.known.used + 1 → IsTraced places t (u ++ shown (Given l t) d) (ts ++ x ∷ []) []
+  given_stands places u ts ahead l t x d is h c place one =
+      let y = Given l t in
+      stands_on places u ts (ts ++ x ∷ []) ahead [] (shown y d) t h (omega arith) (omega (arith, one, before_used y d, size_shown y d))
+      (λ rest k. continues_more (shown y d) rest ahead (begins y d ahead h.one c))
+      (λ rest k. over_shown y d places ts rest place ∙ ap (λ z. then_by z (over places rest)) (is t.used))
 
   -- and of one before which an octet is left
-  left_stands : (places : Places) (u : List ℕ) (ts : List Told) (ahead : List ℕ) (l : Lexeme) (t : Known) (tok : Token) (d : LastOctet p piece s (Left l t))
-      → IsToken l tok → IsTraced places s u ts ahead
-      → Continues piece ahead → places ts ≡ p → t.used ≡ d.known.used → IsTraced places t (u ++ d.before) (ts ++ told_as tok t.used ∷ []) (d.octet ∷ [])
-  left_stands places u ts ahead l t tok d is h c place one =
+  pub left_stands : (places : Places) (u : List ℕ) (ts : List Told) (ahead : List ℕ) (l : Lexeme) (t : Known) (x : Told) (d : LastOctet p piece s (Left l t))
+      → ((decided : ℕ) → judged ts l decided t (said l.kind l.octets) ≡ Leads (ts ++ x ∷ []) t) → IsTraced places s u ts ahead
+      → Continues piece ahead → places ts ≡ p → t.used ≡ d.known.used → IsTraced places t (u ++ d.before) (ts ++ x ∷ []) (d.octet ∷ [])
+  left_stands places u ts ahead l t x d is h c place one =
       stands_on places u ts us ahead (d.octet ∷ []) d.before t h (omega arith) (omega (arith, one, before_used (Left l t) d))
       (λ rest (more, r).
       subst (λ r. Continues (d.before ++ r) ahead) (sym r) (subst (λ w. Continues w ahead) (append_assoc d.before (d.octet ∷ []) more)
@@ -221,7 +228,7 @@ module _ (p : Place) (s : Known) (piece : List ℕ) where
       (λ rest (more, r). subst (λ r. over places (d.before ++ r) ts s ≡ over places r us t) (sym r) (leads more))
     where
       us : List Told
-      us = ts ++ told_as tok t.used ∷ []
+      us = ts ++ x ∷ []
 
       once_more : takes 2 places d.octet us t ≡ takes 3 places d.octet us t
       once_more =
@@ -232,7 +239,7 @@ module _ (p : Place) (s : Known) (piece : List ℕ) where
       leads : (more : List ℕ) → over places (d.before ++ d.octet ∷ more) ts s ≡ over places (d.octet ∷ more) us t
       leads more =
           over_end places ts p piece more s (Left l t) place d
-          ∙ ap (λ y. then_by (then_by y (takes 2 places d.octet)) (over places more)) (judged_so ts l (t.used + 1) t tok is)
+          ∙ ap (λ y. then_by (then_by y (takes 2 places d.octet)) (over places more)) (is (t.used + 1))
           ∙ ap (λ y. then_by y (over places more)) once_more
 
   -- A step that answers `Ok` goes on in the trace.
@@ -244,8 +251,7 @@ module _ (p : Place) (s : Known) (piece : List ℕ) where
       let all : take scan.used piece ≡ piece = front_is piece piece [] scan.used (sym (append-nil piece)) (omega (arith, used, same, counted)) in
       same_stand places u piece [] (ts ++ told_by scan.token now.used) ts scan now t all
       (ap (λ b. take (deciding 0 b) (drop scan.used piece)) flag) (ap (λ o. ts ++ told_by o now.used) none ∙ append-nil ts) uses.known
-      (stands_on places u ts ts ahead [] piece t h (omega arith) used (λ rest k. continues_more piece rest ahead c)
-      (λ rest k. over_next places ts p piece rest s t place e))
+      (next_stands places u ts ahead t e h c place)
   step_traced (Given l t) scan now e (uses, gives, flag) = by scan.token refl gives where
     by : (o : Option Token) → scan.token ≡ o → GivesToken l o → AnswersTrace p s piece (Ok scan) now
     by None f g = absurd g
@@ -257,7 +263,7 @@ module _ (p : Place) (s : Known) (piece : List ℕ) where
         let size : scan.used ≡ length (shown (Given l t) d) = omega (arith, one, before_used (Given l t) d, size_shown (Given l t) d, same, counted) in
         same_stand places u (shown (Given l t) d) [] (ts ++ told_by scan.token now.used) (ts ++ told_as tok t.used ∷ []) scan now t
         (front_is piece (shown (Given l t) d) d.rest scan.used (cut_behind (Given l t) d) size) (ap (λ b. take (deciding 0 b) (drop scan.used piece)) flag)
-        (λ i. ts ++ told_by (f i) (same i)) uses.known (given_stands places u ts ahead l t tok d g h c place one)
+        (λ i. ts ++ told_by (f i) (same i)) uses.known (given_stands places u ts ahead l t (told_as tok t.used) d (λ decided. judged_so ts l decided t tok g) h c place one)
   step_traced (Left l t) scan now e (uses, gives, flag) = by scan.token refl gives where
     by : (o : Option Token) → scan.token ≡ o → GivesToken l o → AnswersTrace p s piece (Ok scan) now
     by None f g = absurd g
@@ -271,7 +277,7 @@ module _ (p : Place) (s : Known) (piece : List ℕ) where
         ∙ drop-append_seam d.before (d.octet ∷ d.rest) in
         same_stand places u d.before (d.octet ∷ []) (ts ++ told_by scan.token now.used) (ts ++ told_as tok t.used ∷ []) scan now t
         (front_is piece d.before (d.octet ∷ d.rest) scan.used d.cut size) (ap (λ b. take (deciding 0 b) (drop scan.used piece)) flag ∙ ap (λ l. take 1 l) back)
-        (λ i. ts ++ told_by (f i) (same i)) uses.known (left_stands places u ts ahead l t tok d g h c place one)
+        (λ i. ts ++ told_by (f i) (same i)) uses.known (left_stands places u ts ahead l t (told_as tok t.used) d (λ decided. judged_so ts l decided t tok g) h c place one)
   step_traced (Refused k q) scan now e a = absurd a
 
   -- A step that refuses does so as the trace does.

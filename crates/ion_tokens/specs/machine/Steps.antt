@@ -1,5 +1,5 @@
 -- What the calls of the scanner answer.
-use Rattle.std.specs.Prelude.{◌≡◌, ◌≢◌, ℕ, ◌+◌, ◌<◌, ◌≤◌, Option, Some, None, Result, Ok, Err, Bool, true, false}
+use Rattle.std.specs.Prelude.{◌≡◌, ◌≢◌, ℕ, ◌+◌, ◌<◌, ◌≤◌, Option, Some, None, Result, Ok, Err, Bool, true, false, List, length}
 use Rattle.ion_atoms.specs.declared.refusal.Refusal.{Refusal}
 use Rattle.ion_atoms.specs.declared.refusal.Reason.{Reason}
 use Rattle.ion_atoms.specs.declared.refusal.Reason.TheVariants as reasons
@@ -16,6 +16,10 @@ pub record Stepped : Type 0 where
   pub used : ℕ
   pub token : Option Token
   pub left : Bool
+
+-- all octets were used and gave no token
+abbrev pub passed : List ℕ → Stepped
+passed octets = record { used = length octets; token = None; left = false }
 
 -- the same of what it answered and what the scanner says of it then
 abbrev pub stepped : Scan → Bool → Stepped

@@ -4,6 +4,7 @@ use Rattle.ion_atoms.specs.declared.refusal.Refusal.{Refusal}
 use Rattle.ion_atoms.specs.declared.refusal.Reason.{Reason}
 use Rattle.ion_atoms.specs.declared.refusal.Reason.TheVariants.{Memory}
 use Rattle.ion_tokens.specs.declared.mode.Place.{Place}
+use Rattle.ion_tokens.specs.declared.plain_tokens.Rest.{Rest}
 use Rattle.ion_tokens.specs.declared.token.Token.{Token}
 use Rattle.ion_tokens.specs.machine.Scanning.{Known, Outcome, Next, Given, Left, Refused, initial, feed, at_end}
 use Rattle.ion_tokens.specs.Lexemes.{Lexeme}
@@ -99,6 +100,10 @@ pub record IsTraced (places : Places) (s : Known) (u : List ℕ) (ts : List Told
 -- a token in memory, behind so many octets
 abbrev pub told_as : Token → ℕ → Told
 told_as t total = record { start = t.start; end = t.end; says = content t.body; total = total }
+
+-- a token of so many octets, found where a scanner rested, that says this
+abbrev pub told_there : Rest → ℕ → Content → Told
+told_there r n c = record { start = r.used; end = r.used + n; says = c; total = r.used + n }
 
 -- the token that a step gave, if it gave one
 abbrev pub told_by : Option Token → ℕ → List Told

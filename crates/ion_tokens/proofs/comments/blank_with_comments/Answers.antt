@@ -4,8 +4,8 @@ use Rattle.ion_tokens.specs.machine.Rests.{RestsBehind}
 use Rattle.ion_tokens.proofs.runs.WholeComments.{rests_on, white_rests}
 use Rattle.ion_tokens.proofs.comments.blank_with_comments.Goals as goal
 
-pub returns : goal.returns
-returns c =
+pub returns-clause-rests : goal.returns-clause-rests
+returns-clause-rests c =
     let octets = c.args.octets.now in
     let n = c.blanks-blank.result in
     rests_on octets (take (length octets - n) (drop n octets)) n c.comments-more.result.0 _ _ _ (take_rest octets n)

@@ -19,7 +19,7 @@ returns c =
     let is : item ≡ take k (drop n piece) = c.up_to-item.ensures ∙ ap (take k) rest_is in
     let front_size : length front ≡ min (length piece) most = ap (λ (w : _). length {A = ℕ} w) c.up_to.ensures ∙ omega (arith, length-take {A = ℕ}) in
     let size : length item ≡ min k (length piece - n) = ap (λ (w : _). length {A = ℕ} w) is ∙ omega (arith, length-take {A = ℕ}, length-drop {A = ℕ}) in
-    let inside = c.blank_with_comments-before.ensures.within in
+    let inside = c.blank_with_comments-before.ensures.rests.within in
     let within : n ≤ length piece = omega arith in
     record {
       rest = c.in_ok-rest.rest;
@@ -31,7 +31,7 @@ returns c =
       before = omega arith;
       few = omega arith;
       rests = rests_of piece front n (min (length piece) most) c.in_ok-rest.rest c.new-tally.result.rest c.up_to.ensures (omega arith) within
-          (subst (λ r. RestsBehind front n c.in_ok-rest.rest r) (sym (ap (λ (t : Tally). t.rest) c.new-tally.ensures)) c.blank_with_comments-before.ensures);
+          (subst (λ r. RestsBehind front n c.in_ok-rest.rest r) (sym (ap (λ (t : Tally). t.rest) c.new-tally.ensures)) c.blank_with_comments-before.ensures.rests);
       level = ap (λ (t : Tally). t.level) c.new-tally.ensures;
       none = ap (λ (t : Tally). t.nodes) c.new-tally.ensures;
     }

@@ -15,7 +15,7 @@ pub take_symbol-requires-clause-token : goal.take_symbol-requires-clause-token
 take_symbol-requires-clause-token c = record {
   kept = octets_in c.token.new.self;
   content = content c.in-Ok.body;
-  found = c.in-Some-token.ensures;
+  found = c.in-Some-token.ensures.found;
   says = c.in-Ok.ensures.says;
   is = subst (λ v. IfSome v (λ p. Pays (held_of (content c.in-Ok.body)) p)) c.in-Some-2.is c.in_ok-payload-2.ensures.pays;
 }
@@ -27,7 +27,7 @@ pub take_whole-requires-2-clause-token : goal.take_whole-requires-2-clause-token
 take_whole-requires-2-clause-token c = record {
   kept = octets_in c.token.new.self;
   content = content c.in-Ok.body;
-  found = c.in-Some-token.ensures;
+  found = c.in-Some-token.ensures.found;
   says = c.in-Ok.ensures.says;
   is = λ setting spot fs ss. ends_so setting spot fs ss (content c.in-Ok.body) c.in-Some-3.payload
       (subst (λ v. IfSome v (λ p. value_of (content c.in-Ok.body) ≡ Some p)) c.in-Some-3.is c.in_ok-payload-3.ensures.value);

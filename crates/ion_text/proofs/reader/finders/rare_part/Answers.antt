@@ -6,7 +6,7 @@ use Rattle.ion_tokens.specs.Bodies.{content}
 use Rattle.ion_text.specs.machine.FrontTokens.{held_of, Pays, IsValue}
 use Rattle.ion_text.specs.machine.EachToken.{on_ready}
 use Rattle.ion_text.specs.machine.Walked.{IsFlat}
-use Rattle.ion_text.proofs.Walks.{flat_null, flat_symbol, flat_text, flat_clob, flat_blob}
+use Rattle.ion_text.proofs.Walks.{flat_null, flat_symbol, flat_text}
 use Rattle.ion_text.proofs.reader.finders.rare_part.Goals as goal
 
 pub returns-in-Quoted : goal.returns-in-Quoted
@@ -32,13 +32,3 @@ returns-in-Operator c =
     subst (λ w. IsValue false (content c.args.body.now) (payloads.Symbol (Some w)) × IsFlat (payloads.Symbol (Some w)) kinds.Symbol)
     (sym c.as_str-in-Operator.ensures.value)
     (λ setting spot fs ss. ap (λ b. on_ready setting spot fs ss (content b)) c.in-Operator.is, flat_symbol (Some w))
-
-pub returns-in-Clob : goal.returns-in-Clob
-returns-in-Clob c =
-    subst (λ w. IsValue false (content c.args.body.now) (payloads.Clob w) × IsFlat (payloads.Clob w) kinds.Clob) (sym c.as_slice.ensures)
-    (λ setting spot fs ss. ap (λ b. on_ready setting spot fs ss (content b)) c.in-Clob.is, flat_clob c.in-Clob.octets)
-
-pub returns-in-Blob : goal.returns-in-Blob
-returns-in-Blob c =
-    subst (λ w. IsValue false (content c.args.body.now) (payloads.Blob w) × IsFlat (payloads.Blob w) kinds.Blob) (sym c.as_slice-in-Blob.ensures)
-    (λ setting spot fs ss. ap (λ b. on_ready setting spot fs ss (content b)) c.in-Blob.is, flat_blob c.in-Blob.octets)

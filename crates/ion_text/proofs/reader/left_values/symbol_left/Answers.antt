@@ -15,7 +15,7 @@ found c =
     let m = c.blank_with_comments-between.result.0 in
     let behind = c.blank_with_comments-between.result.1 in
     let between = subst (λ r. RestsBehind (drop s.token.count octets) m r behind) c.past_token-past_symbol.ensures
-    (subst (λ w. RestsBehind w m c.past_token-past_symbol.result behind) (take_rest octets s.token.count) c.blank_with_comments-between.ensures) in
+    (subst (λ w. RestsBehind w m c.past_token-past_symbol.result behind) (take_rest octets s.token.count) c.blank_with_comments-between.ensures.rests) in
     found_symbol c.args.rest octets s (payload_of c.in_ok-scalar.said) (c.in_ok-scalar.ensures places.Top c.args.rest) m behind between
     (omega (arith, c.if-total-octets.false)) (sym c.if-not-ends_symbol.ensures) (omega (arith, c.if-between-eq0.false))
 

@@ -1,5 +1,11 @@
+use Rattle.std.proofs.Common.{refl, sym}
 use Rattle.ion_tokens.specs.machine.Machines.{known}
-use Rattle.ion_tokens.proofs.runs.GoesOn.{going_steady}
+use Rattle.ion_tokens.specs.machine.Scanning.{Next}
+use Rattle.ion_tokens.specs.machine.Steps.{passed}
+use Rattle.ion_tokens.proofs.histories.Stepped.{goes_on}
+use Rattle.ion_tokens.proofs.runs.GoesOn.{going_led, going_steady}
+use Rattle.ion_tokens.proofs.runs.Runs.{next_used}
+use Rattle.ion_tokens.proofs.traces.Traced.{step_traced}
 use Rattle.ion_tokens.proofs.scanner.Scanner.go_on.Goals as goal
 
 pub returns-in-Ok-clause-steady : goal.returns-in-Ok-clause-steady
@@ -17,3 +23,17 @@ invariant_of-self c = record {
       going_steady c.args.octets.now (known machine) (known after) machine.looked after.looked c.requires.some c.requires.over c.in-Ok.ensures.known
       c.requires.room c.in-Ok.ensures.looked (c.args.self.now.steady none);
 }
+
+pub returns-in-Ok-clause-goes : goal.returns-in-Ok-clause-goes
+returns-in-Ok-clause-goes c = λ _ place u ts ahead h goes.
+    let s = known c.args.self.now.machine in
+    let now = known c.go_on.new.self in
+    goes_on place s u ts ahead h c.args.octets.now now goes (going_led c.args.octets.now s now c.requires.some c.requires.over c.in-Ok.ensures.known place)
+
+pub returns-in-Ok-clause-traced : goal.returns-in-Ok-clause-traced
+returns-in-Ok-clause-traced c = λ _ place.
+    let s = known c.args.self.now.machine in
+    let now = known c.go_on.new.self in
+    let ran = going_led c.args.octets.now s now c.requires.some c.requires.over c.in-Ok.ensures.known place in
+    step_traced place s c.args.octets.now (Next now) (passed c.args.octets.now) now ran
+    (record { known = refl; counted = next_used place c.args.octets.now s now (sym ran) }, refl, refl)
