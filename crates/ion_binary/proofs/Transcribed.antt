@@ -196,11 +196,11 @@ transcribed c N level octets before a b (Some n) e o t =
 -- the same, where whatever is so of it is kept
 pub visited : {S H : Type 0} (P Q R : ℕ → Value → Type 0) (N : Names) (before : List ℕ) (a b : Transcription S H) (r : Option ℕ) → a.names.now ≡ N
     → a.out.items ≡ before → IfSome r (λ n. (v : Value) × P n v × Q n v × R n v × Visited transcribing v a b)
-    → IfSome r (λ n. (v : Value) × P n v × Appends N v before b.out.items)
+    → IfSome r (λ n. (v : Value) × P n v × R n v × Appends N v before b.out.items)
 visited P Q R N before a b None e o t = t
 visited P Q R N before a b (Some n) e o t =
     let f = value_written N t.0 a b t.4 e in
-    (t.0, t.1, record { kept = f.kept; named = f.named; octets = f.wrote.octets ∙ ap (λ w. w ++ value_octets N t.0) o })
+    (t.0, t.1, t.3, record { kept = f.kept; named = f.named; octets = f.wrote.octets ∙ ap (λ w. w ++ value_octets N t.0) o })
 
 -- payloads of one octet
 pub null_added : {S H : Type 0} (k : Kind) (a b : Transcription S H) → b.names.now ≡ a.names.now → b.out.items ≡ a.out.items ++ null_octet k ∷ []

@@ -1,6 +1,7 @@
 //! The writer of binary documents.
-ghost use Rattle.std.specs.Prelude.{◌≡◌, ◌+◌, ◌≤◌, ◌<◌, ◌^◌, ◌++◌, suc, length, Some, None, Ok, Err, true, false, MatchResult, OnOk, OnErr, IfErr, IfSome, IsNone, IsOkUnless};
+ghost use Rattle.std.specs.Prelude.{◌≡◌, ◌≢◌, ◌+◌, ◌≤◌, ◌<◌, ◌^◌, ◌++◌, suc, length, Some, None, Ok, Err, true, false, MatchResult, OnOk, OnErr, IfErr, IfSome, IsNone, IsOkUnless};
 ghost use Rattle.ion_model.specs.Kept.{IsKept};
+ghost use Rattle.ion_model.specs.Kinds.{is_table};
 ghost use Rattle.ion_model.specs.declared.value.Value.{Value as AnyValue};
 ghost use Rattle.ion_symtab.specs.declared.fault.Fault.{Fault as AnyFault};
 ghost use Rattle.ion_symtab.specs.declared.fault.Fault.TheVariants as faults;
@@ -117,8 +118,8 @@ impl<S: BuildHasher + Drop> BinaryWriter<S> {
     /// types keep.
     ///
     /// `Memory`; `Write` where the device failed; `TooLarge` where a symbol would need an id above
-    /// 2^31-1, so that no value that is written has one. After a fault each later call answers the
-    /// same.
+    /// 2^31-1, so that no value that is written has one. Nothing went out before a fault other than
+    /// `Write`. After a fault each later call answers the same.
     pub fn put<W: Outlet>(&mut self, out: &mut W, value: &Value) -> Result<(), Fault>
         ensures ok { OnOk result (Took W.took W.written out.old out.new
             (adds self.old.progress value.now)) }
@@ -129,6 +130,7 @@ impl<S: BuildHasher + Drop> BinaryWriter<S> {
         ensures kept { OnOk result (IsKept value.now) }
         ensures front { OnErr result (TookFront W.took W.written out.old out.new
             (adds self.old.progress value.now)) }
+        ensures unwritten { IfErr result (λ fault. fault ≢ faults.Write → out.new ≡ out.old) }
         ensures cause { self.old.failed ≡ None
             → IfErr result (IsWritingFault (names_after self.old.progress.names value.now)
             (W.has_failed out.new)) }
@@ -165,6 +167,8 @@ impl<S: BuildHasher + Drop> BinaryWriter<S> {
             return None;
         }
         self.octets.clear();
+        // what the names keep, for the proof: none has an id above the greatest
+        let _count = self.names.len();
         let (names, crossings) = (&self.names, &mut self.crossings);
         let count = transcribe(context, names, crossings, octets, level, &mut self.octets)?;
         if count < octets.len() {
@@ -188,7 +192,7 @@ impl<S: BuildHasher + Drop> BinaryWriter<S> {
         piece: &[u8],
     ) -> Option<Carried>
         requires room { V.taken items.old + length piece.now < 2 ^ 63 }
-        ensures writes { IfSome result (λ carried. (v : AnyValue) × IsKept v
+        ensures writes { IfSome result (λ carried. (v : AnyValue) × (is_table v ≡ false) × IsKept v
             × V.took_up items.old items.new piece.now carried.used v
             × WritesValue W.Outlet self.old self.new out.old out.new v carried.written) }
         ensures stays { IsNone result →
@@ -199,6 +203,7 @@ impl<S: BuildHasher + Drop> BinaryWriter<S> {
             return None;
         }
         self.octets.clear();
+        let _count = self.names.len();
         let (names, places) = (&self.names, &mut self.places);
         let used = transcribe_visited(names, places, items, piece, &mut self.octets)?;
         self.misses = 0;
@@ -261,6 +266,7 @@ impl<S: BuildHasher + Drop> BinaryWriter<S> {
         ensures kept { OnOk result (IsKept value.now) }
         ensures front { OnErr result (TookFront W.took W.written out.old out.new
             (adds self.old.progress value.now)) }
+        ensures unwritten { IfErr result (λ fault. fault ≢ faults.Write → out.new ≡ out.old) }
         ensures cause { IfErr result (IsWritingFault (names_after self.old.progress.names value.now)
             (W.has_failed out.new)) }
     {

@@ -221,12 +221,12 @@ mutual
 -- what was gone over was written, and whatever is so of it is kept
 pub transcribed : (P Q R : ℕ → Value → Type 0) (before : List ℕ) (a b : Transcription) (r : Option ℕ) → a.before ≡ None → a.out.items ≡ before
     → IfSome r (λ n. (v : Value) × P n v × Q n v × R n v × Visited transcribing v a b)
-    → IfSome r (λ n. (v : Value) × P n v × IsKept v × (b.out.items ≡ before ++ value_text v))
+    → IfSome r (λ n. (v : Value) × P n v × R n v × IsKept v × (b.out.items ≡ before ++ value_text v))
 transcribed P Q R before a b None e o t = t
 transcribed P Q R before a b (Some n) e o t =
     let f = value_written t.0 a b t.4 in
     let begun : front a ≡ before = ap (λ k. a.out.items ++ option_to_list k) e ∙ (append-nil a.out.items ∙ o) in
-    (t.0, t.1, f.kept, f.wrote.octets ∙ ap (λ w. w ++ value_text t.0) begun)
+    (t.0, t.1, t.3, f.kept, f.wrote.octets ∙ ap (λ w. w ++ value_text t.0) begun)
 
 -- a symbol whose text is known
 pub symbol_known : (w : List ℕ) → symbol_text (Some w) ≡ known_text w

@@ -2,6 +2,7 @@
 use Rattle.std.specs.Prelude.{◌≡◌, None, Some, Option, Result, OnOk, OnErr, IfErr}
 use Rattle.ion_model.specs.declared.value.Value.{Value}
 use Rattle.ion_symtab.specs.declared.fault.Fault.{Fault}
+use Rattle.ion_symtab.specs.declared.fault.Fault.TheVariants.{Memory}
 use Rattle.ion_symtab.specs.declared.outlet.Outlet.{Ghosts as Outlet}
 use Rattle.ion_symtab.specs.Took.{Took, TookFront}
 use Rattle.ion_text.specs.Output.{adds}
@@ -14,5 +15,6 @@ pub record WritesValue {W : Type 0} (O : Outlet W) (old new : Option Fault) (bef
   pub ok : OnOk answer (Took O.took O.written before now (adds v))
   pub goes_on : OnOk answer (new ≡ None)
   pub front : OnErr answer (TookFront O.took O.written before now (adds v))
+  pub memory : IfErr answer (λ fault. fault ≡ Memory → now ≡ before)
   pub cause : IfErr answer (IsWritingFault (O.has_failed now))
   pub failed : IfErr answer (λ fault. new ≡ Some fault)

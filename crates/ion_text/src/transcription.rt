@@ -1,8 +1,9 @@
 //! Values whose octets lie whole in memory, and that are written as text again, in the writer's
 //! spelling. They are judged as they are gone over, and not built.
-ghost use Rattle.std.specs.Prelude.{◌≡◌, ◌+◌, ◌<◌, ◌^◌, ◌++◌, true, None, length, OnOk, IfSome, IsNone, IsOkUnless, option_to_list};
+ghost use Rattle.std.specs.Prelude.{◌≡◌, ◌+◌, ◌<◌, ◌^◌, ◌++◌, true, false, None, length, OnOk, IfSome, IsNone, IsOkUnless, option_to_list};
 ghost use Rattle.std.specs.Str.{IsUtf8};
 ghost use Rattle.ion_model.specs.Kept.{IsKept, KeptPayload};
+ghost use Rattle.ion_model.specs.Kinds.{is_table};
 ghost use Rattle.ion_model.specs.declared.value.Payload.TheViews.{out-Payload};
 ghost use Rattle.ion_symtab.specs.declared.fault.Fault.TheVariants as faults;
 ghost use Rattle.ion_text.specs.Output.{known_text, value_text, layer_text};
@@ -155,7 +156,7 @@ pub(crate) fn transcribe_visited<V: Visitable>(
     requires room { V.taken items.old + length piece.now < 2 ^ 63 }
     ensures value { IfSome result (λ used. (v : Value)
         × V.took_up items.old items.new piece.now used v
-        × IsKept v × (out.new.items ≡ out.old.items ++ value_text v)) }
+        × (is_table v ≡ false) × IsKept v × (out.new.items ≡ out.old.items ++ value_text v)) }
     ensures stays { IsNone result → items.new ≡ items.old }
 {
     let transcription = Transcription::new(alloc, mem::replace(out, Vec::new(alloc)));

@@ -1,6 +1,7 @@
 //! The writer of text documents.
 ghost use Rattle.std.specs.Prelude.{◌≡◌, ◌+◌, ◌<◌, ◌^◌, ◌++◌, Some, None, Err, true, false, [], codes, length, OnOk, OnErr, IfErr, IfOk, IfSome, IsNone};
 ghost use Rattle.ion_model.specs.Kept.{IsKept};
+ghost use Rattle.ion_model.specs.Kinds.{is_table};
 ghost use Rattle.ion_symtab.specs.declared.fault.Fault.{Fault as AnyFault};
 ghost use Rattle.ion_symtab.specs.declared.fault.Fault.TheVariants as faults;
 ghost use Rattle.ion_symtab.specs.Took.{Took, TookFront};
@@ -96,7 +97,7 @@ impl TextWriter {
         piece: &[u8],
     ) -> Option<(usize, Result<(), Fault>)>
         requires room { V.taken items.old + length piece.now < 2 ^ 63 }
-        ensures writes { IfSome result (λ put. (v : AnyValue) × IsKept v
+        ensures writes { IfSome result (λ put. (v : AnyValue) × (is_table v ≡ false) × IsKept v
             × V.took_up items.old items.new piece.now put.0 v
             × WritesValue W.Outlet self.old self.new out.old out.new v put.1) }
         ensures stays { IsNone result →

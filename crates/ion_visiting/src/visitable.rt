@@ -29,6 +29,10 @@ pub trait Visitable {
             × (depth v ≤ level) × (is_table v ≡ false)
             × Visited T.visits v visitor result.1) }
         ensures stays { IsNone result.0 → self.new ≡ self.old };
+
+    /// What was taken up lies in the piece, and is counted.
+    ghost counts: { (a b : Self) (piece : List ℕ) (used : ℕ) (v : Value) →
+        took_up a b piece used v → (used ≤ length piece) × (taken b ≡ taken a + used) };
 }
 
 /// Whether a value is gone over that would be the last of so many in a row that couldn't be: what

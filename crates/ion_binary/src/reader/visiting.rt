@@ -63,4 +63,6 @@ impl<'a> Visitable for BinaryReader<'a> {
         let Telling { visitor: told } = telling;
         (used, told)
     }
+
+    ghost counts = { λ a b piece used v h. (h.within, h.counts) };
 }

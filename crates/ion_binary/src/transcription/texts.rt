@@ -1,5 +1,6 @@
 //! The same visitor where it is told symbols by their texts.
-ghost use Rattle.std.specs.Prelude.{◌≡◌, ◌+◌, ◌<◌, ◌^◌, true, Some, IfSome, IsNone, length};
+ghost use Rattle.std.specs.Prelude.{◌≡◌, ◌+◌, ◌<◌, ◌^◌, true, false, Some, IfSome, IsNone, length};
+ghost use Rattle.ion_model.specs.Kinds.{is_table};
 ghost use Rattle.ion_model.specs.declared.value.Payload.TheVariants as payloads;
 ghost use Rattle.ion_model.specs.declared.value.Value.{Value};
 ghost use Rattle.ion_binary.specs.machine.Transcribed.{Appends, HasId};
@@ -153,7 +154,7 @@ pub(crate) fn transcribe_visited<S: BuildHasher + Drop, V: Visitable>(
     requires room { V.taken items.old + length piece.now < 2 ^ 63 }
     ensures value { IfSome result (λ used. (v : Value)
         × V.took_up items.old items.new piece.now used v
-        × Appends names.now v out.old.items out.new.items) }
+        × (is_table v ≡ false) × Appends names.now v out.old.items out.new.items) }
     ensures stays { IsNone result → items.new ≡ items.old }
 {
     let alloc = *out.allocator();

@@ -87,4 +87,6 @@ impl<'a> Visitable for TextReader<'a> {
         let used = self.walk_by(piece, level, &mut led);
         (used, led)
     }
+
+    ghost counts = { λ a b piece used v h. (h.within, h.counts) };
 }

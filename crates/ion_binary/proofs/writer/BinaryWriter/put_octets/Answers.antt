@@ -29,7 +29,7 @@ returns-clause-writes g c =
         kept = found.kept;
       },
       subst (λ w. WritesValue g.W.Outlet w c.note_fault.new.self c.args.out.now c.put_opened-answer.new.out found.value c.note_fault.result) old
-          (wrote_known g.W.Outlet names begun c.note_fault.new.self c.args.out.now c.put_opened-answer.new.out found.value c.deref.result.now found.named octets
+          (wrote_known g.W.Outlet names begun c.note_fault.new.self c.args.out.now c.put_opened-answer.new.out found.value c.deref.result.now c.len-count.ensures.in_range found.named octets
           c.note_fault.result
           (subst (λ r. OnOk r (Took g.W.Outlet.took g.W.Outlet.written c.args.out.now c.put_opened-answer.new.out (opening begun ++ c.deref.result.now)))
           (sym is) c.put_opened-answer.ensures.ok)

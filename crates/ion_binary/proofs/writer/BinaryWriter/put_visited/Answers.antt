@@ -12,7 +12,7 @@ returns-clause-writes g c =
     let begun = c.self.inside.begun in
     let found = c.in_ok-used.ensures.value in
     let v = found.0 in
-    let written = found.2 in
+    let written = found.3 in
     let none : c.self.inside.failed ≡ None = search rules in
     let empty : c.clear.new.self.items ≡ [] = search rules in
     let lent : c.deref.result.now ≡ c.transcribe_visited.new.out.items = search rules in
@@ -20,10 +20,11 @@ returns-clause-writes g c =
     let is : c.note_fault-written.result ≡ c.put_opened-answer.result = search rules in
     let old = ap (λ f. record { progress = record { names = names; begun = begun }; failed = f }) (sym none) ∙ c.self.view_is in (
       v,
+      found.2,
       written.kept,
       found.1,
       subst (λ w. WritesValue g.W.Outlet w c.note_fault-written.new.self c.args.out.now c.put_opened-answer.new.out v c.note_fault-written.result) old
-          (wrote_known g.W.Outlet names begun c.note_fault-written.new.self c.args.out.now c.put_opened-answer.new.out v c.deref.result.now written.named octets
+          (wrote_known g.W.Outlet names begun c.note_fault-written.new.self c.args.out.now c.put_opened-answer.new.out v c.deref.result.now c.len-count.ensures.in_range written.named octets
           c.note_fault-written.result
           (subst (λ r. OnOk r (Took g.W.Outlet.took g.W.Outlet.written c.args.out.now c.put_opened-answer.new.out (opening begun ++ c.deref.result.now)))
           (sym is) c.put_opened-answer.ensures.ok)

@@ -8,4 +8,4 @@ returns-in-Binary-clause-carries g c =
 
 pub returns-in-Text-clause-carries : goal.returns-in-Text-clause-carries
 returns-in-Text-clause-carries g c =
-    some_each c.put_visited.result (λ carried found. (found.0, found.1, by_text c.args.self.now c.in-Text.is found.2, found.3)) c.put_visited.ensures.writes
+    some_each c.put_visited.result (λ carried found. (found.0, found.2, by_text c.args.self.now c.in-Text.is found.3, found.4)) c.put_visited.ensures.writes
