@@ -7,9 +7,9 @@ tests/deciding_text.py PROGRAM [COUNT [SEED]].
 these a token decides, and with which octet, or that the end does.
 
 What is proved (`deciding` in crates/ion_text/src/laws.rt) is tried of the program. A refusal for one of the nine is a row. Octets show
-one row at most. Where a row decides, the program refuses there or before, and for no other of the nine. A document has no row. What
-isn't proved is tried too: before a row's octet a reason without a row comes only as `ItemTooLong`, and at that octet only with a
-smaller number. Where that happens is told, by reasons.
+one row at most. Where a row decides, the program refuses there or before, and for no other of the nine: before the row's octet only as
+`ItemTooLong`, and at that octet only for a reason with a smaller number. A document has no row. What isn't proved is tried too: where
+the end decides, another reason comes only as `ItemTooLong`, before the end. Where another reason comes is told, by reasons.
 
 Documents: soups of tokens, random values behind tables, whole documents with some octets changed or cut off, under small limits, with
 and without a catalog; and some with all their fronts. Not judged are refusals for other reasons where no row decides, and how many

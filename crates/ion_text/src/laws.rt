@@ -1,9 +1,11 @@
 //! Laws of text documents. Each stands on an empty function: its contract is the law. What they say
 //! of reading is said of the definitions of `specs/machine/Run.antt`, which read octet by octet;
 //! `TextReader` is proved to answer what they say.
-ghost use Rattle.std.specs.Prelude.{◌≡◌, ◌↔◌, ◌≤◌, ◌++◌, ◌⊎◌, ℕ, Bool, List, [], ◌∷◌, length, take, codes, Some, None, Ok, Err};
+ghost use Rattle.std.specs.Prelude.{◌≡◌, ◌↔◌, ◌<◌, ◌≤◌, ◌++◌, ◌⊎◌, ℕ, Bool, List, [], ◌∷◌, length, take, codes, Some, None, Ok, Err};
 ghost use Rattle.ion_model.specs.declared.value.Value.{Value};
 ghost use Rattle.ion_atoms.specs.declared.refusal.Reason.{Reason};
+ghost use Rattle.ion_atoms.specs.declared.refusal.Reason.TheVariants.{ItemTooLong};
+ghost use Rattle.ion_atoms.specs.Reasons.{reason_number};
 ghost use Rattle.ion_atoms.specs.declared.refusal.Refusal.{Refusal};
 ghost use Rattle.ion_model.specs.Kept.{AreKept};
 ghost use Rattle.ion_model.specs.Measures.{nodes};
@@ -17,7 +19,7 @@ ghost use Rattle.ion_tokens.specs.declared.mode.Place.{Place};
 ghost use Rattle.ion_tokens.specs.Lexed.{LexesTo, Placed};
 ghost use Rattle.ion_text.specs.Grammar.{Document, Means, OpenRest, Whole, span};
 ghost use Rattle.ion_text.specs.Deciding.{Decides, EndDecides, HasRow};
-ghost use Rattle.ion_text.specs.Output.{text_of, FitsIn};
+ghost use Rattle.ion_text.specs.Output.{text_of, value_text, FitsIn};
 ghost use Rattle.ion_text.specs.laws.reading.Rows.{AreDocuments, worked_documents};
 ghost use Rattle.ion_text.specs.laws.writing.Rows.{worked};
 ghost use Rattle.ion_text.specs.Calls.{WritesEach};
@@ -28,12 +30,15 @@ use ion_symtab::Outlet;
 
 /// What is written of values that the types keep, none of them a local symbol table, is a document
 /// with these values, under every catalog and all limits that admit it; so what is written of the
-/// values of a document is, where the catalog's texts are UTF-8.
+/// values of a document is, where the catalog's texts are UTF-8. So is the text of one such value
+/// (`value`), which has no LF behind it.
 pub fn round_trip()
     ensures written { (g : List Table) (l : Limits) (s : List Value) →
         AreKept s → NoTables s → FitsIn l s → Document g l (text_of s) s }
     ensures again { (g h : List Table) (l m : Limits) (u : List ℕ) (s : List Value) →
         AreTextTables g → Document g l u s → FitsIn m s → Document h m (text_of s) s }
+    ensures value { (g : List Table) (l : Limits) (v : Value) → AreKept (v ∷ []) →
+        NoTables (v ∷ []) → FitsIn l (v ∷ []) → Document g l (value_text v) (v ∷ []) }
 {}
 
 /// The values of a document are such as the types keep, where the catalog's texts are UTF-8, and
@@ -153,11 +158,13 @@ pub fn first_refused()
 /// it are such as the table of the format names for that reason, and the last of them shows it
 /// (`octet`). Where the end refuses for one of these reasons, they are all the octets, and the end
 /// shows it (`end`). Octets begin with such as the table names up to one octet at most, and for one
-/// reason (`one_octet`). That octet is refused for it, or for a reason that has no row here, which
-/// may also refuse an octet before it (`refuses`). Where all are such as the end shows, it refuses
-/// for that reason, or one that has no row here refuses there or before (`ends`). No document
-/// begins with octets of a row (`no_document`), and none is octets of which the end shows one
-/// (`none_ends`).
+/// reason (`one_octet`). That octet is refused for it, or for a reason with a smaller number that
+/// has no row here, unless an octet before it was refused since the item became too long
+/// (`refuses`). Where all are such as the end shows, it refuses for that reason, or one that has no
+/// row here refuses there or before (`ends`). The end shows one
+/// reason (`one_end`), and none where octets begin with such as the table names (`no_octet`). No
+/// document begins with octets of a row (`no_document`), and none is octets of which the end shows
+/// one (`none_ends`).
 pub fn deciding()
     ensures octet { (g : List Table) (l : Limits) (u : List ℕ) (r : Refusal) →
         (trace g l u).refused ≡ Some r → HasRow r.reason → Decides g l (take r.offset u) r.reason }
@@ -169,12 +176,17 @@ pub fn deciding()
         (j ≡ k) × (e ≡ f) }
     ensures refuses { (g : List Table) (l : Limits) (u : List ℕ) (k : ℕ) (e : Reason) → k ≤ length u
         →
-        Decides g l (take k u) e → (r : Refusal) × ((trace g l u).refused ≡ Some r) × (r.offset ≤ k)
-        ×
-        (HasRow r.reason → (r.offset ≡ k) × (r.reason ≡ e)) }
+        Decides g l (take k u) e → (r : Refusal) × ((trace g l u).refused ≡ Some r)
+        × (((r.reason ≡ ItemTooLong) × (r.offset < k))
+        ⊎ ((r.offset ≡ k) × (reason_number r.reason ≤ reason_number e)))
+        × (HasRow r.reason → (r.offset ≡ k) × (r.reason ≡ e)) }
     ensures ends { (g : List Table) (l : Limits) (u : List ℕ) (e : Reason) →
         EndDecides g l u e → (r : Refusal) × ((trace g l u).ends ≡ Err r) ×
         (HasRow r.reason → (r.offset ≡ length u) × (r.reason ≡ e)) }
+    ensures one_end { (g : List Table) (l : Limits) (u : List ℕ) (e f : Reason) →
+        EndDecides g l u e → EndDecides g l u f → e ≡ f }
+    ensures no_octet { (g : List Table) (l : Limits) (u : List ℕ) (k : ℕ) (e f : Reason) →
+        Decides g l (take k u) f → EndDecides g l u e → ⊥ }
     ensures no_document { (g : List Table) (l : Limits) (u : List ℕ) (k : ℕ) (e : Reason)
         (s : List Value) →
         k ≤ length u → Decides g l (take k u) e → Document g l u s → ⊥ }

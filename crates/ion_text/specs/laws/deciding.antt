@@ -15,4 +15,8 @@ pub mod Agree
 pub mod OneOctet
 pub mod Lines
 pub mod OneEnd
+pub mod Heading
+pub mod Reaching
+pub mod Finding
+pub mod Stopped
 pub mod Rows

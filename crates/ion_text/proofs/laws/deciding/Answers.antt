@@ -1,5 +1,6 @@
 use Rattle.ion_text.specs.laws.deciding.AtEnd.{end_deciding}
 use Rattle.ion_text.specs.laws.deciding.Octets as octets
+use Rattle.ion_text.specs.laws.deciding.OneEnd.{one_end, no_octet}
 use Rattle.ion_text.specs.laws.deciding.OneOctet.{one_octet}
 use Rattle.ion_text.specs.laws.deciding.Rows as rows
 use Rattle.ion_text.proofs.laws.deciding.Goals as goal
@@ -11,6 +12,8 @@ returns c = record {
   one_octet = one_octet;
   refuses = rows.refuses;
   ends = rows.end_refuses;
+  one_end = one_end;
+  no_octet = no_octet;
   no_document = rows.no_document;
   none_ends = λ g l u e s d. rows.end_never g l u e d s;
 }

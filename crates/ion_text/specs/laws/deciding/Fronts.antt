@@ -1,6 +1,5 @@
--- The tokens that were told of octets are the front of each list of tokens that the octets are, where each of these stands in the place
--- that the reader looks in; and behind them none of it is open still, if its last token has ended.
-use Rattle.std.proofs.Common.{◌≡◌, ℕ, Bool, true, false, ◌&&◌, List, [], ◌∷◌, ◌++◌, length, refl, sym, ap, ◌∙◌, subst, append_assoc, append-nil, Ok, Some, ◌⊎◌, inl, inr}
+-- Tokens that are read lead the reader to where the next one is looked for; and where the last of them has ended, it isn't open still.
+use Rattle.std.proofs.Common.{◌≡◌, ℕ, Bool, true, false, ◌&&◌, List, [], ◌∷◌, ◌++◌, length, refl, sym, ap, ◌∙◌, subst, append-nil, Ok, Some, ◌⊎◌, inl, inr}
 use Rattle.ion_model.specs.declared.value.Value.{Value}
 use Rattle.ion_model.specs.declared.value.Field.{Field}
 use Rattle.ion_symtab.specs.declared.limits.Limits.{Limits}
@@ -11,21 +10,18 @@ use Rattle.ion_tokens.specs.declared.mode.Place.{Place}
 use Rattle.ion_tokens.specs.declared.mode.Place.TheVariants as places
 use Rattle.ion_tokens.specs.declared.mode.TokenKind.TheVariants as kinds
 use Rattle.ion_tokens.specs.Bodies.{IsBody}
-use Rattle.ion_tokens.specs.Lexed.{Placed, BeginsLexed, LexesTo}
-use Rattle.ion_tokens.specs.machine.Told.{Stands, Begun, Gave, Leaved}
+use Rattle.ion_tokens.specs.Lexed.{Placed}
 use Rattle.ion_tokens.specs.machine.Scanning.{Known, Next, Given, Left, run, at_end}
-use Rattle.ion_tokens.specs.machine.Scanned.{IsAhead}
 use Rattle.ion_tokens.proofs.complete.Found.{Last, Gives, Leaves, Unclosed}
-use Rattle.ion_tokens.proofs.histories.Histories.{begins_completes, stands_found, given_front, left_front}
 use Rattle.ion_text.specs.declared.state.Frame.{Frame}
 use Rattle.ion_text.specs.declared.state.Frame.TheVariants as frames
 use Rattle.ion_text.specs.declared.state.Now.{Now}
 use Rattle.ion_text.specs.declared.state.Now.TheVariants as nows
 use Rattle.ion_text.specs.Grammar.{Pieces, ends_long, begins_as_long}
 use Rattle.ion_text.specs.machine.EachToken.{Reading, goes, Symbols, at, fresh, place, place_in, settle}
-use Rattle.ion_text.specs.machine.Run.{State, is_fresh}
+use Rattle.ion_text.specs.machine.Run.{is_fresh}
 use Rattle.ion_text.specs.machine.Passed.{said_body}
-use Rattle.ion_text.specs.machine.TokenLists.{Walk, walked, stopped, adds_values, done, on_turn, then_walk, reads, reads-append}
+use Rattle.ion_text.specs.machine.TokenLists.{walked, adds_values, done, on_turn, reads}
 use Rattle.ion_text.specs.laws.reading.sound.Admits.{fresh_empty}
 use Rattle.ion_text.specs.laws.reading.complete.Complete.{Begins, starts}
 use Rattle.ion_text.specs.laws.reading.sound.Depths.{Deep}
@@ -34,14 +30,10 @@ use Rattle.ion_text.specs.laws.reading.complete.Going.{says_so, mark_kind}
 use Rattle.ion_text.specs.laws.reading.sound.Held.{none_open, opened_some}
 use Rattle.ion_text.specs.laws.reading.complete.Pieces.{pieces_read, more_read, top_now, walked_now}
 use Rattle.ion_text.specs.laws.reading.sound.StandsOpen.{NowStands, Opened}
-use Rattle.ion_text.specs.laws.reading.sound.Steps.{Stood}
-use Rattle.ion_text.specs.laws.reading.Stops.{stood_used}
-use Rattle.ion_text.specs.laws.showing.tokens.Compare.{Found', alone, placed_same}
-use Rattle.ion_text.specs.laws.showing.tokens.Cuts.{Is, finds_is}
+use Rattle.ion_text.specs.laws.showing.tokens.Compare.{Found', alone}
 use Rattle.ion_text.specs.laws.showing.tokens.Firsts.{opens_item, now_first}
-use Rattle.ion_text.specs.laws.showing.tokens.Once.{begins_lexed}
 use Rattle.ion_text.specs.laws.showing.tokens.Stays.{Arrived, arrived, opened_read}
-use Rattle.ion_text.specs.laws.showing.tokens.Walks.{walking_said, adds_is, behind_read}
+use Rattle.ion_text.specs.laws.showing.tokens.Walks.{walking_said}
 
 -- nothing is asked of the scanner and the octets
 abbrev pub Any : Known → List ℕ → Type 0
@@ -82,11 +74,6 @@ module _ (g : Catalog) (l : Limits) where
   abbrev pub origin : Reading
   origin = fresh system_slots
 
-  -- each of the tokens stands in the place where the reader looks for it behind those before
-  abbrev pub InPlace : List Placed → Type 0
-  InPlace ws = (before : List Placed) (t : Placed) (after : List Placed) (vs : List Value) (n : Reading) → ws ≡ before ++ t ∷ after
-      → reads g l origin before ≡ walked vs n → t.place ≡ place n
-
   -- tokens that are read without a refusal lead to a reader that looks in this place
   pub record Came (ts : List Placed) (p : Place) : Type 0 where
     pub values : List Value
@@ -94,86 +81,9 @@ module _ (g : Catalog) (l : Limits) where
     pub read : reads g l origin ts ≡ walked values now
     pub here : place now ≡ p
 
-  -- tokens of which the last one stands where the reader looks, behind those before, which were read
-  pub last_in_place : (before : List Placed) (t : Placed) → Came before t.place → InPlace (before ++ t ∷ [])
-  last_in_place before t d front x after xs k cut r = by (split before t front x after cut)
-    where
-      by : ((before ≡ front) × (t ≡ x)) ⊎ ((more : List Placed) × (before ≡ front ++ x ∷ more)) → x.place ≡ place k
-      by (inl (a, b)) =
-          let same = walked_now g l d.values xs d.now k (sym d.read ∙ (ap (reads g l origin) a ∙ r)) in
-          ap (λ (y : Placed). y.place) (sym b) ∙ (sym d.here ∙ ap place same.1)
-      by (inr (more, a)) =
-          let rest = behind_read g l front (x ∷ more) origin k d.now xs d.values r (ap (reads g l origin) (sym a) ∙ d.read) in
-          (walking_said g l k x more (record { vs = rest.0; n = d.now; read = rest.1 })).0
-
-  -- the last token of those that are read
-  record Cut (ts : List Placed) (t : Placed) : Type 0 where
-    values : List Value
-    now : Reading
-    read : reads g l origin ts ≡ walked values now
-    there : t.place ≡ place now
-
-  cut_walk : (ts : List Placed) (t : Placed) (vs : List Value) (n : Reading) → reads g l origin (ts ++ t ∷ []) ≡ walked vs n → Cut ts t
-  cut_walk ts t vs n e = go (reads g l origin ts) refl
-    where
-      joined : (w : Walk) → reads g l origin ts ≡ w → then_walk w (λ k. reads g l k (t ∷ [])) ≡ walked vs n
-      joined w f = sym (ap (λ x. then_walk x (λ k. reads g l k (t ∷ []))) f) ∙ (sym (reads-append g l ts (t ∷ []) origin) ∙ e)
-
-      go : (w : Walk) → reads g l origin ts ≡ w → Cut ts t
-      go (walked xs k) f =
-          let a = adds_is g l xs vs n (reads g l k (t ∷ [])) (joined (walked xs k) f) in
-          record { values = xs; now = k; read = f; there = (walking_said g l k t [] (record { vs = a.0; n = n; read = a.1 })).0 }
-      go stopped f = absurd (let h : stopped ≡ walked vs n = joined stopped f in cc)
-
   -- one list is the front of the other
   abbrev pub Either : List Placed → List Placed → Type 0
   Either ts ws = ((ms : List Placed) × (ws ≡ ts ++ ms)) ⊎ ((ms : List Placed) × (ts ≡ ws ++ ms))
-
-  module _ (ws : List Placed) (there : InPlace ws) where
-    -- the token told is the next of them
-    one_more : (ts : List Placed) (t : Placed) (vs : List Value) (n : Reading) → reads g l origin (ts ++ t ∷ []) ≡ walked vs n
-        → ((x : Placed) (ms : List Placed) → ws ≡ ts ++ x ∷ ms → x.place ≡ t.place → t.lexeme ≡ x.lexeme) → Either ts ws → Either (ts ++ t ∷ []) ws
-    one_more ts t vs n e f (inr (ms, cut)) = inr (ms ++ t ∷ [], ap (λ x. x ++ t ∷ []) cut ∙ append_assoc ws ms (t ∷ []))
-    one_more ts t vs n e f (inl (ms, cut)) = go ms cut
-      where
-        go : (ms : List Placed) → ws ≡ ts ++ ms → Either (ts ++ t ∷ []) ws
-        go [] cut = inr (t ∷ [], ap (λ x. x ++ t ∷ []) (sym (cut ∙ append-nil ts)))
-        go (x ∷ ms) cut =
-            let k = cut_walk ts t vs n e in
-            let here : x.place ≡ t.place = there ts x ms k.values k.now cut k.read ∙ sym k.there in
-            let same : t ≡ x = placed_same Any g l t x (sym here) (f x ms cut here) in
-            inl (ms, cut ∙ (ap (λ y. ts ++ y ∷ ms) (sym same) ∙ sym (append_assoc ts (t ∷ []) ms)))
-
-    -- The tokens told are a front of those that the octets are, or go on behind them.
-    pub either : (s : Known) (u : List ℕ) (ts : List Placed) (ahead rest more : List ℕ) → Stands s u ts ahead → rest ≡ ahead ++ more
-        → BeginsLexed false 0 (u ++ rest) ws → (vs : List Value) (n : Reading) → reads g l origin ts ≡ walked vs n → Either ts ws
-    either s u ts ahead rest more Begun cut lexes vs n e = inl (ws, refl)
-    either s u ts ahead rest more (Gave s0 u0 ts0 ahead0 t octets more0 s' h c f i) cut lexes vs n e =
-        let left : octets ++ rest ≡ ahead0 ++ (more0 ++ rest) = ap (λ x. x ++ rest) c ∙ append_assoc ahead0 more0 rest in
-        let all = subst (λ x. BeginsLexed false 0 x ws) (append_assoc u0 octets rest) lexes in
-        let k = cut_walk ts0 t vs n e in
-        one_more ts0 t vs n e
-        (λ x ms is same.
-        let found = stands_found (λ colon before octets. Unit {0}) Any (Unit {0}) begins_completes s0 u0 ts0 ahead0 (octets ++ rest) (x ∷ ms) h (more0 ++ rest)
-        left (subst (λ y. BeginsLexed false 0 (u0 ++ (octets ++ rest)) y) is all) in
-        subst (Is x.place x.lexeme) (ap (λ p. run p (octets ++ rest) s0) same ∙ given_front t.place octets rest s0 s t.lexeme f)
-        (finds_is Any (Unit {0}) s0 (octets ++ rest) x ms found))
-        (either s0 u0 ts0 ahead0 (octets ++ rest) (more0 ++ rest) h left all k.values k.now k.read)
-    either s u ts ahead rest more (Leaved s0 u0 ts0 ahead0 t octets more0 o s' h c f i) cut lexes vs n e =
-        let left : octets ++ o ∷ more ≡ ahead0 ++ (more0 ++ more) =
-        sym (append_assoc octets (o ∷ []) more) ∙ (ap (λ x. x ++ more) c ∙ append_assoc ahead0 more0 more) in
-        let all = subst (λ x. BeginsLexed false 0 x ws) (append_assoc u0 octets (o ∷ more))
-        (subst (λ x. BeginsLexed false 0 ((u0 ++ octets) ++ x) ws) cut lexes) in
-        let k = cut_walk ts0 t vs n e in
-        one_more ts0 t vs n e
-        (λ x ms is same.
-        let found = stands_found (λ colon before octets. Unit {0}) Any (Unit {0}) begins_completes s0 u0 ts0 ahead0 (octets ++ o ∷ more) (x ∷ ms) h
-        (more0 ++ more) left (subst (λ y. BeginsLexed false 0 (u0 ++ (octets ++ o ∷ more)) y) is all) in
-        subst (Is x.place x.lexeme)
-        (ap (λ p. run p (octets ++ o ∷ more) s0) same ∙ (ap (λ y. run t.place y s0) (sym (append_assoc octets (o ∷ []) more))
-        ∙ left_front t.place (octets ++ o ∷ []) more s0 s t.lexeme f))
-        (finds_is Any (Unit {0}) s0 (octets ++ o ∷ more) x ms found))
-        (either s0 u0 ts0 ahead0 (octets ++ o ∷ more) (more0 ++ more) h left all k.values k.now k.read)
 
   -- a token has ended in the octets, whatever a scanner holds that used them
   pub record HasEnded (u : List ℕ) (t : Placed) : Type 0 where
@@ -314,53 +224,3 @@ module _ (g : Catalog) (l : Limits) where
         item_settles c front vs (frames.Fields rs ms ∷ fs) [] nows.After x xs there pieces (o, refl, tt) apart a
             (subst (λ k. settle g l k ≡ goes there) same.1 r.settles),
       )
-
-  module _ (u : List ℕ) (vs : List Value) (m : State) (b : Stood g l u vs m) where
-    -- what the reader told of the octets was read
-    pub stood_read : Came (b.front ++ b.item) (place m.reading)
-    stood_read = stands_read m.reading.context b.front vs m.reading.frames m.reading.notes m.reading.now b.item b.pieces b.deep b.stands b.first
-
-    since_left : IsAhead b.scanned.since b.scanned.left [] → (more : List ℕ) × (b.scanned.since ≡ b.scanned.left ++ more)
-    since_left (inl (none, same)) = ([], none ∙ sym (append-nil b.scanned.left ∙ sym same))
-    since_left (inr (more, same, none)) = (more, same)
-
-    -- Tokens that the octets are, and of which the last one has ended, were told, and more behind them or none.
-    pub all_told : (ws before : List Placed) (t : Placed) → ws ≡ before ++ t ∷ [] → BeginsLexed false 0 u ws → InPlace ws → HasEnded u t → (ms : List Placed)
-        × (b.front ++ b.item ≡ ws ++ ms)
-    all_told ws before t is lexes there ended = by (either ws there b.scanned.behind b.scanned.front (b.front ++ b.item) b.scanned.left b.scanned.since more.0
-        b.scanned.told more.1 all w.values w.now w.read)
-      where
-        w : Came (b.front ++ b.item) (place m.reading)
-        w = stood_read
-
-        more : (more : List ℕ) × (b.scanned.since ≡ b.scanned.left ++ more)
-        more = since_left b.scanned.next
-
-        all : BeginsLexed false 0 (b.scanned.front ++ b.scanned.since) ws
-        all = subst (λ x. BeginsLexed false 0 x ws) b.scanned.cut lexes
-
-        open' : (ms : List Placed) → ws ≡ (b.front ++ b.item) ++ ms → (ms : List Placed) × (b.front ++ b.item ≡ ws ++ ms)
-        open' [] cut = ([], sym (cut ∙ append-nil (b.front ++ b.item)) ∙ sym (append-nil ws))
-        open' (x ∷ ms) cut =
-            let found = stands_found (λ colon before octets. Unit {0}) Any (Unit {0}) begins_completes b.scanned.behind b.scanned.front (b.front ++ b.item)
-            b.scanned.left b.scanned.since (x ∷ ms) b.scanned.told more.0 more.1
-            (subst (λ y. BeginsLexed false 0 (b.scanned.front ++ b.scanned.since) y) cut all) in
-            let here : x.place ≡ place m.reading = there (b.front ++ b.item) x ms w.values w.now cut w.read ∙ w.here in
-            let last : last_of x ms ≡ t = sym (last_behind (b.front ++ b.item) x ms x) ∙ (ap (last_of x) (sym cut ∙ is) ∙ last_behind before t [] x) in
-            absurd (found_open u t ended b.scanned.behind m.scan b.scanned.since x ms found (ap (λ p. run p b.scanned.since b.scanned.behind) here
-            ∙ b.scanned.ran) (stood_used g l u vs m b) last)
-
-        by : Either (b.front ++ b.item) ws → (ms : List Placed) × (b.front ++ b.item ≡ ws ++ ms)
-        by (inl (ms, cut)) = open' ms cut
-        by (inr (ms, cut)) = (ms, cut)
-
-    -- None of them is refused.
-    pub none_refused : (before : List Placed) (t : Placed) (colon : Bool) (end : ℕ) (rest : List ℕ) → LexesTo false 0 u (before ++ t ∷ []) colon end rest
-        → InPlace (before ++ t ∷ []) → HasEnded u t → reads g l origin (before ++ t ∷ []) ≡ stopped → ⊥
-    none_refused before t colon end rest lexes there ended stops =
-        let ws = before ++ t ∷ [] in
-        let all = all_told ws before t refl (begins_lexed ws false 0 u colon end rest lexes) there ended in
-        let w = stood_read in
-        let n : walked w.values w.now ≡ stopped = sym w.read ∙
-        (ap (reads g l origin) all.1 ∙ (reads-append g l ws all.0 origin ∙ ap (λ x. then_walk x (λ k. reads g l k all.0)) stops)) in
-        cc

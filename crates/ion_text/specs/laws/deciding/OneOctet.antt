@@ -143,12 +143,12 @@ module _ (g : Catalog) (l : Limits) where
   pends_beyond ts e f p front t x xs came why cut = by (split front t ts x xs cut) why
     where
       by : ((front ≡ ts) × (t ≡ x)) ⊎ ((more : List Placed) × (front ≡ ts ++ x ∷ more)) → Why g l front t f → x.lexeme.kind ≡ kinds.Mark marks.Colons
-      by (inl (same, i)) (by_itself m c settles k n h) =
+      by (inl (same, i)) (by_itself m c settles k n h a) =
           absurd
           (let s = settles p.values (pend g l ts e p) (ap (reads g l (origin g l)) same ∙ p.read) in
           let never : walked s.0 m ≡ stopped = sym s.1 ∙ settling_stops g l ts e p done in
           cc)
-      by (inl (same, i)) (as_colons n vs r k h) = ap (λ (y : Placed). y.lexeme.kind) (sym i) ∙ k
+      by (inl (same, i)) (as_colons n vs r k h says on) = ap (λ (y : Placed). y.lexeme.kind) (sym i) ∙ k
       by (inr (more, i)) w = colons_next g l ts e p x more came.values came.now (ap (reads g l (origin g l)) (sym i) ∙ came.read)
 
   -- for one reason
@@ -265,7 +265,8 @@ module _ (g : Catalog) (l : Limits) where
         ∙ (reads-append g l front more (origin g l) ∙ ap (λ y. then_walk y (λ k. reads g l k more)) stops)) in
         cc
 
-    waited_ended : (ts : List Placed) (e : Reason) (p : Pends g l ts e) → NoColons u ts → HasEnded g l u p.token
+    -- what waits for `::` has ended where an octet shows that it doesn't follow
+    pub waited_ended : (ts : List Placed) (e : Reason) (p : Pends g l ts e) → NoColons u ts → HasEnded g l u p.token
     waited_ended ts e p n = ended_by_rest g l u p.front p.token n.o n.rest p.plain (subst (λ z. Are u z (n.rest ++ n.o ∷ [])) p.is n.are)
 
     -- where two rows decide and the one's octets begin with the other's, they are the same, for one reason

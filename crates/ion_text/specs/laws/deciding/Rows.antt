@@ -1,5 +1,5 @@
 -- Where a row of the table stands, the octets up to there are refused.
-use Rattle.std.proofs.Common.{◌≡◌, ◌≤◌, ℕ, List, [], ◌∷◌, ◌++◌, length, take, drop, refl, sym, ap, ◌∙◌, subst, arith, Result, Ok, Err, Option, Some, None, option_to_list}
+use Rattle.std.proofs.Common.{◌≡◌, ◌≤◌, ℕ, List, [], ◌∷◌, ◌++◌, length, take, drop, refl, sym, ap, ◌∙◌, subst, arith, Result, Ok, Err, Option, Some, None, option_to_list, inl, inr}
 use Rattle.std.proofs.lemmas.List.{take-append-drop, length-take-le}
 use Rattle.ion_model.specs.declared.value.Value.{Value}
 use Rattle.ion_atoms.specs.declared.refusal.Reason.{Reason}
@@ -12,62 +12,55 @@ use Rattle.ion_tokens.specs.declared.mode.TokenKind.TheVariants as kinds
 use Rattle.ion_tokens.specs.Bodies.{Content, Id}
 use Rattle.ion_tokens.specs.Lexed.{Placed}
 use Rattle.ion_text.specs.Grammar.{Document}
-use Rattle.ion_text.specs.machine.TokenLists.{reads}
 use Rattle.ion_text.specs.Deciding.{Decides, EndDecides, HasRow, Comes, Container, InStruct, no_symbol, keyword_as_name, keyword_as_annotation, other_version, null_table, too_deep, struct_too_deep, bad_table}
 use Rattle.ion_symtab.specs.Trace.{plain}
 use Rattle.ion_text.specs.machine.Run.{State, begun, Run, run, trace, refused_of, ends_of}
 use Rattle.ion_text.specs.machine.Pieces.{on_now}
 use Rattle.ion_text.specs.laws.reading.complete.Accepts.{accepts}
 use Rattle.ion_text.specs.laws.reading.sound.Admits.{admits}
-use Rattle.ion_text.specs.laws.reading.sound.Steps.{Stood, StoodBehind, run_ran, begun_stood}
-use Rattle.ion_text.specs.laws.reading.Stops.{behind_run, stop_of, stop_within, unfinished}
-use Rattle.ion_text.specs.laws.showing.tokens.Froms.{Waits, EndsWaiting, run_waits}
+use Rattle.ion_text.specs.laws.reading.Stops.{behind_run, unfinished}
 use Rattle.ion_text.specs.laws.deciding.AtEnd.{end_deciding}
-use Rattle.ion_text.specs.laws.deciding.Fronts.{origin, last_in_place, none_refused}
 use Rattle.ion_text.specs.laws.deciding.Octets.{deciding}
-use Rattle.ion_text.specs.laws.deciding.OneOctet.{Seen, refused, unfollowed, seen, keyword_bare, one_octet}
+use Rattle.ion_text.specs.laws.deciding.OneOctet.{keyword_bare, one_octet}
 use Rattle.ion_text.specs.laws.deciding.OneEnd.{one_end, no_octet}
 use Rattle.ion_text.specs.laws.deciding.Shows.{BareSaid, said_bare}
+use Rattle.ion_text.specs.laws.deciding.Stopped.{Stopped, StopsFor, row_stopped}
 use Rattle.ion_text.specs.laws.deciding.Tokens.{bare_plain, id_stops, keyword_stops}
 use Rattle.ion_text.specs.laws.deciding.Ends.{stops_never, pends_never}
-use Rattle.ion_text.specs.laws.deciding.Waiting.{pends_refused, version_pends, null_pends}
+use Rattle.ion_text.specs.laws.deciding.Waiting.{version_pends, null_pends}
 
 -- 1. Octets.
 
-module _ (g : Catalog) (l : Limits) (u : List ℕ) (vs : List Value) (m : State) (b : Stood g l u vs m) (wait : Waits g l m.scan m.reading.now) where
-  row_refused : (e : Reason) → Seen g l u e → ⊥
-  row_refused e (refused ts t rest s are ended size) =
-      none_refused g l u vs m b s.front t are.0 are.1 rest are.2 (last_in_place g l s.front t s.came) ended (sym (ap (reads g l (origin g l)) s.is) ∙ s.stops)
-  row_refused e (unfollowed ts pends none) = pends_refused g l u vs m b wait ts e pends none
-
--- Where a row stands, that octet is refused for the row's reason, or for one that no row has, and then it may be an octet before it.
-pub refuses : (g : Catalog) (l : Limits) (u : List ℕ) (k : ℕ) (e : Reason) → k ≤ length u → Decides g l (take k u) e → (r : Refusal)
-    × ((trace g l u).refused ≡ Some r) × (r.offset ≤ k) × (HasRow r.reason → (r.offset ≡ k) × (r.reason ≡ e))
-refuses g l u k e within d = go x.given x.now refl (run_ran g l (take k u) [] [] 0 begun (begun_stood g l))
-    (run_waits g l (take k u) [] [] 0 begun (begun_stood g l) tt)
+-- Where a row stands, its octet is refused for the row's reason, or for one with a smaller number that no row has, unless an item became too
+-- long before.
+pub refuses : (g : Catalog) (l : Limits) (u : List ℕ) (k : ℕ) (e : Reason) → k ≤ length u → Decides g l (take k u) e
+    → (r : Refusal) × ((trace g l u).refused ≡ Some r) × StopsFor k e r × (HasRow r.reason → (r.offset ≡ k) × (r.reason ≡ e))
+refuses g l u k e within d = (s.0, ap refused_of stops, known, here known)
   where
     x : Run
     x = run g l 0 begun (take k u)
 
-    here : (r : Refusal) → (trace g l u).refused ≡ Some r → r.offset ≤ k → HasRow r.reason → (r.offset ≡ k) × (r.reason ≡ e)
-    here r stops early row = one_octet g l u r.offset k r.reason e (omega (arith, early, within)) within (deciding g l u r stops row) d
+    s : Stopped (length (take k u)) e x.now
+    s = row_stopped g l (take k u) e d
 
-    go : (given : List (Value × ℕ)) (now : Result State Refusal) → x.now ≡ now → StoodBehind g l (take k u) [] (record { given = given; now = now })
-        → EndsWaiting g l now → (r : Refusal) × ((trace g l u).refused ≡ Some r) × (r.offset ≤ k) × (HasRow r.reason → (r.offset ≡ k) × (r.reason ≡ e))
-    go given (Ok m) same b wait = absurd (row_refused g l (take k u) (plain given) m b wait e (seen g l (take k u) e d))
-    go given (Err r) same b wait =
-        let front : run g l 0 begun u ≡ on_now x.given x.now (λ n. run g l (length (take k u)) n (drop k u)) = ap (run g l 0 begun) (sym (take-append-drop k u))
-        ∙ behind_run g l (take k u) (drop k u) in
-        let stops : (run g l 0 begun u).now ≡ Err r = ap (λ (y : Run). y.now) front
-        ∙ ap (λ y. (on_now x.given y (λ n. run g l (length (take k u)) n (drop k u))).now) same in
-        let early : r.offset ≤ k = omega (arith, stop_within g l (take k u) r (stop_of g l (take k u) r same), length-take-le k u within) in
-        (r, ap refused_of stops, early, here r (ap refused_of stops) early)
+    stops : (run g l 0 begun u).now ≡ Err s.0
+    stops =
+        ap (λ (y : Run). y.now) (ap (run g l 0 begun) (sym (take-append-drop k u)) ∙ behind_run g l (take k u) (drop k u))
+        ∙ ap (λ y. (on_now x.given y (λ n. run g l (length (take k u)) n (drop k u))).now) s.1
+
+    known : StopsFor k e s.0
+    known = subst (λ (n : ℕ). StopsFor n e s.0) (length-take-le k u within) s.2
+
+    here : StopsFor k e s.0 → HasRow s.0.reason → (s.0.offset ≡ k) × (s.0.reason ≡ e)
+    here (inl (long, before)) row = absurd (subst HasRow long row)
+    here (inr (there, less)) row = one_octet g l u s.0.offset k s.0.reason e (omega (arith, there, within)) within
+        (deciding g l u s.0 (ap refused_of stops) row) d
 
 -- No document begins with octets of a row.
 pub no_document : (g : Catalog) (l : Limits) (u : List ℕ) (k : ℕ) (e : Reason) (s : List Value) → k ≤ length u → Decides g l (take k u) e → Document g l u s → ⊥
 no_document g l u k e s within d h = go (run g l 0 begun u).now stops.0 (accepts g l u s h).last stops.1 (accepts g l u s h).ends
   where
-    stops : (r : Refusal) × ((trace g l u).refused ≡ Some r) × (r.offset ≤ k) × (HasRow r.reason → (r.offset ≡ k) × (r.reason ≡ e))
+    stops : (r : Refusal) × ((trace g l u).refused ≡ Some r) × StopsFor k e r × (HasRow r.reason → (r.offset ≡ k) × (r.reason ≡ e))
     stops = refuses g l u k e within d
 
     go : (now : Result State Refusal) (r : Refusal) (last : Option Value) → refused_of now ≡ Some r → ends_of g l now ≡ Ok last → ⊥

@@ -40,7 +40,7 @@ use Rattle.ion_text.specs.Grammar.{Says, Annotations, Plain, one_token, long_str
 use Rattle.ion_text.specs.Deciding.{Container, InList, InSexp, InStruct, InField, place_of, TakesValue, Comes, Ends, Are, IsKeyword}
 use Rattle.ion_text.specs.machine.EachToken.{under, spot_at, Reading, Turn, goes, gives, refuses, late, Symbols, at, fresh, place, turn, ended, turned, held_word, held_symbol, begun_at, on_ready, resolved, noted}
 use Rattle.ion_text.specs.machine.Run.{token_of}
-use Rattle.ion_text.specs.machine.TokenLists.{Walk, walked, stopped, adds_values, done, on_turn, reads, said_ok, first_token}
+use Rattle.ion_text.specs.machine.TokenLists.{Walk, walked, stopped, adds_values, done, on_turn, continues, reads, said_ok, first_token}
 use Rattle.ion_text.specs.laws.reading.sound.Admits.{at_end_fine}
 use Rattle.ion_text.specs.laws.reading.complete.Complete.{depth-struct, starts, notes_read, read_behind, open_read, members_read, struct_ends, means_begins}
 use Rattle.ion_text.specs.laws.reading.sound.Depths.{Deep}
@@ -208,9 +208,10 @@ refusing_noted e start c fs ss r h = subst (λ x. Refusing e (noted start c fs s
 -- a token behind others is refused where it comes by itself, or as the `::` behind what waits
 pub data Why (g : Catalog) (l : Limits) (ts : List Placed) (t : Placed) (e : Reason) : Type 0 where
   by_itself : (m : Reading) (c : Content) → SettlesTo g l ts m → said t.lexeme.kind t.lexeme.octets ≡ Ok c → (t.lexeme.kind ≡ kinds.Mark marks.Colons → ⊥)
-      → Refusing e (turn g l m (token_of t.lexeme c)) → Why g l ts t e
+      → Refusing e (turn g l m (token_of t.lexeme c)) → JoinsNothing c → Why g l ts t e
   as_colons : (n : Reading) (vs : List Value) → reads g l (origin g l) ts ≡ walked vs n → t.lexeme.kind ≡ kinds.Mark marks.Colons
-      → Refusing e (turn g l n (token_of t.lexeme (Mark' marks.Colons))) → Why g l ts t e
+      → Refusing e (turn g l n (token_of t.lexeme (Mark' marks.Colons))) → said t.lexeme.kind t.lexeme.octets ≡ Ok (Mark' marks.Colons)
+      → continues n (token_of t.lexeme (Mark' marks.Colons)) ≡ true → Why g l ts t e
 
 not_colons : (p : Place) (t : Placed) (d : Content) → Says p t d → (d ≡ Mark' marks.Colons → ⊥) → t.lexeme.kind ≡ kinds.Mark marks.Colons → ⊥
 not_colons p t d says n k = let b : IsBody (kinds.Mark marks.Colons) t.lexeme.octets (Ok d) = subst (λ y. IsBody y t.lexeme.octets (Ok d)) k says.body in
@@ -218,7 +219,7 @@ not_colons p t d says n k = let b : IsBody (kinds.Mark marks.Colons) t.lexeme.oc
 
 -- for one reason
 pub why_once : (g : Catalog) (l : Limits) (ts : List Placed) (t : Placed) (d e : Reason) (p : Place) → Came g l ts p → Why g l ts t d → Why g l ts t e → d ≡ e
-why_once g l ts t d e p came (by_itself m c s i n h) (by_itself m' c' s' i' n' h') =
+why_once g l ts t d e p came (by_itself m c s i n h a) (by_itself m' c' s' i' n' h' a') =
     let a = s came.values came.now came.read in
     let b = s' came.values came.now came.read in
     let same = walked_now g l a.0 b.0 m m' (sym a.1 ∙ b.1) in
@@ -226,11 +227,11 @@ why_once g l ts t d e p came (by_itself m c s i n h) (by_itself m' c' s' i' n' h
     let one : c ≡ c' = cc in
     one_refusing d e (turn g l m' (token_of t.lexeme c')) (subst (λ x. Refusing d (turn g l x (token_of t.lexeme c'))) same.1
     (subst (λ x. Refusing d (turn g l m (token_of t.lexeme x))) one h)) h'
-why_once g l ts t d e p came (as_colons n vs r k h) (as_colons n' vs' r' k' h') =
+why_once g l ts t d e p came (as_colons n vs r k h i w) (as_colons n' vs' r' k' h' i' w') =
     one_refusing d e (turn g l n' (token_of t.lexeme (Mark' marks.Colons)))
     (subst (λ x. Refusing d (turn g l x (token_of t.lexeme (Mark' marks.Colons)))) (walked_now g l vs vs' n n' (sym r ∙ r')).1 h) h'
-why_once g l ts t d e p came (by_itself m c s i n h) (as_colons n' vs r k h') = absurd (n k)
-why_once g l ts t d e p came (as_colons n vs r k h) (by_itself m c s i n' h') = absurd (n' k)
+why_once g l ts t d e p came (by_itself m c s i n h a) (as_colons n' vs r k h' i' w) = absurd (n k)
+why_once g l ts t d e p came (as_colons n vs r k h i' w) (by_itself m c s i n' h' a) = absurd (n' k)
 
 -- behind others that are read the last of the tokens is refused for this reason
 pub record Stops (g : Catalog) (l : Limits) (ts : List Placed) (t : Placed) (e : Reason) : Type 0 where
@@ -263,7 +264,7 @@ module _ (g : Catalog) (l : Limits) where
               (first_token g l (place_of ks) (at x.0 c held h.symbols nows.Ready) h.token said [] h.says (here g l c ks said ts h takes) (inr refl)
               ∙ refusing_stops e (turn g l (at x.0 c held h.symbols nows.Ready) (token_of h.token.lexeme said)) done (refused x.0)));
           why = by_itself (at w.0 c held h.symbols nows.Ready) said w.1 (said_ok g l (place_of ks) h.token said h.says)
-              (not_colons (place_of ks) h.token said h.says a.colons) (refused w.0);
+              (not_colons (place_of ks) h.token said h.says a.colons) (refused w.0) a;
         }
 
     -- a container that would be too deep
@@ -326,7 +327,8 @@ module _ (g : Catalog) (l : Limits) where
                 ∙ ap (λ y. on_turn (noted (begun_at x.0 h.token.lexeme.start held h.symbols) c held h.symbols y) done) none));
             why =
                 as_colons (pending_word y.0) (h.values ++ []) y.1 (mark_kind colons.lexeme.kind colons.lexeme.octets marks.Colons says.body)
-                (refusing_noted reasons.KeywordAsName (begun_at y.0 h.token.lexeme.start held h.symbols) c held h.symbols (held_symbol word) none);
+                (refusing_noted reasons.KeywordAsName (begun_at y.0 h.token.lexeme.start held h.symbols) c held h.symbols (held_symbol word) none)
+                (said_ok g l (place_of ks) colons (Mark' marks.Colons) says) refl;
           }
 
   -- 5. A token where a name may come.
@@ -350,7 +352,7 @@ module _ (g : Catalog) (l : Limits) where
               (first_token g l places.Name (at x.0 c inside [] nows.Name) h.token said [] h.says refl (inr refl)
               ∙ refusing_stops e (turn g l (at x.0 c inside [] nows.Name) (token_of h.token.lexeme said)) done (refused x.0)));
           why = by_itself (at w.0 c inside [] nows.Name) said w.1 (said_ok g l places.Name h.token said h.says)
-              (not_colons places.Name h.token said h.says a.colons) (refused w.0);
+              (not_colons places.Name h.token said h.says a.colons) (refused w.0) a;
         }
 
   -- 6. The rows of one token.
@@ -473,7 +475,7 @@ module _ (g : Catalog) (l : Limits) where
               let w = struct_settles g l c h.front h.values rs ms [] inner more h.pieces deep (opened more members) apart in
               by_itself (at w.0 c (frames.Fields rs ms ∷ []) [] (struct_now g l more)) (Mark' marks.FieldsClose) w.1
               (said_ok g l (close_place more) close (Mark' marks.FieldsClose) closes)
-              (not_colons (close_place more) close (Mark' marks.FieldsClose) closes (λ k. cc)) (closed more w.0)
+              (not_colons (close_place more) close (Mark' marks.FieldsClose) closes (λ k. cc)) (closed more w.0) (mark_apart marks.FieldsClose (λ k. cc))
 
           s : ℕ
           s = begun_at (starts g l 0 [] notes) open'.lexeme.start [] rs

@@ -1,5 +1,5 @@
--- Where a row of the table stands whose last token waited for `::` and is refused since none follows, octets are refused.
-use Rattle.std.proofs.Common.{◌≡◌, ◌≢◌, ℕ, Bool, true, false, ◌&&◌, List, [], ◌∷◌, ◌++◌, refl, sym, ap, ◌∙◌, subst, append_assoc, append-nil, Ok, Err, Some, if◌then◌else◌, ◌⊎◌, inl, inr, codes}
+-- Rows of the table whose last token waits for `::` and is refused where none follows.
+use Rattle.std.proofs.Common.{◌≡◌, ◌≢◌, ℕ, Bool, true, false, ◌&&◌, List, [], ◌∷◌, ◌++◌, refl, sym, ap, ◌∙◌, subst, Ok, Err, Some, if◌then◌else◌, codes}
 use Rattle.std.proofs.lemmas.Bool.{cond-true}
 use Rattle.std.specs.Str.{bytes_eq}
 use Rattle.std.proofs.lemmas.Slice.Eq.{bytes_eq-Decides}
@@ -22,7 +22,6 @@ use Rattle.ion_tokens.specs.declared.mode.Mark.TheVariants as marks
 use Rattle.ion_tokens.specs.declared.mode.Place.{Place}
 use Rattle.ion_tokens.specs.declared.mode.Place.TheVariants as places
 use Rattle.ion_tokens.specs.declared.mode.TokenKind.TheVariants as kinds
-use Rattle.ion_tokens.specs.machine.Bounds.{is_idle}
 use Rattle.ion_tokens.specs.Bodies.{Content, Word, TypedNull, IsBody}
 use Rattle.ion_tokens.specs.Lexed.{Placed, LexesTo, colon_behind}
 use Rattle.ion_tokens.specs.machine.Said.{said}
@@ -30,32 +29,26 @@ use Rattle.ion_text.specs.declared.state.Held.{Held}
 use Rattle.ion_text.specs.declared.state.Held.TheVariants as helds
 use Rattle.ion_text.specs.declared.state.Frame.{Frame}
 use Rattle.ion_text.specs.declared.state.Now.TheVariants as nows
-use Rattle.ion_text.specs.Grammar.{Says, Annotations, Plain, one_token, long_string, is_list, is_sexp, is_struct, Means, means, IsScalar, is_null, is_typed_null, is_true, is_false, is_int, is_decimal, is_timestamp, is_symbol, is_operator, is_short, is_clob, is_blob, BlankThen, is_version, the_marker, ends_long, begins_as_long, end_of}
-use Rattle.ion_text.specs.Deciding.{Comes, Ends, Are, NoColons, none_open}
-use Rattle.ion_text.specs.machine.EachToken.{under, spot_at, Reading, goes, Symbols, at, fresh, place, place_in, settle, ended, turned, held_word, begun_at, on_ready}
-use Rattle.ion_text.specs.machine.Run.{State, is_fresh, token_of}
+use Rattle.ion_text.specs.Grammar.{Says, Annotations, Plain, one_token, long_string, is_list, is_sexp, is_struct, Means, means, IsScalar, is_null, is_typed_null, is_true, is_false, is_int, is_decimal, is_timestamp, is_symbol, is_operator, is_short, is_clob, is_blob, BlankThen, is_version, the_marker, ends_long, begins_as_long}
+use Rattle.ion_text.specs.Deciding.{Comes, Ends, none_open}
+use Rattle.ion_text.specs.machine.EachToken.{under, spot_at, Reading, goes, Symbols, at, place, settle, ended, turned, held_word, begun_at, on_ready}
+use Rattle.ion_text.specs.machine.Run.{token_of}
 use Rattle.ion_text.specs.machine.Passed.{said_body}
-use Rattle.ion_text.specs.machine.TokenLists.{Walk, walked, stopped, done, on_turn, continues, reads}
-use Rattle.ion_text.specs.laws.reading.complete.Complete.{starts, pending_goes, released_paid}
+use Rattle.ion_text.specs.machine.TokenLists.{Walk, walked, stopped, on_turn, continues, reads}
+use Rattle.ion_text.specs.laws.reading.complete.Complete.{pending_goes, released_paid}
 use Rattle.ion_text.specs.laws.reading.complete.Going.{mark_kind}
 use Rattle.ion_text.specs.laws.reading.sound.Held.{no_notes}
-use Rattle.ion_text.specs.laws.reading.complete.Pieces.{pieces_read, walked_now}
 use Rattle.ion_text.specs.laws.reading.complete.Segments.{never}
-use Rattle.ion_text.specs.laws.reading.sound.StandsOpen.{NowStands, EndsAt, symbol_said}
-use Rattle.ion_text.specs.laws.reading.sound.Spans.{IsWaiting}
-use Rattle.ion_text.specs.laws.reading.sound.Steps.{Stood}
+use Rattle.ion_text.specs.laws.reading.sound.StandsOpen.{symbol_said}
 use Rattle.ion_text.specs.laws.showing.tokens.Compare.{lexes_once}
 use Rattle.ion_text.specs.laws.showing.tokens.Cuts.{parted}
-use Rattle.ion_text.specs.laws.showing.tokens.Froms.{Waits}
 use Rattle.ion_text.specs.laws.showing.shown.Opened.{blank_token, colons_token, symbol_colon}
-use Rattle.ion_text.specs.laws.showing.tokens.Once.{begins_lexed}
-use Rattle.ion_text.specs.laws.showing.tokens.Stays.{Arrived}
 use Rattle.ion_text.specs.laws.showing.tokens.Walks.{walking_said, settled_reads, behind_read}
 use Rattle.ion_text.specs.laws.deciding.Openings.{containers, begins_so}
-use Rattle.ion_text.specs.laws.deciding.Shows.{BareSaid, said_bare, awaits_colons, flag, k}
-use Rattle.ion_text.specs.laws.deciding.Fronts.{origin, InPlace, Came, last_in_place, stood_read, item_arrived, item_read, all_told}
+use Rattle.ion_text.specs.laws.deciding.Shows.{BareSaid, said_bare, k}
+use Rattle.ion_text.specs.laws.deciding.Fronts.{origin, Came}
 use Rattle.ion_text.specs.laws.deciding.Comings.{JoinsNothing, before, cut, came, f}
-use Rattle.ion_text.specs.laws.deciding.Tokens.{Refusing, refusing_stops, refusing_is, bare_plain, ended_by_rest, word_apart, null_apart, read_to}
+use Rattle.ion_text.specs.laws.deciding.Tokens.{Refusing, refusing_stops, refusing_is, bare_plain, word_apart, null_apart, read_to}
 
 -- a word of the form of a marker is held as one
 version_held : (w : List ℕ) → is_version w ≡ true → w ≢ the_marker → held_word w ≡ helds.Version false (Some w)
@@ -120,9 +113,6 @@ module _ (g : Catalog) (l : Limits) (ws : List Placed) (reason : Reason) (p : Pe
   pub settling_stops : (f : Reading → Walk) → on_turn (settle g l pend) f ≡ stopped
   settling_stops f = refusing_stops reason (settle g l pend) f p.why
 
-  pub pends_in_place : InPlace g l ws
-  pends_in_place = subst (InPlace g l) (sym p.is) (last_in_place g l p.front p.token p.came)
-
   -- What comes next of tokens that are read is `::`.
   pub colons_next : (x : Placed) (ys : List Placed) (zs : List Value) (n : Reading) → reads g l (origin g l) (ws ++ x ∷ ys) ≡ walked zs n
       → x.lexeme.kind ≡ kinds.Mark marks.Colons
@@ -141,85 +131,6 @@ module _ (g : Catalog) (l : Limits) (ws : List Placed) (reason : Reason) (p : Pe
           (said_body x.lexeme.kind x.lexeme.octets q.1 q.2))
       go false f = absurd (let never : walked rest.0 n ≡ stopped =
           sym rest.1 ∙ (settled_reads g l pend x ys q.1 q.0 q.2 f ∙ settling_stops (λ k. reads g l k (x ∷ ys))) in cc)
-
-module _ (g : Catalog) (l : Limits) (u : List ℕ) (vs : List Value) (m : State) (b : Stood g l u vs m) (wait : Waits g l m.scan m.reading.now) where
-  abbrev r : Reading
-  r = m.reading
-
-  abbrev told : List Placed
-  told = b.front ++ b.item
-
-  module _ (ws : List Placed) (reason : Reason) (p : Pends g l ws reason) (none : NoColons u ws) where
-    all : (ms : List Placed) × (told ≡ ws ++ ms)
-    all =
-        all_told g l u vs m b ws p.front p.token p.is (begins_lexed ws false 0 u none.are.0 none.are.1 (none.rest ++ none.o ∷ []) none.are.2)
-        (pends_in_place g l ws reason p)
-        (ended_by_rest g l u p.front p.token none.o none.rest p.plain (subst (λ y. Are u y (none.rest ++ none.o ∷ [])) p.is none.are))
-
-    -- the octets go on with no token
-    more_never : (x : Placed) (ys : List Placed) → told ≡ ws ++ x ∷ ys → ⊥
-    more_never x ys e =
-        let w = stood_read g l u vs m b in
-        let k = k (place r) m.scan u told [] b.scanned 0 (0 ∷ [], refl) in
-        let lexes : LexesTo false 0 u told k.colon k.end k.since =
-        subst (λ y. LexesTo false 0 y told k.colon k.end k.since) (append-nil u)
-        (subst (LexesTo false 0 (u ++ []) told k.colon k.end) (append-nil k.since) (k.lexes [] ([], refl))) in
-        none.after [] (colons_shown u ws x ys none.are.0 k.colon none.are.1 k.end (none.rest ++ none.o ∷ []) k.since none.are.2
-        (subst (λ y. LexesTo false 0 u y k.colon k.end k.since) e lexes)
-        (colons_next g l ws reason p x ys w.values w.now (ap (reads g l (origin g l)) (sym e) ∙ w.read)))
-
-    -- where they waited, `::` may follow
-    waits_never : told ≡ ws → r.frames ≡ [] → r.now ≡ nows.Pending p.held p.end → ⊥
-    waits_never e top now =
-        let idle : is_idle m.scan.mode ≡ true = subst (Waits g l m.scan) now wait in
-        let here : place r ≡ places.Top = ap (λ x. place_in x r.now) top in
-        let a = awaits_colons (place r) m.scan u told [] b.scanned 0 (0 ∷ [], refl) here
-        (flag (place r) m.scan u told [] b.scanned 0 (0 ∷ [], refl) p.front p.token (e ∙ p.is) p.colon) idle refl in
-        let one = lexes_once ws false 0 u a.are.0 none.are.0 a.are.1 none.are.1 a.rest (none.rest ++ none.o ∷ [])
-        (subst (λ y. LexesTo false 0 u y a.are.0 a.are.1 a.rest) e a.are.2) none.are.2 in
-        none.after a.before.0 (subst (BlankThen (codes "::")) (ap (λ y. y ++ a.before.0) one.2 ∙ append_assoc none.rest (none.o ∷ []) a.before.0) a.before.1)
-
-    item_never : (x : Placed) (ys : List Placed) → NowStands r.context r.frames r.notes (x ∷ ys) r.now → (ends_long b.front && begins_as_long (x ∷ ys)) ≡ false
-        → EndsAt r.now (end_of 0 (x ∷ ys)) → told ≡ ws → told ≡ b.front ++ x ∷ ys → ⊥
-    item_never x ys d apart ends e f = by a.is
-      where
-        a : Arrived g l r.context r.frames r.notes r.now (x ∷ ys)
-        a = item_arrived g l r.context r.frames r.notes r.now x ys b.deep d
-
-        same : a.r ≡ pend g l ws reason p
-        same = (walked_now g l (vs ++ []) p.values a.r (pend g l ws reason p)
-            (sym (item_read g l r.context b.front vs r.frames r.notes r.now x ys b.pieces d apart a) ∙ (ap (reads g l (origin g l)) (sym f ∙ e) ∙ p.read))).1
-
-        by : ((n : Reading) × (settle g l a.r ≡ goes n) × (is_fresh n ≡ false) × (n.start ≡ starts g l 0 [] (x ∷ ys)))
-            ⊎ (IsWaiting g l r.now × IsWaiting g l a.r.now × (a.r.start ≡ starts g l 0 [] (x ∷ ys))) → ⊥
-        by (inl (n, settles, fresh, at')) =
-            let k : walked [] n ≡ stopped = sym (ap (λ y. on_turn y done) settles)
-            ∙ (ap (λ y. on_turn (settle g l y) done) same ∙ settling_stops g l ws reason p done) in
-            cc
-        by (inr (w, w', at')) =
-            let there = sym (a.waited w ends) ∙ same in
-            waits_never e (ap (λ (y : Reading). y.frames) there) (ap (λ (y : Reading). y.now) there)
-
-    all_never : told ≡ ws → (item : List Placed) → b.item ≡ item → ⊥
-    all_never e [] f =
-        let d = pieces_read g l b.front vs r.context b.pieces in
-        let same = walked_now g l d.given p.values d.now (pend g l ws reason p)
-        (sym d.read ∙ (ap (reads g l (origin g l)) (sym (sym e ∙ (ap (λ y. b.front ++ y) f ∙ append-nil b.front))) ∙ p.read)) in
-        let n : walked d.later (fresh r.context) ≡ stopped = sym d.settles
-        ∙ (ap (λ y. on_turn (settle g l y) done) same.1 ∙ settling_stops g l ws reason p done) in
-        cc
-    all_never e (x ∷ ys) f =
-        item_never x ys (subst (λ y. NowStands r.context r.frames r.notes y r.now) f b.stands)
-        (subst (λ y. (ends_long b.front && begins_as_long y) ≡ false) f b.first) (subst (λ y. EndsAt r.now (end_of 0 y)) f b.ends) e
-        (ap (λ y. b.front ++ y) f)
-
-    -- Where the octets show that no `::` follows, they are refused.
-    pub pends_refused : ⊥
-    pends_refused = go all.0 all.1
-      where
-        go : (ms : List Placed) → told ≡ ws ++ ms → ⊥
-        go [] e = all_never (e ∙ append-nil ws) b.item refl
-        go (x ∷ ys) e = more_never x ys e
 
 module _ (g : Catalog) (l : Limits) where
   -- a token that is held

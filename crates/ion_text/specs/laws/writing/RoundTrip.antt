@@ -22,7 +22,7 @@ use Rattle.ion_text.specs.Grammar.{Means, ends_long, begins_as_long, is_version,
 use Rattle.ion_text.specs.Output.{value_text, text_of, ValueFits, FitsIn}
 use Rattle.ion_model.specs.Kept.{IsKept, AreKept}
 use Rattle.ion_text.specs.laws.writing.Written.{NoneLong, none_long, Written, tokens, span_within, white_before, lexes_end}
-use Rattle.ion_text.specs.laws.writing.ValuesWritten.{value_written, value_no_colon, starts_badly, bad_octet, either_false, line_stops}
+use Rattle.ion_text.specs.laws.writing.ValuesWritten.{value_written, value_no_colon, starts_badly, bad_octet, either_false, nothing_stops, line_stops}
 
 -- 1. No value is written as the marker of a version.
 
@@ -103,6 +103,9 @@ ends_short (t ∷ u ∷ ts) h = ends_short (u ∷ ts) h.1
 behind_short : (ts us : List Placed) → NoneLong ts → (ends_long ts && begins_as_long us) ≡ false
 behind_short ts us h = rw (ends_short ts h) refl
 
+no_more : IsLastBlank []
+no_more = inl (record { pieces = []; each = tt; spelled = refl })
+
 last_line : IsLastBlank (10 ∷ [])
 last_line = inl (record { pieces = White 10 ∷ []; each = (refl, tt); spelled = refl })
 
@@ -162,7 +165,7 @@ module _ (g : Catalog) (l : Limits) where
 
   -- the text that is written of a stream of values is a document with these values
   pub round_trip : (s : List Value) → AreKept s → NoTables s → FitsIn l s → Document g l (text_of s) s
-  round_trip [] k n f = record { tokens = []; context = system_slots; lexed = inl (record { pieces = []; each = tt; spelled = refl }); pieces = begins }
+  round_trip [] k n f = record { tokens = []; context = system_slots; lexed = no_more; pieces = begins }
   round_trip (v ∷ vs) k n f =
       let rest = 10 ∷ text_of vs in
       let h = value_written system_slots v k.0 places.Top refl 0 rest (line_stops (text_of vs)) in
@@ -176,4 +179,18 @@ module _ (g : Catalog) (l : Limits) where
             (lexes_end (λ c b o. IsLastBlank o) false 0 (value_text v ++ rest) ts more.tokens h.after (0 + length (value_text v)) rest (h.lexes false)
             more.lexes);
         pieces = more.pieces;
+      }
+
+  -- the text of one value, without its line's end, is a document with this value
+  pub value_alone : (v : Value) → AreKept (v ∷ []) → NoTables (v ∷ []) → FitsIn l (v ∷ []) → Document g l (value_text v) (v ∷ [])
+  value_alone v k n f =
+      let h = value_written system_slots v k.0 places.Top refl 0 [] nothing_stops in
+      let ts = tokens h in
+      record {
+        tokens = ts;
+        context = system_slots;
+        lexed = subst (λ (x : List ℕ). Lexes false 0 x ts) (append-nil (value_text v))
+            (subst (Lexes false 0 (value_text v ++ [])) (append-nil ts)
+            (lexes_end (λ c b o. IsLastBlank o) false 0 (value_text v ++ []) ts [] h.after (0 + length (value_text v)) [] (h.lexes false) no_more));
+        pieces = (value_holds [] [] v 0 [] (record { pieces = begins; short = tt }) k.0 n.0 f.0 h).pieces;
       }

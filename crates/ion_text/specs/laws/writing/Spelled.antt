@@ -1,5 +1,5 @@
 -- What is written of a symbol, number, text or lob is one token that says it, before what may follow.
-use Rattle.std.proofs.Common.{◌≡◌, ℕ, ◌<◌, inl, inr, Bool, true, false, List, [], ◌∷◌, ◌++◌, Option, Some, None, Ok, refl, ap, subst, arith, IsUtf8}
+use Rattle.std.proofs.Common.{◌≡◌, ℕ, ◌<◌, ◌⊎◌, inl, inr, Bool, true, false, List, [], ◌∷◌, ◌++◌, Option, Some, None, Ok, refl, ap, subst, arith, IsUtf8}
 use Rattle.std.specs.Prelude.{◌==◌, ◌||◌, nat_lt, not, codes}
 use Rattle.std.specs.List.{list_all, filter}
 use Rattle.std.proofs.lemmas.Bool.{and_parts, false≢true}
@@ -24,7 +24,7 @@ use Rattle.ion_tokens.specs.Blobs.{base64_of, IsBase64}
 use Rattle.ion_tokens.specs.laws.Blobs.{base64_each}
 use Rattle.ion_tokens.specs.laws.Numerals.{numeric_run}
 use Rattle.ion_tokens.specs.Bodies.{Content, Word, Id, Quoted, Short, Number', TypedNull, Clob, Blob, IsBody, id_of, kind_named}
-use Rattle.ion_tokens.specs.Lexemes.{IsLexeme, Each, begins, ShortText, takes_colon, is_segment}
+use Rattle.ion_tokens.specs.Lexemes.{IsLexeme, Each, begins, begins_comment, ShortText, takes_colon, is_segment}
 use Rattle.ion_text.specs.Grammar.{is_keyword, IsSymbol, is_word, is_id, is_quoted}
 use Rattle.ion_text.specs.Output.{of_string, of_symbol, of_clob, is_identifier, is_unquoted, symbol_text, quoted, escaped_text, null_text, truth_text, clob_text, blob_text}
 use Rattle.ion_model.specs.Kept.{IsText}
@@ -38,10 +38,15 @@ pub record EndsWords (r : List ℕ) : Type 0 where
   pub dot : begins (λ o. o == 46) r ≡ false
   pub quote : begins (λ o. o == 39) r ≡ false
 
+-- nothing, or an octet that ends a number
+abbrev pub StopsOrEnds : List ℕ → Type 0
+StopsOrEnds [] = Unit {0}
+StopsOrEnds (o ∷ os) = is_stop o ≡ true
+
 -- and what ends a number
 pub record EndsNumbers (r : List ℕ) : Type 0 where
   pub apart : EndsWords r
-  pub stop : begins is_stop r ≡ true
+  pub stop : StopsOrEnds r
 
 -- The octets w before r are a token of this place, whether or not a colon may stand there, and say this. None is a long string.
 pub record Spelling (p : Place) (w r : List ℕ) (said : Content) : Type 0 where
@@ -165,10 +170,14 @@ number_spelled p n r place h s =
     record {
       kind = kinds.Number;
       octets = number_text n;
-      lexeme = λ colon. (refl, place, record { begun = run.begun; each = run.each; longest = inr (inl s.stop) });
+      lexeme = λ colon. (refl, place, record { begun = run.begun; each = run.each; longest = longest r s.stop });
       body = h;
       short = refl;
     }
+  where
+    longest : (r : List ℕ) → StopsOrEnds r → (r ≡ []) ⊎ ((begins is_stop r ≡ true) ⊎ (begins_comment r ≡ true))
+    longest [] h = inl refl
+    longest (o ∷ os) h = inr (inl h)
 
 ascii_text : (w : List ℕ) → list_all (λ o. nat_lt o 128) w ≡ true → IsUtf8 w
 ascii_text [] h = IsUtf8-nil

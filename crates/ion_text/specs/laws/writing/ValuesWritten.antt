@@ -232,6 +232,10 @@ comma_stops r = record { apart = record { word = refl; dot = refl; quote = refl 
 pub space_stops : (r : List ℕ) → EndsNumbers (32 ∷ r)
 space_stops r = record { apart = record { word = refl; dot = refl; quote = refl }; stop = refl }
 
+-- the end of the octets ends numbers
+pub nothing_stops : EndsNumbers []
+nothing_stops = record { apart = record { word = refl; dot = refl; quote = refl }; stop = tt }
+
 -- a line feed ends numbers
 pub line_stops : (r : List ℕ) → EndsNumbers (10 ∷ r)
 line_stops r = record { apart = record { word = refl; dot = refl; quote = refl }; stop = refl }

@@ -40,7 +40,7 @@ use Rattle.ion_text.specs.laws.reading.complete.Exact.{Exact, Exactly, feed_exac
 use Rattle.ion_text.specs.machine.Passed.{said_body}
 use Rattle.ion_text.specs.laws.reading.sound.StandsOpen.{start_now}
 use Rattle.ion_text.specs.laws.reading.sound.Spans.{IsClose, Spans, IsTopNow, turn_spans}
-use Rattle.ion_text.specs.laws.reading.complete.Meets.{Meets, at_blank, at_token, in_blank, goes_on, is_given, is_left, finely_as, follows_as, IdleLeft, idle_left, end_spans}
+use Rattle.ion_text.specs.laws.reading.complete.Meets.{Meets, at_blank, at_token, in_blank, goes_on, is_given, is_left, meets_next, finely_as, follows_as, IdleLeft, idle_left, end_spans}
 use Rattle.ion_text.specs.laws.reading.complete.Going.{Operators, Going, TurnGoes, TurnEnds, TopOk, Direct, going_said, going_turn, going_settle, going_ends, inside_end, inside_token, InsideNext, stays, closed, top_place, no_operator, closes_kind, gives_top}
 use Rattle.ion_text.specs.laws.reading.complete.Quiet.{CalmNow, Calm, EndedIn, ended_more, ended_at, calm_ok, blank_idle, quiet, calm_now}
 use Rattle.ion_text.specs.laws.reading.complete.Fuel.{UsedHere, Leaving, feed_leaves, twice_fuel, eats_stays, more_same}
@@ -69,7 +69,8 @@ idle_calm nows.Name m k i = k
 idle_calm (nows.LongName w) m k i = k
 idle_calm (nows.Keyed s) m k i = k
 
-fresh_top : (r : Reading) → is_fresh r ≡ true → r.now ≡ nows.Ready
+-- behind a whole value a value may come
+pub fresh_top : (r : Reading) → is_fresh r ≡ true → r.now ≡ nows.Ready
 fresh_top r h = go r.frames r.notes r.now h
   where
     go : (fs : List Frame) (ss : Symbols) (n : Now) → is_fresh (at r.start r.context fs ss n) ≡ true → n ≡ nows.Ready
@@ -136,11 +137,12 @@ module _ (g : Catalog) (l : Limits) where
   settle_settled start c fs ss nows.Name k = λ m h. k h
   settle_settled start c fs ss (nows.Keyed s) k = λ m h. k h
 
-  still_calm : (r : Reading) (m : Mode) → TopOk g l r → settle g l r ≡ goes r → is_top r.frames ≡ true → CalmNow r.now m
+  -- where nothing waits it is calm, whatever token has begun
+  pub still_calm : (r : Reading) (m : Mode) → TopOk g l r → settle g l r ≡ goes r → is_top r.frames ≡ true → CalmNow r.now m
   still_calm r m k e = subst SettledCalm e (settle_settled r.start r.context r.frames r.notes r.now k) m
 
   -- what is calm in each mode isn't waiting
-  always_calm : (n : Now) → ((m : Mode) → CalmNow n m) → n ≡ nows.Ready
+  pub always_calm : (n : Now) → ((m : Mode) → CalmNow n m) → n ≡ nows.Ready
   always_calm nows.Ready h = refl
   always_calm (nows.Pending k e) h = absurd (let n : false ≡ true = h modes.Word in cc)
   always_calm (nows.Long w e) h = absurd (let n : false ≡ true = h modes.Word in cc)
@@ -183,14 +185,15 @@ module _ (g : Catalog) (l : Limits) where
       (with_streamed v (to + 1) (rest n) others all h f)
 
   -- the octet shows that what waits goes on, or nothing waits
-  abbrev DirectAt : Reading → Outcome → Type 0
+  abbrev pub DirectAt : Reading → Outcome → Type 0
   DirectAt r x = (waits r x ≡ true) ⊎ (settle g l r ≡ goes r)
 
   module _ (s : Known) (o : ℕ) where
     again : State → Effect
     again = λ k. takes g l 2 k o
 
-    eats_direct : (r : Reading) (x : Outcome) → feed (place r) s o ≡ x → DirectAt r x → eats g l (with_scan s r) o ≡ on_scan g l (λ k. takes g l 2 k o) r x
+    -- it is taken up at once
+    pub eats_direct : (r : Reading) (x : Outcome) → feed (place r) s o ≡ x → DirectAt r x → eats g l (with_scan s r) o ≡ on_scan g l (λ k. takes g l 2 k o) r x
     eats_direct r x e w = subst (λ y. eats g l (with_scan s r) o ≡ on_scan g l (λ k. takes g l 2 k o) r y) e
         (go (unsettled s r (feed (place r) s o)) refl (subst (DirectAt r) (sym e) w))
       where
@@ -201,7 +204,8 @@ module _ (g : Catalog) (l : Limits) where
         go false f (inl d) = absurd (let n : true ≡ false = sym (waits_unsettled s r (feed (place r) s o) d) ∙ f in cc)
         go false f (inr d) = ap (on_settled g l (λ k. takes g l 2 k o) s (feed (place r) s o)) d
 
-    eats_settled : (r : Reading) (x : Outcome) (t : Turn) → feed (place r) s o ≡ x → NotRefused x → waits r x ≡ false → settle g l r ≡ t
+    -- or behind what was settled
+    pub eats_settled : (r : Reading) (x : Outcome) (t : Turn) → feed (place r) s o ≡ x → NotRefused x → waits r x ≡ false → settle g l r ≡ t
         → eats g l (with_scan s r) o ≡ on_settled g l (λ k. takes g l 2 k o) s x t
     eats_settled r x t e told w f = subst (λ y. eats g l (with_scan s r) o ≡ on_settled g l (λ k. takes g l 2 k o) s y t) e
         (go (unsettled s r (feed (place r) s o)) (ap (unsettled s r) e ∙ settles_then (place r) s r o x e told w))
@@ -333,26 +337,27 @@ module _ (g : Catalog) (l : Limits) where
       by (refuses y) a b e = e
       by (late y k) a b e = e
 
-  -- `''` doesn't go on with a long string
-  no_long : (begin end start : ℕ) (slots : List Slot) (fs : List Frame) (ss : Symbols) (c : Content) (w : List ℕ) (e : ℕ) (ts : List Placed) (all : List Value)
-      → is_long_said c ≡ false → TurnGoes g l (turn_now (under g l) (at start slots fs ss (nows.Long w e)) (token_at begin end c) (nows.Long w e)) ts all → ⊥
-  no_long begin end start slots fs ss (Long v) w e ts all h d = absurd cc
-  no_long begin end start slots fs ss (Word v) w e ts all h d = d
-  no_long begin end start slots fs ss (Id v) w e ts all h d = d
-  no_long begin end start slots fs ss (Quoted v) w e ts all h d = d
-  no_long begin end start slots fs ss (Short v) w e ts all h d = d
-  no_long begin end start slots fs ss (Number' v) w e ts all h d = d
-  no_long begin end start slots fs ss (TypedNull v) w e ts all h d = d
-  no_long begin end start slots fs ss (Operator v) w e ts all h d = d
-  no_long begin end start slots fs ss (Clob v) w e ts all h d = d
-  no_long begin end start slots fs ss (Blob v) w e ts all h d = d
-  no_long begin end start slots fs ss (Mark' v) w e ts all h d = d
+  -- a long string goes on with its segments alone
+  pub long_refused : (begin end start : ℕ) (slots : List Slot) (fs : List Frame) (ss : Symbols) (c : Content) (w : List ℕ) (e : ℕ) → is_long_said c ≡ false
+      → turn_now (under g l) (at start slots fs ss (nows.Long w e)) (token_at begin end c) (nows.Long w e) ≡ refuses reasons.Unexpected
+  long_refused begin end start slots fs ss (Long v) w e h = absurd cc
+  long_refused begin end start slots fs ss (Word v) w e h = refl
+  long_refused begin end start slots fs ss (Id v) w e h = refl
+  long_refused begin end start slots fs ss (Quoted v) w e h = refl
+  long_refused begin end start slots fs ss (Short v) w e h = refl
+  long_refused begin end start slots fs ss (Number' v) w e h = refl
+  long_refused begin end start slots fs ss (TypedNull v) w e h = refl
+  long_refused begin end start slots fs ss (Operator v) w e h = refl
+  long_refused begin end start slots fs ss (Clob v) w e h = refl
+  long_refused begin end start slots fs ss (Blob v) w e h = refl
+  long_refused begin end start slots fs ss (Mark' v) w e h = refl
 
   -- a token that goes on with a long string is a segment
   long_turn : (r : Reading) (t : Placed) (c : Content) (w : List ℕ) (e : ℕ) (ts : List Placed) (all : List Value) → r.now ≡ nows.Long w e
       → is_segment t.lexeme.kind ≡ false → IsBody t.lexeme.kind t.lexeme.octets (Ok c) → TurnGoes g l (turn g l r (token_of t.lexeme c)) ts all → ⊥
-  long_turn r t c w e ts all n h b d = no_long t.lexeme.start t.lexeme.end r.start r.context r.frames r.notes c w e ts all
-      (sym (segment_agree t.lexeme.kind t.lexeme.octets c b) ∙ h)
+  long_turn r t c w e ts all n h b d =
+      subst (λ y. TurnGoes g l y ts all)
+      (long_refused t.lexeme.start t.lexeme.end r.start r.context r.frames r.notes c w e (sym (segment_agree t.lexeme.kind t.lexeme.octets c b) ∙ h))
       (subst (λ y. TurnGoes g l (turn_now (under g l) r (token_at t.lexeme.start t.lexeme.end c) y) ts all) n d)
 
   module _ (s s' : Known) (o : ℕ) (t : Placed) (sane : is_sane s.mode ≡ true) (fine : Fine s) (exactly : Exact s) where
@@ -673,7 +678,8 @@ module _ (g : Catalog) (l : Limits) where
   one_more : (p : Place) (s s' : Known) (o : ℕ) (x : Lexeme) → feed p s o ≡ Given x s' → 1 ≤ s'.used
   one_more p s s' o x e = let k = given_used p (o ∷ []) s s' x (sym (ap (λ y. follow y (λ t. Next t)) e)) in omega (arith, k.0)
 
-  exactly_as : (p : Place) (s : Known) (o : ℕ) (x : Outcome) → Exact s → feed p s o ≡ x → Exactly x
+  -- whatever outcome an octet has is as exact as what it came of
+  pub exactly_as : (p : Place) (s : Known) (o : ℕ) (x : Outcome) → Exact s → feed p s o ≡ x → Exactly x
   exactly_as p s o x h e = subst Exactly e (feed_exact p s o h)
 
   -- Octets in which the scanner meets tokens that go on to the end are accepted, with all their values.
@@ -696,7 +702,7 @@ module _ (g : Catalog) (l : Limits) where
       let a = follows_as (place r) s o (Next s') sane here in
       let f = finely_as (place r) s o (Next s') fine here in
       used_run s o to (λ n. run g l (to + 1) n os) (Next s') (t ∷ ts) r all here tt (calm_ok g l s r calm) (calm_ended s r calm) d
-      (λ w. going_settle g l r t ts all p.1 d p.2 (next_agrees r.frames r.now s' os t ts p.1 m a.0 f (said_body t.lexeme.kind t.lexeme.octets p.1 p.2) w))
+      (λ w. going_settle g l r t ts all p.1 d p.2 (next_agrees r.frames r.now s' t p.1 (meets_next s' os t ts m) a.0 f (said_body t.lexeme.kind t.lexeme.octets p.1 p.2) w))
       (λ k rest q ok ended d w. next_went s s' os (t ∷ ts) o (λ n. run g l (to + 1) n os) m a.0 f (feed_used (place r) s s' o here) ops
       (λ k rest c d. streams s' os (t ∷ ts) m a.0 f (exactly_as (place r) s o (Next s') ex here) ops (to + 1) k rest c d) k rest ok ended d w)
   streams _ _ _ (is_given s o os t ts s' e m) sane fine ex ops to r all calm d =

@@ -47,6 +47,20 @@ pub data Meets : Known → List ℕ → List Placed → Type 0 where
   is_left : (s : Known) (o : ℕ) (os : List ℕ) (t : Placed) (ts : List Placed) (s' : Known) → feed t.place s o ≡ Left t.lexeme s' → Meets s' (o ∷ os) ts
       → Meets s (o ∷ os) (t ∷ ts)
 
+-- the token that the scanner meets next
+pub data MeetsNext : Known → Placed → Type 0 where
+  ends_next : (s : Known) (t : Placed) → at_end t.place s ≡ Ok (Some t.lexeme) → MeetsNext s t
+  next_on : (s : Known) (o : ℕ) (t : Placed) (s' : Known) → feed t.place s o ≡ Next s' → MeetsNext s' t → MeetsNext s t
+  next_given : (s : Known) (o : ℕ) (t : Placed) (s' : Known) → feed t.place s o ≡ Given t.lexeme s' → MeetsNext s t
+  next_left : (s : Known) (o : ℕ) (t : Placed) (s' : Known) → feed t.place s o ≡ Left t.lexeme s' → MeetsNext s t
+
+-- the first of the tokens that it meets
+pub meets_next : (s : Known) (os : List ℕ) (t : Placed) (ts : List Placed) → Meets s os (t ∷ ts) → MeetsNext s t
+meets_next _ _ _ _ (at_token s t e) = ends_next s t e
+meets_next _ _ _ _ (goes_on s o os t ts s' e m) = next_on s o t s' e (meets_next s' os t ts m)
+meets_next _ _ _ _ (is_given s o os t ts s' e m) = next_given s o t s' e
+meets_next _ _ _ _ (is_left s o os t ts s' e m) = next_left s o t s' e
+
 -- what the table says of a text, and of a token that is left
 
 -- the text of a long string is open
@@ -152,22 +166,21 @@ pub finely_as : (p : Place) (s : Known) (o : ℕ) (x : Outcome) → Fine s → f
 finely_as p s o x h e = subst (Finely s.mode) e (feed_fine p s o h)
 
 -- one that has begun is no mark, but for an open brace
-pub begun_closing : (s : Known) (os : List ℕ) (t : Placed) (ts : List Placed) → Meets s os (t ∷ ts) → is_sane s.mode ≡ true → is_idle s.mode ≡ false
-    → is_closing t.lexeme.kind ≡ false
-begun_closing _ _ _ _ (at_token s t e) h i = (at_end_fine t.place s t.lexeme e).2 i
-begun_closing _ _ _ _ (goes_on s o os t ts s' e m) h i = let f = follows_as t.place s o (Next s') h e in begun_closing s' os t ts m f.0 (f.1 i)
-begun_closing _ _ _ _ (is_given s o os t ts s' e m) h i = let f = follows_as t.place s o (Given t.lexeme s') h e in mark_closing t.lexeme.kind (f.0 i)
-begun_closing _ _ _ _ (is_left s o os t ts s' e m) h i = let f = follows_as t.place s o (Left t.lexeme s') h e in f.1 i
+pub begun_closing : (s : Known) (t : Placed) → MeetsNext s t → is_sane s.mode ≡ true → is_idle s.mode ≡ false → is_closing t.lexeme.kind ≡ false
+begun_closing _ _ (ends_next s t e) h i = (at_end_fine t.place s t.lexeme e).2 i
+begun_closing _ _ (next_on s o t s' e m) h i = let f = follows_as t.place s o (Next s') h e in begun_closing s' t m f.0 (f.1 i)
+begun_closing _ _ (next_given s o t s' e) h i = let f = follows_as t.place s o (Given t.lexeme s') h e in mark_closing t.lexeme.kind (f.0 i)
+begun_closing _ _ (next_left s o t s' e) h i = let f = follows_as t.place s o (Left t.lexeme s') h e in f.1 i
 
 -- one that has begun without quotes is no segment and no `''`
-pub begun_apart : (s : Known) (os : List ℕ) (t : Placed) (ts : List Placed) → Meets s os (t ∷ ts) → is_sane s.mode ≡ true → Fine s → NoLongText s.mode
+pub begun_apart : (s : Known) (t : Placed) → MeetsNext s t → is_sane s.mode ≡ true → Fine s → NoLongText s.mode
     → (is_segment t.lexeme.kind ≡ false) × (is_two_quotes t.lexeme.kind t.lexeme.start t.lexeme.end ≡ false)
-begun_apart _ _ _ _ (at_token s t e) h f k = let a = at_end_fine t.place s t.lexeme e in (a.0, left_none t.lexeme.kind t.lexeme.start t.lexeme.end (a.1 k.1))
-begun_apart _ _ _ _ (goes_on s o os t ts s' e m) h f k = let a = follows_as t.place s o (Next s') h e in
-    begun_apart s' os t ts m a.0 (finely_as t.place s o (Next s') f e) (a.1 k.0, a.2 k.0 k.1)
-begun_apart _ _ _ _ (is_given s o os t ts s' e m) h f k = let a = follows_as t.place s o (Given t.lexeme s') h e in let b =
+begun_apart _ _ (ends_next s t e) h f k = let a = at_end_fine t.place s t.lexeme e in (a.0, left_none t.lexeme.kind t.lexeme.start t.lexeme.end (a.1 k.1))
+begun_apart _ _ (next_on s o t s' e m) h f k = let a = follows_as t.place s o (Next s') h e in
+    begun_apart s' t m a.0 (finely_as t.place s o (Next s') f e) (a.1 k.0, a.2 k.0 k.1)
+begun_apart _ _ (next_given s o t s' e) h f k = let a = follows_as t.place s o (Given t.lexeme s') h e in let b =
     finely_as t.place s o (Given t.lexeme s') f e in (a.1 k.0 k.1, given_far t.lexeme b.1)
-begun_apart _ _ _ _ (is_left s o os t ts s' e m) h f k = let b = finely_as t.place s o (Left t.lexeme s') f e in
+begun_apart _ _ (next_left s o t s' e) h f k = let b = finely_as t.place s o (Left t.lexeme s') f e in
     (b.1, left_none t.lexeme.kind t.lexeme.start t.lexeme.end (b.2 k.1))
 
 -- where the end ends a token

@@ -2,6 +2,7 @@
 use Rattle.std.proofs.Common.{◌≡◌, ℕ, ◌+◌, ◌-◌, ◌≤◌, ◌==◌, List, [], ◌∷◌, Bool, true, false, ◌&&◌, ◌||◌, not, Ok, Option, Some, None, refl, ap, sym, ◌∙◌, subst, arith, if◌then◌else◌, ◌⊎◌, inl, inr}
 use Rattle.std.proofs.lemmas.Bool.{cond-false, cond-true}
 use Rattle.ion_model.specs.declared.value.Value.{Value}
+use Rattle.ion_atoms.specs.declared.refusal.Reason.TheVariants as reasons
 use Rattle.ion_symtab.specs.declared.limits.Limits.{Limits}
 use Rattle.ion_symtab.specs.declared.catalog.Catalog.{Catalog}
 use Rattle.ion_symtab.specs.Slots.{Slot}
@@ -22,7 +23,7 @@ use Rattle.ion_text.specs.declared.state.Now.{Now}
 use Rattle.ion_text.specs.declared.state.Now.TheVariants as nows
 use Rattle.ion_text.specs.declared.state.Frame.{Frame}
 use Rattle.ion_tokens.specs.machine.Said.{said}
-use Rattle.ion_text.specs.machine.EachToken.{under, token_at, Reading, goes, Symbols, at, settle, turn_now}
+use Rattle.ion_text.specs.machine.EachToken.{under, token_at, Reading, goes, refuses, Symbols, at, settle, turn_now}
 use Rattle.ion_text.specs.machine.Run.{uses, noticed, shut, reaches, longest_top, is_long_begun, with_scan, token_of, is_top, is_fresh}
 use Rattle.ion_text.specs.machine.TokenLists.{continues}
 use Rattle.ion_tokens.specs.machine.Ahead.{is_quoting, is_sane, is_closing, is_long_form}
@@ -31,7 +32,7 @@ use Rattle.ion_text.specs.machine.Passed.{said_body}
 use Rattle.ion_text.specs.laws.reading.sound.Held.{segment_says}
 use Rattle.ion_text.specs.laws.reading.sound.StandsOpen.{EndsAt, start_now}
 use Rattle.ion_text.specs.laws.reading.sound.Spans.{IsTopNow, IsWaiting}
-use Rattle.ion_text.specs.laws.reading.complete.Meets.{Meets, at_blank, in_blank, begun_closing, begun_span, idle_span, long_segment, is_long_text, follows_as}
+use Rattle.ion_text.specs.laws.reading.complete.Meets.{Meets, at_blank, in_blank, meets_next, begun_closing, begun_span, idle_span, long_segment, is_long_text, follows_as}
 use Rattle.ion_text.specs.laws.reading.complete.Going.{Operators, Going, TurnGoes, TurnEnds, TopOk, Direct, EndsPast, going_said, going_turn, going_ends, limit, top_limit, idle_past, used_inside, mark_kind, no_operator}
 use Rattle.ion_tokens.proofs.foreseen.Begins.{end_idle}
 
@@ -102,56 +103,58 @@ long_is _ i h k = absurd cc
 
 module _ (g : Catalog) (l : Limits) where
   -- behind an element or a name a mark comes that is whole with its last octet, or a colon
-  abbrev ClosingSaid : Content → Type 0
+  abbrev pub ClosingSaid : Content → Type 0
   ClosingSaid c = (m : Mark) × (c ≡ Mark' m) × (is_closing (kinds.Mark m) ≡ true)
 
-  shut_said : (begin end start : ℕ) (slots : List Slot) (fs : List Frame) (ss : Symbols) (c : Content) (now : Now) (ts : List Placed) (all : List Value)
-      → shut now ≡ true → TurnGoes g l (turn_now (under g l) (at start slots fs ss now) (token_at begin end c) now) ts all → ClosingSaid c
-  shut_said begin end start slots fs ss (Mark' marks.Comma) nows.After ts all h d = (marks.Comma, refl, refl)
-  shut_said begin end start slots fs ss (Mark' marks.ListClose) nows.After ts all h d = (marks.ListClose, refl, refl)
-  shut_said begin end start slots fs ss (Mark' marks.FieldsClose) nows.After ts all h d = (marks.FieldsClose, refl, refl)
-  shut_said begin end start slots fs ss (Mark' marks.FieldsOpen) nows.After ts all h d = absurd d
-  shut_said begin end start slots fs ss (Mark' marks.ListOpen) nows.After ts all h d = absurd d
-  shut_said begin end start slots fs ss (Mark' marks.SexpOpen) nows.After ts all h d = absurd d
-  shut_said begin end start slots fs ss (Mark' marks.SexpClose) nows.After ts all h d = absurd d
-  shut_said begin end start slots fs ss (Mark' marks.Colon) nows.After ts all h d = absurd d
-  shut_said begin end start slots fs ss (Mark' marks.Colons) nows.After ts all h d = absurd d
-  shut_said begin end start slots fs ss (Mark' marks.Colon) (nows.Keyed s) ts all h d = (marks.Colon, refl, refl)
-  shut_said begin end start slots fs ss (Mark' marks.Colons) (nows.Keyed s) ts all h d = absurd d
-  shut_said begin end start slots fs ss (Mark' marks.Comma) (nows.Keyed s) ts all h d = absurd d
-  shut_said begin end start slots fs ss (Mark' marks.FieldsOpen) (nows.Keyed s) ts all h d = absurd d
-  shut_said begin end start slots fs ss (Mark' marks.FieldsClose) (nows.Keyed s) ts all h d = absurd d
-  shut_said begin end start slots fs ss (Mark' marks.ListOpen) (nows.Keyed s) ts all h d = absurd d
-  shut_said begin end start slots fs ss (Mark' marks.ListClose) (nows.Keyed s) ts all h d = absurd d
-  shut_said begin end start slots fs ss (Mark' marks.SexpOpen) (nows.Keyed s) ts all h d = absurd d
-  shut_said begin end start slots fs ss (Mark' marks.SexpClose) (nows.Keyed s) ts all h d = absurd d
-  shut_said begin end start slots fs ss (Word w) nows.After ts all h d = absurd d
-  shut_said begin end start slots fs ss (Word w) (nows.Keyed s) ts all h d = absurd d
-  shut_said begin end start slots fs ss (Id n) nows.After ts all h d = absurd d
-  shut_said begin end start slots fs ss (Id n) (nows.Keyed s) ts all h d = absurd d
-  shut_said begin end start slots fs ss (Quoted w) nows.After ts all h d = absurd d
-  shut_said begin end start slots fs ss (Quoted w) (nows.Keyed s) ts all h d = absurd d
-  shut_said begin end start slots fs ss (Short w) nows.After ts all h d = absurd d
-  shut_said begin end start slots fs ss (Short w) (nows.Keyed s) ts all h d = absurd d
-  shut_said begin end start slots fs ss (Long w) nows.After ts all h d = absurd d
-  shut_said begin end start slots fs ss (Long w) (nows.Keyed s) ts all h d = absurd d
-  shut_said begin end start slots fs ss (Number' n) nows.After ts all h d = absurd d
-  shut_said begin end start slots fs ss (Number' n) (nows.Keyed s) ts all h d = absurd d
-  shut_said begin end start slots fs ss (TypedNull n) nows.After ts all h d = absurd d
-  shut_said begin end start slots fs ss (TypedNull n) (nows.Keyed s) ts all h d = absurd d
-  shut_said begin end start slots fs ss (Operator w) nows.After ts all h d = absurd d
-  shut_said begin end start slots fs ss (Operator w) (nows.Keyed s) ts all h d = absurd d
-  shut_said begin end start slots fs ss (Clob w) nows.After ts all h d = absurd d
-  shut_said begin end start slots fs ss (Clob w) (nows.Keyed s) ts all h d = absurd d
-  shut_said begin end start slots fs ss (Blob w) nows.After ts all h d = absurd d
-  shut_said begin end start slots fs ss (Blob w) (nows.Keyed s) ts all h d = absurd d
-  shut_said begin end start slots fs ss c nows.Ready ts all h d = absurd cc
-  shut_said begin end start slots fs ss c (nows.Pending k e) ts all h d = absurd cc
-  shut_said begin end start slots fs ss c (nows.Long w e) ts all h d = absurd cc
-  shut_said begin end start slots fs ss c nows.Name ts all h d = absurd cc
-  shut_said begin end start slots fs ss c (nows.LongName w) ts all h d = absurd cc
+  -- and no other token does
+  pub shut_said : (begin end start : ℕ) (slots : List Slot) (fs : List Frame) (ss : Symbols) (c : Content) (now : Now) → shut now ≡ true
+      → (ClosingSaid c) ⊎ (turn_now (under g l) (at start slots fs ss now) (token_at begin end c) now ≡ refuses reasons.Unexpected)
+  shut_said begin end start slots fs ss (Mark' marks.Comma) nows.After h = inl (marks.Comma, refl, refl)
+  shut_said begin end start slots fs ss (Mark' marks.ListClose) nows.After h = inl (marks.ListClose, refl, refl)
+  shut_said begin end start slots fs ss (Mark' marks.FieldsClose) nows.After h = inl (marks.FieldsClose, refl, refl)
+  shut_said begin end start slots fs ss (Mark' marks.FieldsOpen) nows.After h = inr refl
+  shut_said begin end start slots fs ss (Mark' marks.ListOpen) nows.After h = inr refl
+  shut_said begin end start slots fs ss (Mark' marks.SexpOpen) nows.After h = inr refl
+  shut_said begin end start slots fs ss (Mark' marks.SexpClose) nows.After h = inr refl
+  shut_said begin end start slots fs ss (Mark' marks.Colon) nows.After h = inr refl
+  shut_said begin end start slots fs ss (Mark' marks.Colons) nows.After h = inr refl
+  shut_said begin end start slots fs ss (Mark' marks.Colon) (nows.Keyed s) h = inl (marks.Colon, refl, refl)
+  shut_said begin end start slots fs ss (Mark' marks.Colons) (nows.Keyed s) h = inr refl
+  shut_said begin end start slots fs ss (Mark' marks.Comma) (nows.Keyed s) h = inr refl
+  shut_said begin end start slots fs ss (Mark' marks.FieldsOpen) (nows.Keyed s) h = inr refl
+  shut_said begin end start slots fs ss (Mark' marks.FieldsClose) (nows.Keyed s) h = inr refl
+  shut_said begin end start slots fs ss (Mark' marks.ListOpen) (nows.Keyed s) h = inr refl
+  shut_said begin end start slots fs ss (Mark' marks.ListClose) (nows.Keyed s) h = inr refl
+  shut_said begin end start slots fs ss (Mark' marks.SexpOpen) (nows.Keyed s) h = inr refl
+  shut_said begin end start slots fs ss (Mark' marks.SexpClose) (nows.Keyed s) h = inr refl
+  shut_said begin end start slots fs ss (Word w) nows.After h = inr refl
+  shut_said begin end start slots fs ss (Word w) (nows.Keyed s) h = inr refl
+  shut_said begin end start slots fs ss (Id n) nows.After h = inr refl
+  shut_said begin end start slots fs ss (Id n) (nows.Keyed s) h = inr refl
+  shut_said begin end start slots fs ss (Quoted w) nows.After h = inr refl
+  shut_said begin end start slots fs ss (Quoted w) (nows.Keyed s) h = inr refl
+  shut_said begin end start slots fs ss (Short w) nows.After h = inr refl
+  shut_said begin end start slots fs ss (Short w) (nows.Keyed s) h = inr refl
+  shut_said begin end start slots fs ss (Long w) nows.After h = inr refl
+  shut_said begin end start slots fs ss (Long w) (nows.Keyed s) h = inr refl
+  shut_said begin end start slots fs ss (Number' n) nows.After h = inr refl
+  shut_said begin end start slots fs ss (Number' n) (nows.Keyed s) h = inr refl
+  shut_said begin end start slots fs ss (TypedNull n) nows.After h = inr refl
+  shut_said begin end start slots fs ss (TypedNull n) (nows.Keyed s) h = inr refl
+  shut_said begin end start slots fs ss (Operator w) nows.After h = inr refl
+  shut_said begin end start slots fs ss (Operator w) (nows.Keyed s) h = inr refl
+  shut_said begin end start slots fs ss (Clob w) nows.After h = inr refl
+  shut_said begin end start slots fs ss (Clob w) (nows.Keyed s) h = inr refl
+  shut_said begin end start slots fs ss (Blob w) nows.After h = inr refl
+  shut_said begin end start slots fs ss (Blob w) (nows.Keyed s) h = inr refl
+  shut_said begin end start slots fs ss c nows.Ready h = absurd cc
+  shut_said begin end start slots fs ss c (nows.Pending k e) h = absurd cc
+  shut_said begin end start slots fs ss c (nows.Long w e) h = absurd cc
+  shut_said begin end start slots fs ss c nows.Name h = absurd cc
+  shut_said begin end start slots fs ss c (nows.LongName w) h = absurd cc
 
-  shut_still : (r : Reading) → shut r.now ≡ true → settle g l r ≡ goes r
+  -- there nothing waits
+  pub shut_still : (r : Reading) → shut r.now ≡ true → settle g l r ≡ goes r
   shut_still r h = go r.now refl
     where
       go : (n : Now) → r.now ≡ n → settle g l r ≡ goes r
@@ -170,15 +173,19 @@ module _ (g : Catalog) (l : Limits) where
         let n : true ≡ false = sym h ∙ ap (λ (x : Reading). shut x.now) e.0.1 in cc
     not_shut (t ∷ ts) m d i h =
         let p = going_said g l r t ts all d in
-        let c = shut_said t.lexeme.start t.lexeme.end r.start r.context r.frames r.notes p.1 r.now ts all h
-        (going_turn g l r t ts all p.1 d p.2 (inr (shut_still r h))) in
-        closes p.1 p.2 c
+        by p.1 p.2 (going_turn g l r t ts all p.1 d p.2 (inr (shut_still r h)))
+        (shut_said t.lexeme.start t.lexeme.end r.start r.context r.frames r.notes p.1 r.now h)
       where
         closes : (c : Content) → said t.lexeme.kind t.lexeme.octets ≡ Ok c → ClosingSaid c → ⊥
         closes c e k =
             let body = subst (λ x. IsBody t.lexeme.kind t.lexeme.octets (Ok x)) k.1 (said_body t.lexeme.kind t.lexeme.octets c e) in
             let kind = mark_kind t.lexeme.kind t.lexeme.octets k.0 body in
-            let n : true ≡ false = sym k.2 ∙ (ap is_closing (sym kind) ∙ begun_closing s os t ts m sane i) in cc
+            let n : true ≡ false = sym k.2 ∙ (ap is_closing (sym kind) ∙ begun_closing s t (meets_next s os t ts m) sane i) in cc
+
+        by : (c : Content) → said t.lexeme.kind t.lexeme.octets ≡ Ok c → TurnGoes g l (turn_now (under g l) r (token_of t.lexeme c) r.now) ts all
+            → (ClosingSaid c) ⊎ (turn_now (under g l) r (token_of t.lexeme c) r.now ≡ refuses reasons.Unexpected) → ⊥
+        by c e d (inl k) = closes c e k
+        by c e d (inr n) = subst (λ x. TurnGoes g l x ts all) n d
 
     shut_quiet : (ts : List Placed) → Meets s os ts → Going g l r ts all → (shut r.now && not (is_idle s.mode)) ≡ false
     shut_quiet ts m d = go (shut r.now) refl (is_idle s.mode) refl

@@ -1,5 +1,5 @@
 -- Octets that are tokens lead the reader of octets where the tokens lead the reader of tokens.
-use Rattle.std.proofs.Common.{◌≡◌, ℕ, ◌+◌, ◌-◌, ◌≤◌, ◌==◌, List, ◌∷◌, Bool, true, false, cond, ◌&&◌, ◌||◌, Ok, Err, Some, refl, ap, sym, ◌∙◌, subst, arith, ◌⊎◌, inl, inr}
+use Rattle.std.proofs.Common.{◌≡◌, ℕ, ◌+◌, ◌-◌, ◌≤◌, ◌==◌, List, Bool, true, false, cond, ◌&&◌, ◌||◌, Ok, Err, Some, refl, ap, sym, ◌∙◌, subst, arith, ◌⊎◌, inl, inr}
 use Rattle.std.proofs.lemmas.Bool.Decides.{nat_tests}
 use Rattle.ion_atoms.specs.declared.refusal.Reason.TheVariants as reasons
 use Rattle.ion_tokens.specs.declared.mode.Place.{Place}
@@ -35,7 +35,7 @@ use Rattle.ion_text.specs.laws.reading.sound.Quotes.{Fine, left_none}
 use Rattle.ion_text.specs.laws.reading.complete.Exact.{Exact, exact}
 use Rattle.ion_text.specs.laws.reading.sound.Held.{or_parts}
 use Rattle.ion_text.specs.laws.reading.sound.StandsOpen.{no_segment}
-use Rattle.ion_text.specs.laws.reading.complete.Meets.{Meets, begun_closing, begun_apart, finely_as, follows_as, IdleLeft, idle_left, text, raw_text, text_text}
+use Rattle.ion_text.specs.laws.reading.complete.Meets.{MeetsNext, begun_closing, begun_apart, finely_as, follows_as, IdleLeft, idle_left, text, raw_text, text_text}
 use Rattle.ion_text.specs.laws.reading.complete.Going.{mark_kind}
 
 -- what a token says that isn't a mark, and is no segment
@@ -165,22 +165,22 @@ or_none false b true h = sym h
 or_none false b false h = refl
 
 -- where the octet shows that nothing goes on, the token that has begun doesn't go on
-pub next_agrees : (fs : List Frame) (now : Now) (s : Known) (os : List ℕ) (t : Placed) (ts : List Placed) (c : Content) → Meets s os (t ∷ ts)
+pub next_agrees : (fs : List Frame) (now : Now) (s : Known) (t : Placed) (c : Content) → MeetsNext s t
     → is_sane s.mode ≡ true → Fine s → IsBody t.lexeme.kind t.lexeme.octets (Ok c) → waits_now (is_top fs) now (Next s) ≡ false
     → continues_now (is_top fs) now (token_of t.lexeme c) ≡ false
-next_agrees fs (nows.Pending h e) s os t ts c m sane f b w = sym (colons_agree (is_top fs) h e t.lexeme.start t.lexeme.end t.lexeme.kind t.lexeme.octets c b)
-    ∙ closing_colons t.lexeme.kind (begun_closing s os t ts m sane w)
-next_agrees fs (nows.Long v e) s os t ts c m sane f b w =
-    let x = begun_apart s os t ts m sane f (or_parts (is_idle s.mode) (is_quoting s.mode) w) in
+next_agrees fs (nows.Pending h e) s t c m sane f b w = sym (colons_agree (is_top fs) h e t.lexeme.start t.lexeme.end t.lexeme.kind t.lexeme.octets c b)
+    ∙ closing_colons t.lexeme.kind (begun_closing s t m sane w)
+next_agrees fs (nows.Long v e) s t c m sane f b w =
+    let x = begun_apart s t m sane f (or_parts (is_idle s.mode) (is_quoting s.mode) w) in
     long_goes (is_top fs) v e t.lexeme.start t.lexeme.end t.lexeme.kind t.lexeme.octets c b
     ∙ or_false (is_segment t.lexeme.kind) (is_two_quotes t.lexeme.kind t.lexeme.start t.lexeme.end) (is_top fs) x.0 x.1
-next_agrees fs (nows.LongName v) s os t ts c m sane f b w =
-    let x = begun_apart s os t ts m sane f (or_parts (is_idle s.mode) (is_quoting s.mode) w) in
+next_agrees fs (nows.LongName v) s t c m sane f b w =
+    let x = begun_apart s t m sane f (or_parts (is_idle s.mode) (is_quoting s.mode) w) in
     name_goes (is_top fs) v t.lexeme.start t.lexeme.end t.lexeme.kind t.lexeme.octets c b ∙ x.0
-next_agrees fs nows.Ready s os t ts c m sane f b w = refl
-next_agrees fs nows.After s os t ts c m sane f b w = refl
-next_agrees fs nows.Name s os t ts c m sane f b w = refl
-next_agrees fs (nows.Keyed x) s os t ts c m sane f b w = refl
+next_agrees fs nows.Ready s t c m sane f b w = refl
+next_agrees fs nows.After s t c m sane f b w = refl
+next_agrees fs nows.Name s t c m sane f b w = refl
+next_agrees fs (nows.Keyed x) s t c m sane f b w = refl
 
 -- a token that is given
 pub given_agrees : (fs : List Frame) (now : Now) (s : Known) (x : Lexeme) (c : Content) → IsBody x.kind x.octets (Ok c) → is_two_quotes x.kind x.start x.end

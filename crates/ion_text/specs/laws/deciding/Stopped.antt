@@ -1,0 +1,346 @@
+-- Where a row of the table stands, the octet that shows it is refused, for the row's reason or one with a smaller number, unless an item
+-- became too long before.
+use Rattle.std.proofs.Common.{◌≡◌, ℕ, ◌+◌, ◌<◌, ◌≤◌, nat_le, Bool, true, false, ◌||◌, List, [], ◌∷◌, ◌++◌, length, Result, Err, IfErr, refl, sym, ap, ◌∙◌, subst, append_assoc, append-nil, length-append, arith, if◌then◌else◌, ◌⊎◌, inl, inr, codes}
+use Rattle.ion_model.specs.declared.value.Payload.TheVariants as payloads
+use Rattle.ion_model.specs.Measures.{annotated}
+use Rattle.ion_atoms.specs.Reasons.{reason_number}
+use Rattle.ion_atoms.specs.declared.refusal.Reason.{Reason}
+use Rattle.ion_atoms.specs.declared.refusal.Reason.TheVariants as reasons
+use Rattle.ion_atoms.specs.declared.refusal.Refusal.{Refusal}
+use Rattle.ion_symtab.specs.Reasons.{IsIdReason, IsTableReason}
+use Rattle.ion_symtab.specs.laws.Reasons.{resolve_fails, next_fails}
+use Rattle.ion_symtab.specs.declared.limits.Limits.{Limits}
+use Rattle.ion_symtab.specs.declared.catalog.Catalog.{Catalog}
+use Rattle.ion_tokens.specs.declared.mode.Mark.TheVariants as marks
+use Rattle.ion_tokens.specs.declared.mode.Mode.TheVariants as modes
+use Rattle.ion_tokens.specs.declared.mode.Place.{Place}
+use Rattle.ion_tokens.specs.declared.mode.Place.TheVariants as places
+use Rattle.ion_tokens.specs.declared.mode.TokenKind.{TokenKind}
+use Rattle.ion_tokens.specs.declared.mode.TokenKind.TheVariants as kinds
+use Rattle.ion_tokens.specs.machine.Ahead.{is_sane, symbol_waits}
+use Rattle.ion_tokens.specs.machine.Bounds.{is_idle}
+use Rattle.ion_tokens.specs.machine.Scanning.{Known, Outcome, Next, Given, Left, Refused, feed, follow, run as scan, initial}
+use Rattle.ion_tokens.specs.Lexed.{Placed, LexesTo}
+use Rattle.ion_tokens.proofs.complete.Moves.{at}
+use Rattle.ion_tokens.proofs.complete.Wholes.{run_behind}
+use Rattle.ion_tokens.proofs.sound.Holds.{Holds, Sound, blank_behind}
+use Rattle.ion_tokens.proofs.sound.Sounds.{RunSound, feed_sound, run_sound}
+use Rattle.ion_text.specs.Deciding.{Are, Decides, Gives, HasRow, NoColons, Sight, no_symbol, keyword_as_name, keyword_as_annotation, other_version, null_table, too_deep, struct_too_deep, bad_table}
+use Rattle.ion_text.specs.Grammar.{BlankThen}
+use Rattle.ion_text.specs.machine.EachToken.{Reading, Turn, goes, gives, refuses, late, settle}
+use Rattle.ion_text.specs.machine.Pieces.{followed}
+use Rattle.ion_text.specs.machine.TokenLists.{reads}
+use Rattle.ion_text.specs.machine.Run.{State, Effect, uses, fails, eats, takes, noticed, on_scan, on_settled, reaches, with_scan, begun, run, run_on}
+use Rattle.ion_text.specs.laws.reading.complete.Found.{lexes_operators, next_is}
+use Rattle.ion_text.specs.laws.reading.complete.Meets.{follows_as}
+use Rattle.ion_text.specs.laws.showing.refused.Ahead.{last_parted, octet_colons}
+use Rattle.ion_text.specs.laws.showing.refused.Halts.{symbol_colons}
+use Rattle.ion_text.specs.laws.showing.refused.Told.{given_colons}
+use Rattle.ion_text.specs.laws.showing.tokens.Closing.{colons_close}
+use Rattle.ion_text.specs.laws.deciding.AtEnd.{last_ends}
+use Rattle.ion_text.specs.laws.deciding.Finding.{EndsThere, IsLeft, ends_there, no_octets, tokens_seen}
+use Rattle.ion_text.specs.laws.deciding.Fronts.{origin, HasEnded}
+use Rattle.ion_text.specs.laws.deciding.Heading.{Never, refused_heads, waiting_heads}
+use Rattle.ion_text.specs.laws.deciding.OneOctet.{Seen, refused, unfollowed, behind_kind, seen, waited_ended}
+use Rattle.ion_text.specs.laws.deciding.Reaching.{Sees, rests, last_given, last_left, last_ends as ends_last, sees_on, sees_given, sees_left, reached, worse_less}
+use Rattle.ion_text.specs.laws.deciding.Shows.{IsBare, last_flag}
+use Rattle.ion_text.specs.laws.deciding.Tokens.{Refusing, Stops}
+use Rattle.ion_text.specs.laws.deciding.Waiting.{Pends, pend}
+
+-- 1. The reasons of rows.
+
+id_row : (e : Reason) → IsIdReason e → HasRow e
+id_row reasons.SymbolRange h = tt
+id_row reasons.ImportGap h = tt
+id_row _ h = absurd h
+
+table_row : (e : Reason) → IsTableReason e → HasRow e
+table_row reasons.NullTable h = tt
+table_row reasons.RepeatedField h = tt
+table_row reasons.MissingImport h = tt
+table_row reasons.TableTooLarge h = tt
+table_row _ h = absurd h
+
+-- a row's reason is one that rows have
+pub has_row : (g : Catalog) (l : Limits) (sight : Sight) (e : Reason) → Gives g l sight e → HasRow e
+has_row g l sight _ (no_symbol ts c ks id e shown h why) = id_row e (subst (λ r. IfErr r IsIdReason) why (resolve_fails c id))
+has_row g l sight _ (keyword_as_name ts c ks said shown h k) = tt
+has_row g l sight _ (keyword_as_annotation ts colons c ks said shown h there k says) = tt
+has_row g l sight _ (other_version ts c w shown h none version other) = tt
+has_row g l sight _ (null_table ts c ss k e shown h table why) =
+    table_row e (subst (λ r. IfErr r IsTableReason) why (next_fails c (annotated ss (payloads.Null k)) g))
+has_row g l sight _ (too_deep ts c ks said shown h there opens deep) = tt
+has_row g l sight _ (struct_too_deep ts c ks shown h there deep) = tt
+has_row g l sight _ (bad_table ts c ss ms e shown h table why) =
+    table_row e (subst (λ r. IfErr r IsTableReason) why (next_fails c (annotated ss (payloads.Fields ms)) g))
+
+-- 2. What comes of so many octets, of which the last one shows a row of this reason.
+
+-- an item became too long before, or the last of them is refused for the reason, or for one with a smaller number
+abbrev pub StopsFor : ℕ → Reason → Refusal → Type 0
+StopsFor total e r = ((r.reason ≡ reasons.ItemTooLong) × (r.offset < total)) ⊎ ((r.offset ≡ total) × (reason_number r.reason ≤ reason_number e))
+
+abbrev pub Stopped : ℕ → Reason → Result State Refusal → Type 0
+Stopped total e now = (r : Refusal) × (now ≡ Err r) × StopsFor total e r
+
+-- nothing is left
+abbrev Nothing' : Known → List ℕ → Type 0
+Nothing' s os = ⊥
+
+sees_some : (s : Known) (os : List ℕ) (ts : List Placed) → Sees (Unit {0}) ⊥ Nothing' s os ts → 0 < length os
+sees_some _ _ _ (rests s os w) = absurd w
+sees_some _ _ _ (ends_last s t b e) = absurd b
+sees_some _ _ _ (last_given s o t s' b e) = omega arith
+sees_some _ _ _ (last_left s o t s' b e) = omega arith
+sees_some _ _ _ (sees_on s o os t ts s' e m) = omega arith
+sees_some _ _ _ (sees_given s o os t ts s' e m) = omega arith
+sees_some _ _ _ (sees_left s o os t ts s' e m) = omega arith
+
+zero_behind : (k : TokenKind) → (IsBare k → ⊥) → behind_kind k ≡ 0
+zero_behind kinds.Word n = absurd (n tt)
+zero_behind kinds.KindName n = absurd (n tt)
+zero_behind (kinds.Mark marks.FieldsOpen) n = absurd (n tt)
+zero_behind _ n = refl
+
+behind_most : (k : TokenKind) → behind_kind k ≤ 1
+behind_most kinds.Word = omega arith
+behind_most kinds.KindName = omega arith
+behind_most (kinds.Mark marks.FieldsOpen) = omega arith
+behind_most _ = omega arith
+
+too_long : (total to : ℕ) (e : Reason) → to < total → Stopped total e (Err (record { offset = to; reason = reasons.ItemTooLong }))
+too_long total to e h = (record { offset = to; reason = reasons.ItemTooLong }, refl, inl (refl, h))
+
+-- 3. Rows whose last token is refused.
+
+module _ (g : Catalog) (l : Limits) (u : List ℕ) (e : Reason) (row : HasRow e) where
+  refused_stopped : (ts : List Placed) (t : Placed) (left : List ℕ) → (s : Stops g l ts t e) → Are u (s.front ++ t ∷ []) left → HasEnded g l u t
+      → length left ≡ behind_kind t.lexeme.kind → Stopped (length u) e (run g l 0 begun u).now
+  refused_stopped ts t left s (c, i, lexes) ended size =
+      reached g l e row (Never g l e) (Unit {0}) (Unit {0}) ⊥ Nothing' (length u) (Stopped (length u) e)
+      (λ to k os us m all. too_long (length u) to e (omega (arith, all, sees_some k os us m)))
+      (λ b f h. (record { offset = length u; reason = f }, refl, inr (refl, h))) (λ b r d. d) (λ h k os w. w) (λ b k x r a used ex calm d. absurd b)
+      (λ to k os r w all used calm d. absurd w) initial u (s.front ++ t ∷ [])
+      (tokens_seen g l u t ended c i left (Unit {0}) ⊥ Nothing' given leaves s.front lexes) refl (record { enough = omega arith }) (record { is = tt })
+      (lexes_operators (λ x y z. (x ≡ c) × (y ≡ i) × (z ≡ left)) (s.front ++ t ∷ []) false 0 u lexes) 0 (omega arith) refl (origin g l) (λ top. tt)
+      (refused_heads g l e s.front t s.came s.why)
+    where
+      given : (k : Known) (o : ℕ) (n : Known) (rest : List ℕ) → feed t.place k o ≡ Given t.lexeme n → IsLeft c i left n rest
+          → Sees (Unit {0}) ⊥ Nothing' k (o ∷ rest) (t ∷ [])
+      given k o n rest f w =
+          let none : rest ≡ [] = no_octets rest (omega (
+            arith,
+            ap length w.cut,
+            length-append w.ahead rest,
+            size,
+            zero_behind t.lexeme.kind (subst EndsThere f (ends_there t.place k o)).0,
+          )) in
+          subst (λ y. Sees (Unit {0}) ⊥ Nothing' k (o ∷ y) (t ∷ [])) (sym none) (last_given k o t n tt f)
+
+      leaves : (k : Known) (o : ℕ) (n : Known) (rest : List ℕ) → feed t.place k o ≡ Left t.lexeme n → IsLeft c i left n (o ∷ rest)
+          → Sees (Unit {0}) ⊥ Nothing' k (o ∷ rest) (t ∷ [])
+      leaves k o n rest f w =
+          let none : rest ≡ [] =
+          no_octets rest (omega (arith, ap length w.cut, length-append w.ahead (o ∷ rest), size, behind_most t.lexeme.kind)) in
+          subst (λ y. Sees (Unit {0}) ⊥ Nothing' k (o ∷ y) (t ∷ [])) (sym none) (last_left k o t n tt f)
+
+-- 4. Rows whose last token waits for `::`, which doesn't follow.
+
+-- in these octets `::` may follow up to the last one, which shows that it doesn't
+data Unfollowed : Known → List ℕ → Type 0 where
+  shows : (s : Known) (o : ℕ) → symbol_waits (feed places.Top s o) ≡ false → Unfollowed s (o ∷ [])
+  may : (s : Known) (o : ℕ) (os : List ℕ) (s' : Known) → feed places.Top s o ≡ Next s' → is_idle s'.mode ≡ true → Unfollowed s' os → Unfollowed s (o ∷ os)
+
+unfollowed_some : (s : Known) (os : List ℕ) → Unfollowed s os → 0 < length os
+unfollowed_some _ _ (shows s o w) = omega arith
+unfollowed_some _ _ (may s o os s' f i m) = omega arith
+
+sees_unfollowed : (s : Known) (os : List ℕ) (ts : List Placed) → Sees ⊥ ⊥ Unfollowed s os ts → 0 < length os
+sees_unfollowed _ _ _ (rests s os w) = unfollowed_some s os w
+sees_unfollowed _ _ _ (ends_last s t b e) = absurd b
+sees_unfollowed _ _ _ (last_given s o t s' b e) = omega arith
+sees_unfollowed _ _ _ (last_left s o t s' b e) = omega arith
+sees_unfollowed _ _ _ (sees_on s o os t ts s' e m) = omega arith
+sees_unfollowed _ _ _ (sees_given s o os t ts s' e m) = omega arith
+sees_unfollowed _ _ _ (sees_left s o os t ts s' e m) = omega arith
+
+run_sane : (p : Place) (xs : List ℕ) (s t : Known) → is_sane s.mode ≡ true → scan p xs s ≡ Next t → is_sane t.mode ≡ true
+run_sane p [] s t h e = subst (λ (x : Known). is_sane x.mode ≡ true) (next_is s t e) h
+run_sane p (x ∷ xs) s t h e = let f = followed (feed p s x) (λ k. scan p xs k) t e in run_sane p xs f.0 t (follows_as p s x (Next f.0) h f.1).0 f.2
+
+module _ (u : List ℕ) (ts : List Placed) (none : NoColons u ts) (k : ℕ) where
+  -- the octets behind the tokens
+  abbrev behind : List ℕ
+  behind = none.rest ++ none.o ∷ []
+
+  abbrev start : Known
+  start = at modes.Blank [] true k k
+
+  open_octets : (ys since : List ℕ) (s : Known) → behind ≡ since ++ ys → (ys ≡ [] → ⊥) → Holds places.Top true k s since → scan places.Top since start ≡ Next s
+      → is_sane s.mode ≡ true → Unfollowed s ys
+  open_octets [] since s cut some h ran sane = absurd (some refl)
+  open_octets (x ∷ ys) since s cut some h ran sane =
+      by (last_parted none.rest none.o since (x ∷ ys) cut)
+      (λ t f i w. open_octets ys (since ++ x ∷ []) t (cut ∙ sym (append_assoc since (x ∷ []) ys)) w
+      (subst (λ y. Sound places.Top true k since x y) f (feed_sound places.Top true k s since x h))
+      (run_behind places.Top since (x ∷ []) start s ran ∙ ap (λ y. follow y (λ m. Next m)) f) (follows_as places.Top s x (Next t) sane f).0)
+    where
+      never : (more : List ℕ) → BlankThen (codes "::") ((since ++ x ∷ ys) ++ more) → ⊥
+      never more b = none.after more (subst (BlankThen (codes "::")) (ap (λ y. y ++ more) (sym cut) ∙ append_assoc none.rest (none.o ∷ []) more) b)
+
+      -- `::` doesn't end with the octet
+      given : (y : _) (t : Known) → feed places.Top s x ≡ Given y t → symbol_waits (Given y t) ≡ true → ⊥
+      given y t f c = never [] (subst (BlankThen (codes "::")) (sym (append-nil (since ++ x ∷ ys)))
+          ((given_colons places.Top true k s since x h y t f c).1 ys))
+
+      by : ((x ∷ ys ≡ []) × (since ≡ none.rest ++ none.o ∷ [])) ⊎ ((front : List ℕ) × (x ∷ ys ≡ front ++ none.o ∷ []) × (none.rest ≡ since ++ front))
+          → ((t : Known) → feed places.Top s x ≡ Next t → is_idle t.mode ≡ true → (ys ≡ [] → ⊥) → Unfollowed t ys) → Unfollowed s (x ∷ ys)
+      by (inl (e, f)) more = absurd cc
+      by (inr ([], e, f)) more =
+          let only : ys ≡ [] = cc in
+          subst (λ y. Unfollowed s (x ∷ y)) (sym only) (shows s x (go (feed places.Top s x) refl only))
+        where
+          go : (y : Outcome) → feed places.Top s x ≡ y → ys ≡ [] → symbol_waits y ≡ false
+          go (Next t) f only = idle (is_idle t.mode) refl
+            where
+              idle : (b : Bool) → is_idle t.mode ≡ b → b ≡ false
+              idle false i = refl
+              idle true i =
+                  let here = subst (λ y. Sound places.Top true k since x y) f (feed_sound places.Top true k s since x h) in
+                  let close = colons_close k t.kept t.start t.used (since ++ x ∷ []) t.mode i here.mode in
+                  absurd (never close.octets (subst (λ y. BlankThen (codes "::") ((since ++ x ∷ y) ++ close.octets)) (sym only) close.shows))
+          go (Given y t) f only = told (symbol_waits (Given y t)) refl
+            where
+              told : (b : Bool) → symbol_waits (Given y t) ≡ b → b ≡ false
+              told false i = refl
+              told true i = absurd (given y t f i)
+          go (Left y t) f only = refl
+          go (Refused n y) f only = refl
+      by (inr (z ∷ zs, e, f)) more = go (feed places.Top s x) refl
+        where
+          others : ys ≡ zs ++ none.o ∷ []
+          others = cc
+
+          same : none.rest ++ none.before.0 ≡ since ++ x ∷ (zs ++ none.before.0)
+          same = let first : x ≡ z = cc in ap (λ y. y ++ none.before.0) f
+              ∙ (append_assoc since (z ∷ zs) none.before.0 ∙ ap (λ y. since ++ y ∷ (zs ++ none.before.0)) (sym first))
+
+          some' : ys ≡ [] → ⊥
+          some' n = omega (arith, ap length (sym others ∙ n), length-append zs (none.o ∷ []))
+
+          waits : symbol_waits (feed places.Top s x) ≡ false → ⊥
+          waits w = octet_colons places.Top k since s x sane ran (symbol_colons (feed places.Top s x) w) (zs ++ none.before.0)
+              (subst (BlankThen (codes "::")) same none.before.1)
+
+          go : (y : Outcome) → feed places.Top s x ≡ y → Unfollowed s (x ∷ ys)
+          go (Next t) f = idle (is_idle t.mode) refl
+            where
+              idle : (b : Bool) → is_idle t.mode ≡ b → Unfollowed s (x ∷ ys)
+              idle true i = may s x ys t f i (more t f i some')
+              idle false i = absurd (waits (ap symbol_waits f ∙ i))
+          go (Given y t) f = told (symbol_waits (Given y t)) refl
+            where
+              told : (b : Bool) → symbol_waits (Given y t) ≡ b → Unfollowed s (x ∷ ys)
+              told true i = absurd (given y t f i)
+              told false i = absurd (waits (ap symbol_waits f ∙ i))
+          go (Left y t) f = absurd (waits (ap symbol_waits f))
+          go (Refused n y) f = absurd (waits (ap symbol_waits f))
+
+module _ (g : Catalog) (l : Limits) (u : List ℕ) (e : Reason) (row : HasRow e) (ts : List Placed) (p : Pends g l ts e) (none : NoColons u ts) where
+  abbrev P : Reading
+  P = pend g l ts e p
+
+  lexes : LexesTo false 0 u (p.front ++ p.token ∷ []) none.are.0 none.are.1 (none.rest ++ none.o ∷ [])
+  lexes = subst (λ y. LexesTo false 0 u y none.are.0 none.are.1 (none.rest ++ none.o ∷ [])) p.is none.are.2
+
+  flag : none.are.0 ≡ true
+  flag = sym (last_flag p.front p.token false 0 u none.are.0 none.are.1 (none.rest ++ none.o ∷ []) lexes) ∙ p.colon
+
+  from : (s : Known) (rest : List ℕ) → IsLeft none.are.0 none.are.1 (none.rest ++ none.o ∷ []) s rest → (rest ≡ [] → ⊥) → Unfollowed s rest
+  from s rest w some =
+      let ran : scan places.Top w.ahead (at modes.Blank [] true none.are.1 none.are.1) ≡ Next s =
+      subst (λ c. scan places.Top w.ahead (at modes.Blank [] c none.are.1 none.are.1) ≡ Next s) flag (w.reached places.Top) in
+      open_octets u ts none none.are.1 rest w.ahead s w.cut some
+      (subst (λ x. RunSound places.Top true none.are.1 [] w.ahead x) ran
+      (run_sound places.Top true none.are.1 w.ahead [] (at modes.Blank [] true none.are.1 none.are.1) (blank_behind places.Top true none.are.1)))
+      ran (run_sane places.Top w.ahead (at modes.Blank [] true none.are.1 none.are.1) s refl ran)
+
+  given : (k : Known) (o : ℕ) (n : Known) (rest : List ℕ) → feed p.token.place k o ≡ Given p.token.lexeme n
+      → IsLeft none.are.0 none.are.1 (none.rest ++ none.o ∷ []) n rest → Sees ⊥ ⊥ Unfollowed k (o ∷ rest) (p.token ∷ [])
+  given k o n rest f w = sees_given k o rest p.token [] n f (rests n rest (from n rest w some))
+    where
+      holds : Holds places.Top none.are.0 none.are.1 n w.ahead
+      holds = subst (λ x. RunSound places.Top none.are.0 none.are.1 [] w.ahead x) (w.reached places.Top)
+          (run_sound places.Top none.are.0 none.are.1 w.ahead [] (at modes.Blank [] none.are.0 none.are.1 none.are.1)
+          (blank_behind places.Top none.are.0 none.are.1))
+
+      some : rest ≡ [] → ⊥
+      some z = omega (
+        arith,
+        holds.used,
+        (subst EndsThere f (ends_there p.token.place k o)).1,
+        last_ends p.front p.token false 0 u none.are.0 none.are.1 (none.rest ++ none.o ∷ []) lexes,
+        ap length w.cut,
+        ap length z,
+        length-append w.ahead rest,
+        length-append none.rest (none.o ∷ []),
+      )
+
+  leaves : (k : Known) (o : ℕ) (n : Known) (rest : List ℕ) → feed p.token.place k o ≡ Left p.token.lexeme n
+      → IsLeft none.are.0 none.are.1 (none.rest ++ none.o ∷ []) n (o ∷ rest) → Sees ⊥ ⊥ Unfollowed k (o ∷ rest) (p.token ∷ [])
+  leaves k o n rest f w = sees_left k o rest p.token [] n f (rests n (o ∷ rest) (from n (o ∷ rest) w (λ z. cc)))
+
+  -- what waits is refused where the octet shows that nothing follows
+  settled_fails : (again : State → Effect) (s : Known) (x : Outcome) (y : Turn) → Refusing e y → (f : Reason) × (on_settled g l again s x y ≡ fails f)
+      × (reason_number f ≤ reason_number e)
+  settled_fails again s x (refuses f) h = (f, refl, omega (arith, ap reason_number h))
+  settled_fails again s x (late f k) h = let w = worse_less f (on_scan g l again k x) in (w.0, w.1, omega (arith, w.2, ap reason_number h))
+  settled_fails again s x (goes k) h = absurd h
+  settled_fails again s x (gives v k) h = absurd h
+
+  rest_stopped : (s : Known) (os : List ℕ) → Unfollowed s os → (to : ℕ) → to + length os ≡ length u
+      → Stopped (length u) e (run g l to (with_scan s P) os).now
+  rest_stopped _ _ (shows s o w) to all =
+      let again = λ (k : State). takes g l 2 k o in
+      let x = feed places.Top s o in
+      let q = settled_fails again s x (settle g l P) p.why in
+      let eff : eats g l (with_scan s P) o ≡ fails q.0 =
+      ap (λ b. if b || false then on_scan g l again P x else on_settled g l again s x (settle g l P)) w ∙ q.1 in
+      subst (λ y. Stopped (length u) e (run_on to (λ n. eats g l n o) (λ n. run g l (to + 1) n []) y).now) (sym eff)
+      (record { offset = to + 1; reason = q.0 }, refl, inr (omega (arith, all), q.2))
+  rest_stopped _ _ (may s o os s' f i m) to all =
+      let again = λ (k : State). takes g l 2 k o in
+      let eff : eats g l (with_scan s P) o ≡ noticed l P s' =
+      ap (λ y. if symbol_waits y || false then on_scan g l again P y else on_settled g l again s y (settle g l P)) f
+      ∙ ap (λ b. if b || false then noticed l P s' else on_settled g l again s (Next s') (settle g l P)) i in
+      subst (λ y. Stopped (length u) e (run_on to (λ n. eats g l n o) (λ n. run g l (to + 1) n os) y).now) (sym eff)
+      (go (nat_le (reaches P.frames P s') l.item) (rest_stopped s' os m (to + 1) (omega (arith, all))))
+    where
+      go : (b : Bool) → Stopped (length u) e (run g l (to + 1) (with_scan s' P) os).now
+          → Stopped (length u) e (run_on to (λ n. eats g l n o) (λ n. run g l (to + 1) n os)
+          (if b then uses (with_scan s' P) else fails reasons.ItemTooLong)).now
+      go true h = h
+      go false h = too_long (length u) (to + 1) e (omega (arith, all, unfollowed_some s' os m))
+
+  unfollowed_stopped : Stopped (length u) e (run g l 0 begun u).now
+  unfollowed_stopped =
+      reached g l e row (λ k. k ≡ P) ⊥ ⊥ ⊥ Unfollowed (length u) (Stopped (length u) e)
+      (λ to k os us m all. too_long (length u) to e (omega (arith, all, sees_unfollowed k os us m))) (λ b f h. absurd b) (λ b r d. absurd b)
+      (λ h k os w. absurd h) (λ b k x r a used ex calm d. absurd b)
+      (λ to k os r w all used calm d. subst (λ x. Stopped (length u) e (run g l to (with_scan k x) os).now) (sym d) (rest_stopped k os w to all))
+      initial u (p.front ++ p.token ∷ [])
+      (tokens_seen g l u p.token (waited_ended g l u [] ts e p none) none.are.0 none.are.1 (none.rest ++ none.o ∷ []) ⊥ ⊥ Unfollowed given leaves p.front
+      lexes)
+      refl (record { enough = omega arith }) (record { is = tt })
+      (lexes_operators (λ x y z. (x ≡ none.are.0) × (y ≡ none.are.1) × (z ≡ none.rest ++ none.o ∷ [])) (p.front ++ p.token ∷ []) false 0 u lexes)
+      0 (omega arith) refl (origin g l) (λ top. tt)
+      (waiting_heads g l e (p.front ++ p.token ∷ []) P p.values (ap (reads g l (origin g l)) (sym p.is) ∙ p.read))
+
+-- Where a row stands that the last of the octets shows, that octet is refused for its reason, or for one with a smaller number, unless an item
+-- became too long before.
+pub row_stopped : (g : Catalog) (l : Limits) (u : List ℕ) (e : Reason) → Decides g l u e → Stopped (length u) e (run g l 0 begun u).now
+row_stopped g l u e d = by (seen g l u e d)
+  where
+    by : Seen g l u e → Stopped (length u) e (run g l 0 begun u).now
+    by (refused ts t left s are ended size) = refused_stopped g l u e (has_row g l _ e d) ts t left s are ended size
+    by (unfollowed ts p none) = unfollowed_stopped g l u e (has_row g l _ e d) ts p none
