@@ -3,11 +3,24 @@
 #![tactic(auto)]
 
 mod bracket;
+mod building;
+mod count;
+pub mod laws;
+mod outlining;
 mod part;
+mod payloads;
+mod recent_symbols;
+mod telling;
 mod told;
 mod visitable;
+mod visitor;
 
 pub use bracket::Bracket;
+pub use building::Building;
+pub use count::Count;
+pub use outlining::Outlining;
 pub use part::{Part, number_kept, part_kept, text_kept};
+pub use telling::tell;
 pub use told::TextVisitor;
 pub use visitable::{Visitable, is_tried};
+pub use visitor::Visitor;

@@ -1,0 +1,6 @@
+use Rattle.std.proofs.Common.{None}
+use Rattle.ion_model.specs.declared.value.Payload.TheViews.{outs-Symbol}
+use Rattle.ion_visiting.proofs.outlining.OutliningVisitor.unknown_symbol.Goals as goal
+
+pub returns : goal.returns
+returns c = λ _. rw (outs-Symbol None) c.count_value.ensures

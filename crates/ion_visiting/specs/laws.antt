@@ -1,0 +1,5 @@
+-- What follows from the definitions of events and of visitors.
+pub mod Led
+pub mod Built
+pub mod Counted
+pub mod Outlined

@@ -1,0 +1,48 @@
+//! Laws of events and of visitors. Each stands on an empty function: its contract is the law.
+ghost use Rattle.std.specs.Prelude.{◌≡◌, ◌-◌, ◌^◌, ◌++◌, List, length, min, Some};
+ghost use Rattle.ion_model.specs.declared.value.Value.{Value};
+ghost use Rattle.ion_visiting.specs.declared.building.Open.TheVariants as places;
+ghost use Rattle.ion_visiting.specs.Building.{Built, builds, fresh};
+ghost use Rattle.ion_model.specs.Outlines.{outline_of};
+ghost use Rattle.ion_visiting.specs.declared.count.Count.{Count};
+ghost use Rattle.ion_visiting.specs.declared.outlining.Outlining.{Outlining};
+ghost use Rattle.ion_visiting.specs.Count.{counts, no_values};
+ghost use Rattle.ion_visiting.specs.Events.{Event, Led, events_of, stream_events};
+ghost use Rattle.ion_visiting.specs.Outlining.{no_outline, outline_in, outlines};
+
+use crate::visitor::Visitor;
+
+/// Events are those of one value, whatever follows them, and tell where it ends.
+pub fn events_one()
+    ensures { (v w : Value) (es fs : List Event) → events_of v ++ es ≡ events_of w ++ fs
+        → (v ≡ w) × (es ≡ fs) }
+{}
+
+/// Events one behind the other lead a visitor from where to where each part of them does.
+pub fn events_join<V: Visitor>()
+    ensures joins { (es fs : List Event) (a m b : V) → Led V.takes es a m → Led V.takes fs m b
+        → Led V.takes (es ++ fs) a b }
+    ensures splits { (es fs : List Event) (a b : V) → Led V.takes (es ++ fs) a b
+        → (m : V) × Led V.takes es a m × Led V.takes fs m b }
+{}
+
+/// A visitor that builds, told the events of a value from nothing, has built that value, and is as
+/// new once it is taken.
+pub fn built()
+    ensures { (v : Value) (b : Built) → Led builds (events_of v) fresh b
+        → b ≡ record fresh { place = places.Top (Some v) } }
+{}
+
+/// A visitor that counts is as before behind the events inside of a value, and has counted the
+/// values of the top level that it was told ended.
+pub fn counted()
+    ensures value { (v : Value) (a b : Count) → Led counts (events_of v) a b → b ≡ a }
+    ensures values { (vs : List Value) (b : Count) → Led counts (stream_events vs) no_values b
+        → b.values ≡ min (length vs) (2 ^ 64 - 1) }
+{}
+
+/// A visitor that outlines, told the events of a value from nothing, holds the value's outline.
+pub fn outlined()
+    ensures { (v : Value) (o : Outlining) → Led outlines (events_of v) no_outline o
+        → outline_in o ≡ outline_of v }
+{}

@@ -1,0 +1,166 @@
+//! The visitor that takes the outline of a value.
+ghost use Rattle.std.specs.Prelude.{◌≡◌};
+ghost use Rattle.ion_model.specs.declared.value.Payload.TheViews.{out-Payload};
+ghost use Rattle.ion_model.specs.Kinds.{layer_kind};
+ghost use Rattle.ion_visiting.specs.Outlining.{bracket_kind, no_outline, outline_in, kind_at, more_nodes};
+ghost use Rattle.ion_visiting.specs.Parts.{number_payload, payload_of};
+
+use crate::bracket::Bracket;
+use crate::part::Part;
+use crate::visitor::Visitor;
+use ion_model::{Kind, Outline};
+use ion_scalar::Number;
+
+/// The visitor that takes the outline of a value: its kind, its depth and its number of nodes. It
+/// takes no memory.
+#[derive(Drop)]
+pub struct Outlining {
+    kind: Kind,
+    /// How many containers are open.
+    level: u64,
+    /// How many were open at once at most.
+    depth: u64,
+    nodes: u64,
+}
+
+impl Outlining {
+    /// Of no value yet.
+    pub fn new() -> Outlining
+        ensures { result ≡ no_outline }
+    {
+        Outlining {
+            kind: Kind::Null,
+            level: 0,
+            depth: 0,
+            nodes: 0,
+        }
+    }
+
+    /// The outline of the value that was told, and it is of no value again.
+    pub fn take(&mut self) -> Outline
+        ensures outline { result ≡ outline_in self.old }
+        ensures anew { self.new ≡ no_outline }
+    {
+        let outline = Outline {
+            kind: self.kind,
+            depth: self.depth,
+            nodes: self.nodes,
+        };
+        *self = Outlining::new();
+        outline
+    }
+
+    // One node more.
+    #[inline(always)]
+    fn count(&mut self)
+        ensures { self.new ≡ record self.old { nodes = more_nodes self.old 1 } }
+    {
+        self.nodes = self.nodes.saturating_add(1);
+    }
+
+    // One node more, which is a value of this kind.
+    #[inline(always)]
+    fn count_value(&mut self, kind: Kind)
+        ensures { self.new
+            ≡ record self.old { kind = kind_at self.old kind; nodes = more_nodes self.old 1 } }
+    {
+        if self.level == 0 {
+            self.kind = kind;
+        }
+        self.count();
+    }
+}
+
+fn part_kind(said: &Part<'_>) -> Kind
+    ensures { result ≡ layer_kind (out-Payload (payload_of said.now)) }
+{
+    match said {
+        Part::Null(kind) => *kind,
+        Part::Truth(_) => Kind::Bool,
+        Part::Symbol(_) => Kind::Symbol,
+        Part::Str(_) => Kind::Str,
+        Part::Clob(_) => Kind::Clob,
+        Part::Blob(_) => Kind::Blob,
+    }
+}
+
+fn number_kind(number: Number) -> Kind
+    ensures { result ≡ layer_kind (out-Payload (number_payload number)) }
+{
+    match number {
+        Number::Int(_) => Kind::Int,
+        Number::Decimal(_) => Kind::Decimal,
+        Number::Timestamp(_) => Kind::Timestamp,
+    }
+}
+
+fn bracket_kind(bracket: Bracket) -> Kind
+    ensures { result ≡ bracket_kind bracket }
+{
+    match bracket {
+        Bracket::List => Kind::List,
+        Bracket::Sexp => Kind::Sexp,
+        Bracket::Fields => Kind::Fields,
+    }
+}
+
+impl Visitor for Outlining {
+    ghost use Rattle.ion_visiting.specs.Outlining.{outlines};
+
+    ghost takes = { outlines };
+
+    #[inline(always)]
+    fn part(&mut self, said: &Part<'_>) -> bool {
+        self.count_value(part_kind(said));
+        true
+    }
+
+    #[inline(always)]
+    fn number(&mut self, number: Number) -> bool {
+        self.count_value(number_kind(number));
+        true
+    }
+
+    #[inline(always)]
+    fn unknown_symbol(&mut self) -> bool {
+        self.count_value(Kind::Symbol);
+        true
+    }
+
+    #[inline(always)]
+    fn annotation(&mut self, _text: Option<&str>) -> bool {
+        self.count();
+        true
+    }
+
+    #[inline(always)]
+    fn name(&mut self, _text: Option<&str>) -> bool {
+        self.count();
+        true
+    }
+
+    #[inline(always)]
+    fn open(&mut self, bracket: Bracket) -> bool {
+        if self.level == u64::MAX {
+            return false;
+        }
+        self.count_value(bracket_kind(bracket));
+        self.level += 1;
+        self.depth = self.depth.max(self.level);
+        true
+    }
+
+    #[inline(always)]
+    fn close(&mut self, _bracket: Bracket) -> bool {
+        if self.level == 0 {
+            return false;
+        }
+        self.level -= 1;
+        true
+    }
+
+    #[inline(always)]
+    fn ended(&mut self) -> bool {
+        true
+    }
+}

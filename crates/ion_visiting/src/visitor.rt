@@ -1,0 +1,61 @@
+//! What is made of values that are told event by event.
+ghost use Rattle.std.specs.Prelude.{◌≡◌, true, None, option_map};
+ghost use Rattle.ion_model.specs.declared.value.Payload.{Payload};
+ghost use Rattle.ion_model.specs.declared.value.Payload.TheVariants as payloads;
+ghost use Rattle.ion_visiting.specs.Events.{Event, part, annotation, name, opens, closes, ended};
+ghost use Rattle.ion_visiting.specs.Parts.{number_payload, payload_of};
+
+use crate::bracket::Bracket;
+use crate::part::Part;
+use ion_scalar::Number;
+
+/// What is told values, event by event, symbols by their texts or as unknown. Whoever tells holds
+/// no values; what a visitor needs of the containers that are open it keeps by itself.
+///
+/// Each call answers `false` where the visitor can't go on, as where memory was refused. Its state
+/// means nothing then.
+pub trait Visitor {
+    /// From which state to which an event leads it.
+    ghost takes: { Self → Event → Self → Type 0 };
+
+    /// Whether it stays as it is whatever a part says: then none is read for it.
+    fn heeds_nothing(&self) -> bool
+        ensures { result ≡ true → (payload : Payload) → takes self.now (part payload) self.now }
+    {
+        false
+    }
+
+    /// A value with no value in it, but no number and no symbol of unknown text.
+    fn part(&mut self, said: &Part<'_>) -> bool
+        ensures { result ≡ true → takes self.old (part (payload_of said.now)) self.new };
+
+    /// A number.
+    fn number(&mut self, number: Number) -> bool
+        ensures { result ≡ true → takes self.old (part (number_payload number)) self.new };
+
+    /// A symbol of unknown text.
+    fn unknown_symbol(&mut self) -> bool
+        ensures { result ≡ true → takes self.old (part (payloads.Symbol None)) self.new };
+
+    /// An annotation of the value that follows; `None` where its text is unknown.
+    fn annotation(&mut self, text: Option<&str>) -> bool
+        ensures { result ≡ true →
+            takes self.old (annotation (option_map (λ t. t.now) text.entry)) self.new };
+
+    /// The name of the field whose value follows; `None` where its text is unknown.
+    fn name(&mut self, text: Option<&str>) -> bool
+        ensures { result ≡ true →
+            takes self.old (name (option_map (λ t. t.now) text.entry)) self.new };
+
+    /// The front of a list, an s-expression or a struct.
+    fn open(&mut self, bracket: Bracket) -> bool
+        ensures { result ≡ true → takes self.old (opens bracket) self.new };
+
+    /// The end of the one that was opened last.
+    fn close(&mut self, bracket: Bracket) -> bool
+        ensures { result ≡ true → takes self.old (closes bracket) self.new };
+
+    /// The end of a value of the top level.
+    fn ended(&mut self) -> bool
+        ensures { result ≡ true → takes self.old ended self.new };
+}
