@@ -56,7 +56,8 @@ impl Model for Building {
 
     ghost coded = { Prim.hlevel (codes, payload.the_row.coded) };
 
-    ghost view = { λ s. record { notes = s.notes; place = s.place; outer = reverse s.outer.items } };
+    ghost view = { λ s.
+        record { notes = s.notes; place = s.place; outer = reverse s.outer.items } };
 }
 
 impl Open {

@@ -1,11 +1,11 @@
 //! Laws of events and of visitors. Each stands on an empty function: its contract is the law.
 ghost use Rattle.std.specs.Prelude.{◌≡◌, ◌-◌, ◌^◌, ◌++◌, List, length, min, Some};
+ghost use Rattle.ion_model.specs.Outlines.{outline_of};
 ghost use Rattle.ion_model.specs.declared.value.Value.{Value};
 ghost use Rattle.ion_visiting.specs.declared.building.Open.TheVariants as places;
-ghost use Rattle.ion_visiting.specs.Building.{Built, builds, fresh};
-ghost use Rattle.ion_model.specs.Outlines.{outline_of};
 ghost use Rattle.ion_visiting.specs.declared.count.Count.{Count};
 ghost use Rattle.ion_visiting.specs.declared.outlining.Outlining.{Outlining};
+ghost use Rattle.ion_visiting.specs.Building.{Built, builds, fresh};
 ghost use Rattle.ion_visiting.specs.Count.{counts, no_values};
 ghost use Rattle.ion_visiting.specs.Events.{Event, Led, events_of, stream_events};
 ghost use Rattle.ion_visiting.specs.Outlining.{no_outline, outline_in, outlines};

@@ -1,5 +1,6 @@
 //! Values that are gone over part by part, in whatever encoding they are read: what a visitor takes
-//! of them.
+//! of them. Values that are told event by event, by whoever has their parts: what a visitor makes of
+//! them, and three that do, by counting, outlining and building.
 #![tactic(auto)]
 
 mod bracket;

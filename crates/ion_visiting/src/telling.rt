@@ -4,7 +4,7 @@ ghost use Rattle.std.specs.List.{flat_map};
 ghost use Rattle.ion_model.specs.declared.value.Payload.TheViews.{out-Payload};
 ghost use Rattle.ion_model.specs.declared.value.Payload.TheVariants as payloads;
 ghost use Rattle.ion_visiting.specs.declared.bracket.Bracket.TheVariants.{Fields};
-ghost use Rattle.ion_visiting.specs.Events.{Led, annotation, part, within, events_of, field_events, layer_events};
+ghost use Rattle.ion_visiting.specs.Events.{Led, annotation, name, part, within, events_of, field_events, layer_events};
 
 use crate::bracket::Bracket;
 use crate::part::Part;
@@ -12,8 +12,8 @@ use crate::visitor::Visitor;
 use ion_model::{Field, Payload, Symbol, Value};
 use ion_scalar::Number;
 
-/// Tells a visitor a value, with no end of it; `false` where the visitor answered so, of which the
-/// rest isn't told. Takes no memory by itself. Calls itself once for each level.
+/// Tells a visitor the events of a value, but not that it ended. `false` where the visitor answered
+/// so: it isn't told the rest then. Takes no memory by itself. Calls itself once for each level.
 #[cycle(tell)]
 pub fn tell<V: Visitor>(value: &Value, visitor: &mut V) -> bool
     ensures { result ≡ true → Led V.takes (events_of value.now) visitor.old visitor.new }
@@ -25,11 +25,23 @@ fn tell_annotations<V: Visitor>(symbols: &[Symbol], visitor: &mut V) -> bool
     ensures { result ≡ true → Led V.takes (map annotation symbols.now) visitor.old visitor.new }
 {
     for symbol in symbols {
-        if !visitor.annotation(symbol.text()) {
+        if !tell_annotation(symbol, visitor) {
             return false;
         }
     }
     true
+}
+
+fn tell_annotation<V: Visitor>(symbol: &Symbol, visitor: &mut V) -> bool
+    ensures { result ≡ true → V.takes visitor.old (annotation symbol.now) visitor.new }
+{
+    visitor.annotation(symbol.text())
+}
+
+fn tell_name<V: Visitor>(symbol: &Symbol, visitor: &mut V) -> bool
+    ensures { result ≡ true → V.takes visitor.old (name symbol.now) visitor.new }
+{
+    visitor.name(symbol.text())
 }
 
 #[cycle(tell)]
@@ -88,7 +100,7 @@ fn tell_fields<V: Visitor>(fields: &[Field], visitor: &mut V) -> bool
         return false;
     }
     for field in fields {
-        if !visitor.name(field.name.text()) || !tell(&field.value, visitor) {
+        if !tell_name(&field.name, visitor) || !tell(&field.value, visitor) {
             return false;
         }
     }

@@ -9,6 +9,8 @@ mod counting;
 #[cfg(test)]
 mod devices;
 #[cfg(test)]
+mod events;
+#[cfg(test)]
 mod model;
 #[cfg(test)]
 mod scanner;
