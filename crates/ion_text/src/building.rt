@@ -3,11 +3,9 @@ ghost use Rattle.std.specs.Prelude.{◌≡◌, [], None, true};
 ghost use Rattle.ion_text.specs.declared.building.Open.TheVariants as opens;
 ghost use Rattle.ion_text.specs.visiting.Building.{with_value, with_name, opened, closed, value_in, Puts};
 
-use crate::payloads::{number_payload, payload_of};
-use crate::recent_symbols::RecentSymbols;
 use ion_model::{Field, Payload, Sequence, Symbol, Value};
 use ion_scalar::Number;
-use ion_visiting::{Bracket, Part, TextVisitor};
+use ion_visiting::{Bracket, Part, RecentSymbols, TextVisitor, number_payload, payload_of};
 use std::alloc::Global;
 use std::mem;
 

@@ -5,11 +5,11 @@ ghost use Rattle.ion_text.specs.machine.EachToken.{place, begun_at, behind_item,
 ghost use Rattle.ion_text.specs.machine.Run.{is_top};
 ghost use Rattle.ion_text.specs.machine.Views.{setting_of, spot_of, open_frames, reading_of, Does, Puts, SameSetting, is_named, has_field};
 
-use crate::recent_symbols::RecentSymbols;
 use crate::state::{Effect, Frame, Listing, Now};
 use ion_model::{Field, Payload, Reason, Refusal, Sequence, Symbol, Value};
 use ion_symtab::{Catalog, Context, Limits};
 use ion_tokens::{Place, Scanner, TokenReader};
+use ion_visiting::RecentSymbols;
 use std::alloc::Global;
 use std::fmt::{self, Debug, Formatter};
 use std::mem;

@@ -6,9 +6,9 @@ ghost use Rattle.ion_tokens.specs.Octets.{is_digit};
 ghost use Rattle.ion_text.specs.Grammar.{is_keyword, is_version, version_parts, some_digits};
 ghost use Rattle.ion_text.specs.machine.EachToken.{held_word};
 
-use crate::recent_symbols::RecentSymbols;
 use crate::state::Held;
 use ion_model::{Kind, Reason};
+use ion_visiting::RecentSymbols;
 
 fn is_digit(octet: u8) -> bool
     ensures { result ≡ is_digit octet }

@@ -21,6 +21,8 @@ pub use building::Building;
 pub use count::Count;
 pub use outlining::Outlining;
 pub use part::{Part, number_kept, part_kept, text_kept};
+pub use payloads::{number_payload, payload_of, symbol_of};
+pub use recent_symbols::RecentSymbols;
 pub use telling::tell;
 pub use told::TextVisitor;
 pub use visitable::{Visitable, is_tried};

@@ -10,7 +10,7 @@ use ion_scalar::Number;
 use std::alloc::Global;
 
 /// The symbol of this text, or the unknown one. The only refusal is `Memory`.
-pub(crate) fn symbol_of(recent: &mut RecentSymbols, text: Option<&str>) -> Result<Symbol, Reason>
+pub fn symbol_of(recent: &mut RecentSymbols, text: Option<&str>) -> Result<Symbol, Reason>
     ensures { MatchResult result
         (λ s. s ≡ option_map (λ t. t.now) text.entry) (λ reason. reason ≡ Memory) }
 {
@@ -21,7 +21,7 @@ pub(crate) fn symbol_of(recent: &mut RecentSymbols, text: Option<&str>) -> Resul
 }
 
 /// The value of such a part.
-pub(crate) fn payload_of(
+pub fn payload_of(
     alloc: Global,
     recent: &mut RecentSymbols,
     said: &Part<'_>,
@@ -40,7 +40,7 @@ pub(crate) fn payload_of(
 }
 
 /// The value of a number.
-pub(crate) fn number_payload(number: Number) -> Payload
+pub fn number_payload(number: Number) -> Payload
     ensures { result ≡ number_payload number }
 {
     match number {

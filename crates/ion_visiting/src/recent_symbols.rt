@@ -38,7 +38,7 @@ impl Model for RecentSymbols {
 
 impl RecentSymbols {
     /// No symbols yet. Takes no memory.
-    pub(crate) fn new(alloc: Global) -> RecentSymbols {
+    pub fn new(alloc: Global) -> RecentSymbols {
         RecentSymbols {
             alloc,
             made: 0,
@@ -47,7 +47,7 @@ impl RecentSymbols {
     }
 
     /// The symbol of this text. The only refusal is `Memory`.
-    pub(crate) fn symbol(&mut self, text: &str) -> Result<Symbol, Reason>
+    pub fn symbol(&mut self, text: &str) -> Result<Symbol, Reason>
         ensures { MatchResult result (λ s. s ≡ Some text.now) (λ r. r ≡ reasons.Memory) }
     {
         if text.len() > LONGEST {

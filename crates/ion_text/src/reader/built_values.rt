@@ -7,9 +7,9 @@ ghost use Rattle.ion_text.specs.machine.Views.{state_of, IsFine};
 
 use super::TextReader;
 use crate::building::Building;
-use crate::recent_symbols::RecentSymbols;
 use ion_lookahead::seems_cut;
 use ion_symtab::{Glance, Step};
+use ion_visiting::RecentSymbols;
 use std::mem;
 
 impl TextReader<'_> {

@@ -11,10 +11,10 @@ ghost use Rattle.ion_text.specs.machine.Views.{reading_of};
 
 use super::TextReader;
 use super::finders::operator_at;
-use crate::payloads::payload_of;
 use crate::state::Effect;
 use ion_model::{Payload, Reason, Symbol};
 use ion_tokens::{Body, FoundToken, Place, Rest};
+use ion_visiting::payload_of;
 use std::alloc::Global;
 
 // Whether a token that isn't plain may stand there: no mark, no comment and no long string.

@@ -10,12 +10,12 @@ ghost use Rattle.ion_text.specs.machine.Run.{trace};
 ghost use Rattle.ion_text.specs.machine.Progress.{BeginsWith, Stands, failed, octets_used, pending};
 
 use super::TextReader;
-use crate::recent_symbols::RecentSymbols;
 use crate::state::Now;
 use ion_lookahead::seems_cut;
 use ion_model::{Reason, Refusal, Sequence, Value};
 use ion_symtab::{Catalog, Context, Glance, Items, Limits, Passed, Step};
 use ion_tokens::{Scanner, TokenReader};
+use ion_visiting::RecentSymbols;
 use std::alloc::Global;
 
 impl<'a> TextReader<'a> {

@@ -7,12 +7,11 @@ ghost use Rattle.ion_tokens.specs.Bodies.{content, Word, Mark'};
 ghost use Rattle.ion_text.specs.machine.Views.{setting_of, spot_of, open_frames, reading_of, token_in, Does, SameSetting};
 
 use super::TextReader;
-use crate::payloads::number_payload;
 use crate::state::{Effect, Held, Now};
 use crate::words::{held_word, is_keyword};
 use ion_model::{Payload, Reason, Symbol, Text};
 use ion_tokens::{Body, Mark, Token};
-use ion_visiting::Bracket;
+use ion_visiting::{Bracket, number_payload};
 use std::mem;
 
 impl TextReader<'_> {

@@ -14,10 +14,10 @@ ghost use Rattle.ion_text.specs.machine.AtOnce.{IsResting, Inside, Strides, Stri
 
 use super::TextReader;
 use super::finders::{number_at, plain_at};
-use crate::payloads::{number_payload, payload_of};
 use crate::state::{Effect, Now, Taken};
 use ion_model::{Reason, Refusal};
 use ion_tokens::{Mark, Place, Rest, TokenKind, blanks};
+use ion_visiting::{number_payload, payload_of};
 
 // Whether a value may stand there, and no field's name.
 fn may_be_value(place: Place) -> bool
