@@ -41,10 +41,10 @@ returns-clause-found c = λ p r octets found.
     let t = c.args.token in
     let kept = c.args.octets.now in
     elim c.match-token.branch [
-        in-Clob w ↦ subst (λ (m : Kind × Part). FoundPart p r octets (record { token = t; kind = m.0; waits = false }) (payload_of m.1)) (sym w.kind-is)
-            (is_part p r octets kept t kinds.Clob (Clob kept) (payloads.Clob kept) sorts.Clob w.in-Clob.is (says kinds.Clob kept) (λ setting spot fs ss. refl)
-            (flat_clob kept) found)
+      | in-Clob w ↦ subst (λ (m : Kind × Part). FoundPart p r octets (record { token = t; kind = m.0; waits = false }) (payload_of m.1)) (sym w.kind-is)
+          (is_part p r octets kept t kinds.Clob (Clob kept) (payloads.Clob kept) sorts.Clob w.in-Clob.is (says kinds.Clob kept) (λ setting spot fs ss. refl)
+          (flat_clob kept) found)
       | in-Blob w ↦ subst (λ (m : Kind × Part). FoundPart p r octets (record { token = t; kind = m.0; waits = false }) (payload_of m.1)) (sym w.kind-is)
-            (is_part p r octets kept t kinds.Blob (Blob kept) (payloads.Blob kept) sorts.Blob w.in-Blob.is (says kinds.Blob kept) (λ setting spot fs ss. refl)
-            (flat_blob kept) found)
+          (is_part p r octets kept t kinds.Blob (Blob kept) (payloads.Blob kept) sorts.Blob w.in-Blob.is (says kinds.Blob kept) (λ setting spot fs ss. refl)
+          (flat_blob kept) found)
     ]
