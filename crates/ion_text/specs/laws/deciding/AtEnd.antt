@@ -34,6 +34,7 @@ use Rattle.ion_text.specs.machine.EachToken.{Reading, Turn, goes, gives, refuses
 use Rattle.ion_text.specs.machine.Run.{State, begun, run, is_top, is_fresh, token_of, trace, refused_of, ends_of, cut_short, end_late, end_settled, end_turned, end_said, end_waiting, end_ready, end_now}
 use Rattle.ion_text.specs.machine.Passed.{said_body, said_passes}
 use Rattle.ion_text.specs.laws.reading.sound.Admits.{at_end_fine}
+use Rattle.ion_text.specs.laws.reading.complete.Found.{no_more}
 use Rattle.ion_text.specs.laws.reading.complete.Going.{mark_kind, top_place}
 use Rattle.ion_text.specs.laws.reading.sound.Held.{Behind, NoLongText, Reads, Scans, token_read}
 use Rattle.ion_text.specs.laws.reading.complete.Meets.{end_spans}
@@ -63,17 +64,13 @@ pub last_ends : (ts : List Placed) (t : Placed) (colon : Bool) (before : ℕ) (o
 last_ends [] t colon before octets after end rest (q, b, h) = h.1
 last_ends (x ∷ ts) t colon before octets after end rest (q, b, h) = last_ends ts t (colon_behind x) x.lexeme.end q after end rest h
 
-nothing_left : (rest : List ℕ) → length rest ≡ 0 → rest ≡ []
-nothing_left [] e = refl
-nothing_left (x ∷ rest) e = absurd (omega arith)
-
 -- the last of them ends with the octets
 all_are : (u : List ℕ) (ts : List Placed) (t : Placed) → Lexes false 0 u (ts ++ t ∷ []) → t.lexeme.end ≡ length u → Are u (ts ++ t ∷ []) []
 all_are u ts t h e =
     let x = lexes_are (ts ++ t ∷ []) false 0 u h in
     let last = last_ends ts t false 0 u x.0 x.1 x.2 x.3 in
     let f = lexed_front (ts ++ t ∷ []) false 0 u x.0 x.1 x.2 x.3 in
-    let none : x.2 ≡ [] = nothing_left x.2 (omega (arith, last, f.2, e, ap length f.1, length-append f.0 x.2)) in
+    let none : x.2 ≡ [] = no_more x.2 (omega (arith, last, f.2, e, ap length f.1, length-append f.0 x.2)) in
     (x.0, x.1, subst (LexesTo false 0 u (ts ++ t ∷ []) x.0 x.1) none x.3)
 
 -- what the scanner's end refuses for

@@ -20,6 +20,7 @@ use Rattle.ion_tokens.proofs.complete.Wholes.{FindsFrom, find_token}
 use Rattle.ion_tokens.proofs.histories.Histories.{behind_front}
 use Rattle.ion_tokens.proofs.runs.Runs.{feed_used, next_used}
 use Rattle.ion_tokens.proofs.runs.Splits.{given_split, left_split, given_one, left_one}
+use Rattle.ion_text.specs.laws.reading.complete.Found.{no_more}
 use Rattle.ion_text.specs.laws.deciding.Fronts.{Any, HasEnded, found_open, last_behind, last_of}
 use Rattle.ion_text.specs.laws.deciding.Reaching.{Sees, sees_on, sees_given, sees_left}
 use Rattle.ion_text.specs.laws.deciding.Shows.{IsBare}
@@ -98,10 +99,6 @@ module _ (R : Known → List ℕ → Type 0) where
 
 -- 3. Octets of a token.
 
-pub no_octets : (os : List ℕ) → length os ≡ 0 → os ≡ []
-no_octets [] h = refl
-no_octets (o ∷ os) h = absurd (omega arith)
-
 module _ (ByOctet ByEnd : Type 0) (Rest : Known → List ℕ → Type 0) where
   abbrev S : Known → List ℕ → List Placed → Type 0
   S = Sees ByOctet ByEnd Rest
@@ -118,7 +115,7 @@ module _ (ByOctet ByEnd : Type 0) (Rest : Known → List ℕ → Type 0) where
       go (Next k) f h more = sees_on s o (os ++ rest) t ts k f (more k h (let u = feed_used t.place s k o f in omega (arith, u, n)))
       go (Given x k) f h more =
           let u = given_one t.place o s s' t.lexeme (f ∙ h) in
-          let none : os ≡ [] = no_octets os (omega (arith, u, n)) in
+          let none : os ≡ [] = no_more os (omega (arith, u, n)) in
           subst (λ y. S s (o ∷ y ++ rest) (t ∷ ts)) (sym none) (q s o (f ∙ h))
       go (Left x k) f h more = absurd cc
       go (Refused i x) f h more = absurd cc

@@ -17,12 +17,11 @@ use Rattle.ion_tokens.specs.declared.mode.TokenKind.TheVariants as kinds
 use Rattle.ion_tokens.specs.machine.Bounds.{is_idle}
 use Rattle.ion_tokens.specs.machine.Ahead.{is_quoting, is_quoted, is_sane, is_closing}
 use Rattle.ion_tokens.specs.machine.Said.{said}
-use Rattle.ion_tokens.specs.machine.Scanning.{Known, Outcome, Next, Given, Left, feed, follow, at_end}
+use Rattle.ion_tokens.specs.machine.Scanning.{Known, Outcome, Next, Given, Left, feed, at_end}
 use Rattle.ion_tokens.specs.Bodies.{Content, Mark', IsBody}
 use Rattle.ion_tokens.specs.Lexed.{Placed}
-use Rattle.ion_tokens.specs.Lexemes.{Lexeme}
-use Rattle.ion_tokens.specs.declared.mode.Place.{Place}
-use Rattle.ion_tokens.proofs.runs.Runs.{feed_used, given_used, left_used}
+use Rattle.ion_tokens.proofs.runs.Runs.{feed_used}
+use Rattle.ion_tokens.proofs.runs.Splits.{given_one, left_one}
 use Rattle.ion_text.specs.declared.state.Now.{Now}
 use Rattle.ion_text.specs.declared.state.Now.TheVariants as nows
 use Rattle.ion_text.specs.Deciding.{HasRow}
@@ -457,13 +456,6 @@ module _ (g : Catalog) (l : Limits) where
             go false w = settled (settle g l r) refl w (settle_same g l r.start r.context r.frames r.notes r.now)
                 (settle_still g l r.start r.context r.frames r.notes r.now) (settle_settled g l r.start r.context r.frames r.notes r.now ok) (h.4 (shut_off w))
 
-    -- how many octets a token that one ends or leaves has used
-    given_one : (p : Place) (s s' : Known) (o : ℕ) (x : Lexeme) → feed p s o ≡ Given x s' → s'.used ≡ s.used + 1
-    given_one p s s' o x i = let k = given_used p (o ∷ []) s s' x (sym (ap (λ y. follow y (λ t. Next t)) i)) in omega (arith, k.0, k.1)
-
-    left_one : (p : Place) (s s' : Known) (o : ℕ) (x : Lexeme) → feed p s o ≡ Left x s' → s'.used ≡ s.used
-    left_one p s s' o x i = let k = left_used p (o ∷ []) s s' x (sym (ap (λ y. follow y (λ t. Next t)) i)) in omega (arith, k.0, k.1)
-
     -- Octets in which the scanner meets such tokens lead there.
     pub reached : (s : Known) (os : List ℕ) (ts : List Placed) → S s os ts → is_sane s.mode ≡ true → Fine s → Exact s → Operators ts → (to : ℕ)
         → to + length os ≡ total → s.used ≡ to → (r : Reading) → TopCalm s r → H r ts → Good (run g l to (with_scan s r) os).now
@@ -502,7 +494,7 @@ module _ (g : Catalog) (l : Limits) where
         let here : feed (place r) s o ≡ Given t.lexeme s' = ap (λ q. feed q s o) (sym h.0) ∙ i in
         let f = finely_as (place r) s o (Given t.lexeme s') fine here in
         let two = given_far t.lexeme f.1 in
-        let used = given_one (place r) s s' o t.lexeme here in
+        let used = given_one (place r) o s s' t.lexeme here in
         let rest' : to + 1 + length os ≡ total = omega (arith, all) in
         used_run s o to (λ n. run g l (to + 1) n os) (Given t.lexeme s') t ts r h here tt (λ top. calm_now r.now s.mode (calm top))
         (λ w. sym (given_agrees r.frames r.now s' t.lexeme h.1 (said_body t.lexeme.kind t.lexeme.octets h.1 h.2) two) ∙ w)
@@ -511,6 +503,6 @@ module _ (g : Catalog) (l : Limits) where
     reached _ _ _ (sees_left s o os t ts s' i m) sane fine ex ops to all at r calm h =
         let here : feed (place r) s o ≡ Left t.lexeme s' = ap (λ q. feed q s o) (sym h.0) ∙ i in
         let f = finely_as (place r) s o (Left t.lexeme s') fine here in
-        let used = left_one (place r) s s' o t.lexeme here in
+        let used = left_one (place r) o s s' t.lexeme here in
         left_run s s' o t sane fine ex (ops.0, tt) to os ts r h here calm (never_last s' (o ∷ os) ts m)
         (λ n c d. reached s' (o ∷ os) ts m f.3 f.0 (exactly_as g l (place r) s o (Left t.lexeme s') ex here) ops.1 to all (omega (arith, used, at)) n c d)

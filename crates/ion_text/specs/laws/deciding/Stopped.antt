@@ -31,14 +31,14 @@ use Rattle.ion_text.specs.machine.EachToken.{Reading, Turn, goes, gives, refuses
 use Rattle.ion_text.specs.machine.Pieces.{followed}
 use Rattle.ion_text.specs.machine.TokenLists.{reads}
 use Rattle.ion_text.specs.machine.Run.{State, Effect, uses, fails, eats, takes, noticed, on_scan, on_settled, reaches, with_scan, begun, run, run_on}
-use Rattle.ion_text.specs.laws.reading.complete.Found.{lexes_operators, next_is}
+use Rattle.ion_text.specs.laws.reading.complete.Found.{lexes_operators, next_is, no_more}
 use Rattle.ion_text.specs.laws.reading.complete.Meets.{follows_as}
 use Rattle.ion_text.specs.laws.showing.refused.Ahead.{last_parted, octet_colons}
 use Rattle.ion_text.specs.laws.showing.refused.Halts.{symbol_colons}
 use Rattle.ion_text.specs.laws.showing.refused.Told.{given_colons}
 use Rattle.ion_text.specs.laws.showing.tokens.Closing.{colons_close}
 use Rattle.ion_text.specs.laws.deciding.AtEnd.{last_ends}
-use Rattle.ion_text.specs.laws.deciding.Finding.{EndsThere, IsLeft, ends_there, no_octets, tokens_seen}
+use Rattle.ion_text.specs.laws.deciding.Finding.{EndsThere, IsLeft, ends_there, tokens_seen}
 use Rattle.ion_text.specs.laws.deciding.Fronts.{origin, HasEnded}
 use Rattle.ion_text.specs.laws.deciding.Heading.{Never, refused_heads, waiting_heads}
 use Rattle.ion_text.specs.laws.deciding.OneOctet.{Seen, refused, unfollowed, behind_kind, seen, waited_ended}
@@ -128,7 +128,7 @@ module _ (g : Catalog) (l : Limits) (u : List ℕ) (e : Reason) (row : HasRow e)
       given : (k : Known) (o : ℕ) (n : Known) (rest : List ℕ) → feed t.place k o ≡ Given t.lexeme n → IsLeft c i left n rest
           → Sees (Unit {0}) ⊥ Nothing' k (o ∷ rest) (t ∷ [])
       given k o n rest f w =
-          let none : rest ≡ [] = no_octets rest (omega (
+          let none : rest ≡ [] = no_more rest (omega (
             arith,
             ap length w.cut,
             length-append w.ahead rest,
@@ -141,7 +141,7 @@ module _ (g : Catalog) (l : Limits) (u : List ℕ) (e : Reason) (row : HasRow e)
           → Sees (Unit {0}) ⊥ Nothing' k (o ∷ rest) (t ∷ [])
       leaves k o n rest f w =
           let none : rest ≡ [] =
-          no_octets rest (omega (arith, ap length w.cut, length-append w.ahead (o ∷ rest), size, behind_most t.lexeme.kind)) in
+          no_more rest (omega (arith, ap length w.cut, length-append w.ahead (o ∷ rest), size, behind_most t.lexeme.kind)) in
           subst (λ y. Sees (Unit {0}) ⊥ Nothing' k (o ∷ y) (t ∷ [])) (sym none) (last_left k o t n tt f)
 
 -- 4. Rows whose last token waits for `::`, which doesn't follow.

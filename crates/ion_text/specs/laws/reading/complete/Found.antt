@@ -88,7 +88,8 @@ last_met (o ∷ os) s s' t e f =
     let h = followed (feed t.place s o) (λ k. run t.place os k) s' e in
     goes_on s o os t [] h.0 h.1 (last_met os h.0 s' t h.2 f)
 
-no_more : (os : List ℕ) → length os ≡ 0 → os ≡ []
+-- so many octets are none
+pub no_more : (os : List ℕ) → length os ≡ 0 → os ≡ []
 no_more [] h = refl
 no_more (o ∷ os) h = absurd (omega arith)
 
