@@ -1,0 +1,50 @@
+-- The definitions that the clauses of these calls cite, and the types that they speak of, by the name of this crate.
+pub use Rattle.ion_atoms.specs.Kinds
+pub use Rattle.ion_atoms.specs.Octets
+pub use Rattle.ion_atoms.specs.Reasons
+pub use Rattle.ion_atoms.specs.declared.kind.Kind
+pub use Rattle.ion_atoms.specs.declared.refusal.Reason
+pub use Rattle.ion_atoms.specs.declared.refusal.Refusal
+pub use Rattle.ion_binary.specs.Output as BinaryOutput
+pub use Rattle.ion_docs.specs.Conversion
+pub use Rattle.ion_docs.specs.Converted
+pub use Rattle.ion_docs.specs.Documents
+pub use Rattle.ion_docs.specs.Encodings
+pub use Rattle.ion_docs.specs.Formats
+pub use Rattle.ion_docs.specs.Headline
+pub use Rattle.ion_docs.specs.Paths as PathTexts
+pub use Rattle.ion_lines.specs.Lines
+pub use Rattle.ion_lines.specs.declared.position.Position
+pub use Rattle.ion_model.specs.Holds
+pub use Rattle.ion_model.specs.Kept
+pub use Rattle.ion_model.specs.Measures
+pub use Rattle.ion_model.specs.Normal
+pub use Rattle.ion_model.specs.Order
+pub use Rattle.ion_model.specs.Parting
+pub use Rattle.ion_model.specs.Same
+pub use Rattle.ion_model.specs.declared.path.Part
+pub use Rattle.ion_model.specs.declared.value.Field
+pub use Rattle.ion_model.specs.declared.value.Payload
+pub use Rattle.ion_model.specs.declared.value.Value
+pub use Rattle.ion_streams.specs.Checked
+pub use Rattle.ion_streams.specs.Compared
+pub use Rattle.ion_streams.specs.Listing
+pub use Rattle.ion_streams.specs.Loaded
+pub use Rattle.ion_streams.specs.Outcomes
+pub use Rattle.ion_streams.specs.declared.comparison.Side
+pub use Rattle.ion_streams.specs.declared.comparison.Verdict
+pub use Rattle.ion_symtab.specs.Cause
+pub use Rattle.ion_symtab.specs.Heard
+pub use Rattle.ion_symtab.specs.Told
+pub use Rattle.ion_symtab.specs.Took
+pub use Rattle.ion_symtab.specs.declared.catalog.Catalog
+pub use Rattle.ion_symtab.specs.declared.fault.Fault
+pub use Rattle.ion_symtab.specs.declared.inlet.Inlet
+pub use Rattle.ion_symtab.specs.declared.limits.Limits
+pub use Rattle.ion_symtab.specs.declared.outlet.Outlet
+pub use Rattle.ion_symtab.specs.declared.target.Target
+pub use Rattle.ion_text.specs.Output as TextOutput
+pub use Rattle.ion_values.specs.Each
+pub use Rattle.ion_values.specs.Given
+pub use Rattle.ion_values.specs.Messages
+pub use Rattle.ion_values.specs.declared.stop.Stop
