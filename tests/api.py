@@ -2,7 +2,8 @@
 """Writes docs/API.md, or says whether it is up to date: tests/api.py [--check].
 
 It has every public type and call of the library crates, by its signature and its comment. What a call promises
-stands in its contract, in the file that is named. The status is 1 where --check finds that a line has changed.
+stands in its contract, in the file that is named. The status is 1 where --check finds that a line has changed, or
+an item as below.
 
 --check also looks for what is public for no reason that is written down: of every library each type and call is
 one of PLAIN, or a law that docs/PROVED.md names, or has a row in the table of docs/DECISIONS.md; and that table
