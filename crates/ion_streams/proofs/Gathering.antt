@@ -11,12 +11,12 @@ use Rattle.ion_symtab.specs.declared.inlet.Inlet.{Ghosts as Inlet}
 use Rattle.ion_symtab.specs.declared.items.Items.{Ghosts as Items}
 use Rattle.ion_streams.specs.reading.Read.{IsReady, IsWithin}
 use Rattle.ion_streams.specs.reading.Gathered.{GathersAt, IsJoinCause}
-use Rattle.ion_streams.specs.reading.Standing.{IfOpen, IsOpen, IfClosed, work_of, Stood}
+use Rattle.ion_streams.specs.reading.Standing.{IfOpen, IsOpen, IfClosed, work_of, Stood, StoodEach}
 use Rattle.ion_streams.specs.declared.source.Standing.{Standing}
 use Rattle.ion_streams.specs.declared.source.Standing.TheVariants.{Open, Ended, Refused}
 use Rattle.ion_streams.proofs.Driven.{Driven}
 use Rattle.ion_streams.proofs.Joined.{gathers_values}
-use Rattle.ion_streams.proofs.Unfailed.{StandsHeard, StandsHeardSince}
+use Rattle.ion_streams.proofs.Unfailed.{StandsHeard}
 
 -- a fault of joining pieces is one of reading
 pub join_cause : {S : Type 0} (R : Inlet S) (reads : ℕ) (first now : S) (fault : Fault) → IsJoinCause R now fault → IsReadCause R reads first now fault
@@ -26,6 +26,12 @@ join_cause R reads first now TooManyReads cause = absurd cause
 join_cause R reads first now Write cause = absurd cause
 join_cause R reads first now TooLarge cause = absurd cause
 join_cause R reads first now faults.Open cause = absurd cause
+
+-- where a document is open, anything is so of one that is closed
+pub open_closed : {X : Type 0} (place : Standing X) (P : Type 0) → IsOpen place → IfClosed place P
+open_closed (Open source) P opened = tt
+open_closed Ended P opened = absurd opened
+open_closed (Refused r) P opened = absurd opened
 
 module _ {S X : Type 0} (R : Inlet S) (I : Items X) (old now : S) where
   -- either nothing changed, or the device was asked and didn't fail
@@ -62,18 +68,6 @@ module _ {S X : Type 0} (R : Inlet S) (I : Items X) (old now : S) where
   at_within reads first Ended after h within = subst (λ x. IfOpen x (IsWithin R reads first now)) (sym h.1) tt
   at_within reads first (Refused r) after h within = subst (λ x. IfOpen x (IsWithin R reads first now)) (sym h.1) tt
 
-  pub at_open : (place after : Standing X) → GathersAt R I old now place after → IsOpen place → IsOpen after
-  at_open (Open before) (Open after) h opened = tt
-  at_open (Open before) Ended h opened = absurd h
-  at_open (Open before) (Refused r) h opened = absurd h
-  at_open Ended after h opened = absurd opened
-  at_open (Refused r) after h opened = absurd opened
-
-  pub at_closed : (place after : Standing X) (P : Type 0) → GathersAt R I old now place after → IfClosed after P → IfClosed place P
-  at_closed (Open before) after P h closed = tt
-  at_closed Ended after P h closed = subst (λ x. IfClosed x P) h.1 closed
-  at_closed (Refused r) after P h closed = subst (λ x. IfClosed x P) h.1 closed
-
   pub at_stood : (g : Catalog) (l : Limits) (first : S) (place after : Standing X) (s : List Value) → GathersAt R I old now place after
       → Stood R I g l first old place s → Stood R I g l first now after s
   at_stood g l first (Open before) (Open after) s h stood = gathers_values R I old now before after h g l first s stood
@@ -82,18 +76,18 @@ module _ {S X : Type 0} (R : Inlet S) (I : Items X) (old now : S) where
   at_stood g l first Ended after s h stood = rw (h.0, h.1) stood
   at_stood g l first (Refused r) after s h stood = rw (h.0, h.1) stood
 
+  pub at_each : (g : Catalog) (l : Limits) (first : S) (place after : Standing X) (given : List (Value × ℕ)) → GathersAt R I old now place after
+      → StoodEach R I g l first old place given → StoodEach R I g l first now after given
+  at_each g l first (Open before) (Open after) given h stood = h.reads g l first given stood
+  at_each g l first (Open before) Ended given h stood = absurd h
+  at_each g l first (Open before) (Refused r) given h stood = absurd h
+  at_each g l first Ended after given h stood = rw (h.0, h.1) stood
+  at_each g l first (Refused r) after given h stood = rw (h.0, h.1) stood
+
   pub at_heard : (place after : Standing X) → GathersAt R I old now place after → StandsHeard I R place old → StandsHeard I R after now
   at_heard place after h heard = go (at_either place after h)
     where
       go : ((now ≡ old) × (after ≡ place)) ⊎ (R.has_failed now ≡ false) → StandsHeard I R after now
-      go (inl both) = rw (both.0, both.1) heard
-      go (inr fine) = record { either = inr fine }
-
-  pub at_heard_since : (first : S) (place after : Standing X) → GathersAt R I old now place after → StandsHeardSince I R place first old
-      → StandsHeardSince I R after first now
-  at_heard_since first place after h heard = go (at_either place after h)
-    where
-      go : ((now ≡ old) × (after ≡ place)) ⊎ (R.has_failed now ≡ false) → StandsHeardSince I R after first now
       go (inl both) = rw (both.0, both.1) heard
       go (inr fine) = record { either = inr fine }
 

@@ -13,3 +13,4 @@ pub mod SideBySide
 pub mod Alongside
 pub mod Fronts
 pub mod Loads
+pub mod Turns

@@ -47,7 +47,7 @@ catalog_err before (x ∷ given) later refusal e =
     (λ more. catalog_err more given later refusal) e
 
 -- the values given so far are the first that the octets give, whatever follows
-front_of : (T : List ℕ → Trace) → ((u w : List ℕ) → Grows (T u) (T (u ++ w))) → (awaits : Option ℕ) (u left more : List ℕ) (given : List (Value × ℕ))
+pub front_of : (T : List ℕ → Trace) → ((u w : List ℕ) → Grows (T u) (T (u ++ w))) → (awaits : Option ℕ) (u left more : List ℕ) (given : List (Value × ℕ))
     → Begins awaits left →
     (IsNone awaits → (T u).given ≡ given) → IfSome awaits (λ octet. IsFront given (T (u ++ octet ∷ [])).given) → IsFront given (T ((u ++ left) ++ more)).given
 front_of T settled None u left more given begins so_far with_next =

@@ -1,5 +1,5 @@
 -- What is told of the values of a document.
-use Rattle.std.proofs.Common.{◌≡◌, ℕ, List, [], ◌∷◌, ◌++◌, Result, Ok, Err, IfOk, IfErr, Option, Some, None, option_map, option_to_list, refl, ap, sym, subst, ◌∙◌, append-nil}
+use Rattle.std.proofs.Common.{◌≡◌, ℕ, List, [], ◌∷◌, ◌++◌, Result, Ok, Err, IfOk, IfErr, OnErr, Option, Some, None, option_map, option_to_list, refl, ap, sym, subst, ◌∙◌, append-nil}
 use Rattle.std.proofs.lemmas.Option.{same_Some}
 use Rattle.ion_model.specs.declared.value.Value.{Value}
 use Rattle.ion_symtab.specs.declared.catalog.Catalog.{Catalog}
@@ -138,3 +138,8 @@ ok_by (Err e) P Q go h = h
 pub err_by : {A E : Type 0} (result : Result A E) (P Q : E → Type 0) → ((e : E) → P e → Q e) → IfErr result P → IfErr result Q
 err_by (Ok a) P Q go h = h
 err_by (Err e) P Q go h = go e h
+
+-- the same whatever the fault is
+pub fault_by : {A E : Type 0} (result : Result A E) (P Q : Type 0) → (P → Q) → OnErr result P → OnErr result Q
+fault_by (Ok a) P Q go h = h
+fault_by (Err e) P Q go h = go h

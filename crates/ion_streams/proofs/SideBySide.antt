@@ -1,18 +1,22 @@
 -- Two documents that are read in turn.
-use Rattle.std.proofs.Common.{◌⊎◌, inl, inr, ℕ, ◌+◌, ◌*◌, ◌≤◌, ◌^◌, List, [], length, arith}
+use Rattle.std.proofs.Common.{◌≡◌, ◌⊎◌, ℕ, ◌+◌, ◌*◌, ◌<◌, ◌≤◌, ◌^◌, List, [], ◌∷◌, ◌++◌, length, Result, Ok, Option, None, IfSome, IsNone, option_map, option_to_list}
 use Rattle.ion_model.specs.declared.value.Value.{Value}
 use Rattle.ion_symtab.specs.declared.catalog.Catalog.{Catalog}
 use Rattle.ion_symtab.specs.declared.limits.Limits.{Limits}
+use Rattle.ion_symtab.specs.Trace.{IsFront, Grows}
+use Rattle.ion_symtab.specs.declared.fault.Fault.{Fault}
 use Rattle.ion_symtab.specs.declared.inlet.Inlet.{Ghosts as Inlet}
 use Rattle.ion_symtab.specs.declared.items.Items.{Ghosts as Items}
-use Rattle.ion_streams.specs.reading.Read.{IsReady, IsWithin}
-use Rattle.ion_streams.specs.reading.Gathered.{GathersAt}
-use Rattle.ion_streams.specs.reading.Standing.{IfOpen, IsOpen, work_of, reads_of, Stood}
+use Rattle.ion_streams.specs.Formats.{format_of}
+use Rattle.ion_streams.specs.reading.Read.{IsReady, IsWithin, HandedOn, Sought}
+use Rattle.ion_streams.specs.reading.Standing.{IfOpen, IsOpen, IfClosed, work_of, reads_of, Stood, StoodEach, GaveNext}
 use Rattle.ion_streams.specs.reading.Courses.{count_of}
 use Rattle.ion_streams.specs.declared.comparison.Course.{Course}
 use Rattle.ion_streams.specs.declared.source.Standing.{Standing}
+use Rattle.ion_streams.specs.declared.source.Standing.TheVariants.{Refused}
 use Rattle.ion_streams.proofs.Courses.{Meets}
-use Rattle.ion_streams.proofs.Gathering.{at_ready, at_less, at_within, at_open, at_closed, at_stood, at_heard, at_heard_since}
+use Rattle.ion_streams.proofs.Passes.{stood_next, closed_same, none_of}
+use Rattle.ion_streams.proofs.Turns.{WasAsked, Turn, ahead, level_on, left_on, right_on}
 use Rattle.ion_streams.proofs.Unfailed.{StandsHeard, StandsHeardSince}
 
 module _ {S T X Y : Type 0} (L : Inlet S) (R : Inlet T) (I : Items X) (J : Items Y) (first_left : S) (first_right : T) (left_begun : Standing X)
@@ -35,52 +39,74 @@ module _ {S T X Y : Type 0} (L : Inlet S) (R : Inlet T) (I : Items X) (J : Items
         → Stood L I left_catalog left_limits first_left first_left left_begun [] → Stood R J right_catalog right_limits first_right first_right right_begun []
         → (s : List Value) × (t : List Value) × Stood L I left_catalog left_limits first_left left left_place s
         × Stood R J right_catalog right_limits first_right right right_place t × Meets course left_place right_place s t
+        × Turn L R I J left_catalog right_catalog left_limits right_limits first_left first_right left_place left right s t
 
-  module _ (course : Course) (left left_now : S) (right right_now : T) (left_place left_after : Standing X) (right_place right_after : Standing Y) where
-    opened : GathersAt L I left left_now left_place left_after → GathersAt R J right right_now right_place right_after → IsOpen left_place ⊎ IsOpen right_place
-        → IsOpen left_after ⊎ IsOpen right_after
-    opened one other (inl o) = inl (at_open L I left left_now left_place left_after one o)
-    opened one other (inr o) = inr (at_open R J right right_now right_place right_after other o)
+  -- both stayed as they were
+  pub both_still : (course course_now : Course) (left : S) (right : T) (left_place left_after : Standing X) (right_place right_after : Standing Y)
+      → (course_now ≡ course) × (left_after ≡ left_place) × (right_after ≡ right_place) → SideBySide course left right left_place right_place
+      → SideBySide course_now left right left_after right_after
+  both_still course course_now left right left_place left_after right_place right_after stays i = rw (stays.0, stays.1, stays.2) i
 
-    -- pieces were joined in both
-    pub both_gathered : SideBySide course left right left_place right_place → GathersAt L I left left_now left_place left_after
-        → GathersAt R J right right_now right_place right_after → L.calls_made left_now + reads_of left_after ≤ L.calls_made left + reads_of left_place
-        → length (L.handed left_now) + 4096 * reads_of left_after ≤ length (L.handed left) + 4096 * reads_of left_place
-        → R.calls_made right_now + reads_of right_after ≤ R.calls_made right + reads_of right_place
-        → length (R.handed right_now) + 4096 * reads_of right_after ≤ length (R.handed right) + 4096 * reads_of right_place
-        → SideBySide course left_now right_now left_after right_after
-    both_gathered i one other left_calls left_octets right_calls right_octets =
-        let left_asked = i.left_asked in
-        let right_asked = i.right_asked in
-        let left_handed = i.left_handed in
-        let right_handed = i.right_handed in
-        let bound = i.bound in
-        let left_less = at_less L I left left_now left_place left_after one in
-        let right_less = at_less R J right right_now right_place right_after other in
+  module _ (left_catalog right_catalog : Catalog) (left_limits right_limits : Limits) where
+    -- the left was read on, and gave v or its end
+    pub record LeftOn (course : Course) (left : S) (right : T) (left_place left_after : Standing X) (right_place : Standing Y) (v : Option Value) : Type 0 where
+      pub s : List Value
+      pub t : List Value
+      pub left_stood : Stood L I left_catalog left_limits first_left left left_after (s ++ option_to_list v)
+      pub right_stood : Stood R J right_catalog right_limits first_right right right_place t
+      pub meets : Meets course left_place right_place s t
+      pub ahead : IfOpen left_after (λ source. length t < length (s ++ option_to_list v))
+      pub asked : WasAsked L R I J left_catalog right_catalog left_limits right_limits first_left first_right left_after left right
+
+    pub left_goes : ((u w : List ℕ) → Grows (I.trace left_catalog left_limits u) (I.trace left_catalog left_limits (u ++ w))) →
+        (course : Course) (left left_now : S) (right : T) (left_place left_after : Standing X) (right_place : Standing Y) (found : Option (Value × ℕ))
+        (v : Option Value) → SideBySide course left right left_place right_place →
+        Stood L I left_catalog left_limits first_left first_left left_begun [] → Stood R J right_catalog right_limits first_right first_right right_begun [] →
+        v ≡ option_map (λ (x : Value × ℕ). x.0) found →
+        IfClosed left_place ((◌≡◌ {A = Result (Option (Value × ℕ)) Fault} (Ok found) (Ok None)) × (left_now ≡ left) × (left_after ≡ left_place)) →
+        ((given : List (Value × ℕ)) → StoodEach L I left_catalog left_limits first_left left left_place given
+        → GaveNext (λ (v : Value). v) L I left_catalog left_limits first_left left_now left_after given found) →
+        (found ≡ None → IfOpen left_after (λ source. ⊥)) → HandedOn L left left_now → LeftOn course left_now right left_place left_after right_place v
+    left_goes settled course left left_now right left_place left_after right_place found v i a b is closed gives ends on =
+        let w = i.stood left_catalog right_catalog left_limits right_limits a b in
         record {
-          left_ready = at_ready L I left left_now left_place left_after one i.left_ready;
-          right_ready = at_ready R J right right_now right_place right_after other i.right_ready;
-          left_within = λ reads h. at_within L I left left_now reads first_left left_place left_after one (i.left_within reads h);
-          right_within = λ reads h. at_within R J right right_now reads first_right right_place right_after other (i.right_within reads h);
-          left_asked = omega (arith, left_asked, left_calls);
-          right_asked = omega (arith, right_asked, right_calls);
-          left_handed = omega (arith, left_handed, left_octets);
-          right_handed = omega (arith, right_handed, right_octets);
-          left_heard = at_heard L I left left_now left_place left_after one i.left_heard;
-          right_heard = at_heard_since R J right right_now first_right right_place right_after other i.right_heard;
-          bound = omega (arith, bound, left_less, right_less);
-          open_still = opened one other i.open_still;
-          stood = λ left_catalog right_catalog left_limits right_limits a b.
-              let w = i.stood left_catalog right_catalog left_limits right_limits a b in
-              let meets = w.4 in (
-                w.0,
-                w.1,
-                at_stood L I left left_now left_catalog left_limits first_left left_place left_after w.0 one w.2,
-                at_stood R J right right_now right_catalog right_limits first_right right_place right_after w.1 other w.3,
-                record {
-                  onward = λ s' t' a b. meets.onward s' t' (at_closed L I left left_now left_place left_after _ one a)
-                      (at_closed R J right right_now right_place right_after _ other b);
-                  counted = meets.counted;
-                },
-              );
+          s = w.0;
+          t = w.1;
+          left_stood = stood_next L I left_catalog left_limits first_left left left_now left_place left_after w.0 found v is closed gives w.2;
+          right_stood = w.3;
+          meets = w.4;
+          ahead = ahead left_place left_after w.0 w.1 v w.5.level (closed_same left left_now left_place left_after found v is closed)
+              (λ none. ends (none_of found v is none));
+          asked = left_on L R I J left_catalog right_catalog left_limits right_limits first_left first_right settled left_place left_after left left_now right _
+              closed on w.5.asked;
+        }
+
+    -- and then the right
+    pub record BothOn (left : S) (right : T) (left_after : Standing X) (right_after : Standing Y) (s t : List Value) : Type 0 where
+      pub left_stood : Stood L I left_catalog left_limits first_left left left_after s
+      pub right_stood : Stood R J right_catalog right_limits first_right right right_after t
+      pub turn : Turn L R I J left_catalog right_catalog left_limits right_limits first_left first_right left_after left right s t
+
+    pub right_goes : ((u w : List ℕ) → Grows (I.trace left_catalog left_limits u) (I.trace left_catalog left_limits (u ++ w))) →
+        ((r : X) (u : List ℕ) (given : List (Value × ℕ)) → I.stands r u given → IsNone (I.awaits r)
+        → (I.trace (I.catalog r) (I.limits r) u).given ≡ given) →
+        ((r : X) (u : List ℕ) (given : List (Value × ℕ)) → I.stands r u given
+        → IfSome (I.awaits r) (λ octet. IsFront given (I.trace (I.catalog r) (I.limits r) (u ++ octet ∷ [])).given)) →
+        (course : Course) (left : S) (right right_now : T) (left_place left_after : Standing X) (right_place right_after : Standing Y) (v : Option Value)
+        (found : Option (Value × ℕ)) (w : Option Value) (on : LeftOn course left right left_place left_after right_place v) → IfOpen left_after (IsReady I) →
+        ((refusal : _) → left_after ≡ Refused refusal → ⊥) → w ≡ option_map (λ (x : Value × ℕ). x.0) found →
+        IfClosed right_place ((◌≡◌ {A = Result (Option (Value × ℕ)) Fault} (Ok found) (Ok None)) × (right_now ≡ right) × (right_after ≡ right_place)) →
+        ((given : List (Value × ℕ)) → StoodEach R J right_catalog right_limits first_right right right_place given
+        → GaveNext (λ (v : Value). v) R J right_catalog right_limits first_right right_now right_after given found) →
+        Sought R (format_of J right_catalog right_limits) first_right right right_now (length on.t)
+        → BothOn left right_now left_after right_after (on.s ++ option_to_list v) (on.t ++ option_to_list w)
+    right_goes settled so_far with_next course left right right_now left_place left_after right_place right_after v found w on ready kept is closed gives sought =
+        record {
+          left_stood = on.left_stood;
+          right_stood = stood_next R J right_catalog right_limits first_right right right_now right_place right_after on.t found w is closed gives on.right_stood;
+          turn = record {
+            level = level_on left_after (on.s ++ option_to_list v) on.t w on.ahead;
+            asked = right_on L R I J left_catalog right_catalog left_limits right_limits first_left first_right settled so_far with_next left_after left right
+                right_now (on.s ++ option_to_list v) on.t on.left_stood ready kept on.ahead sought on.asked;
+          };
         }

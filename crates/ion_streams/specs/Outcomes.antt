@@ -1,5 +1,5 @@
 -- How a document on a device can turn out.
-use Rattle.std.specs.Prelude.{◌≡◌, ℕ, ◌≤◌, ◌⊎◌, List, [], ◌++◌, length, take, Bool, true, Option, Some, None, Result, Ok, Err}
+use Rattle.std.specs.Prelude.{◌≡◌, ℕ, ◌≤◌, ◌⊎◌, List, [], ◌∷◌, ◌++◌, length, take, Bool, true, Option, Some, None, Result, Ok, Err}
 use Rattle.ion_model.specs.declared.value.Value.{Value}
 use Rattle.ion_atoms.specs.declared.refusal.Refusal.{Refusal}
 use Rattle.ion_atoms.specs.declared.refusal.Reason.TheVariants.{Incomplete}
@@ -8,6 +8,10 @@ use Rattle.ion_symtab.specs.Trace.{Trace, plain, given_at}
 use Rattle.ion_symtab.specs.Heard.{Heard, MayFollow}
 use Rattle.ion_symtab.specs.declared.inlet.Inlet.{Ghosts as Inlet}
 use Rattle.ion_streams.specs.Formats.{Format}
+
+-- between old and now the device answered its end at most once, and then behind all octets that it had handed over
+abbrev pub AtOneEnd : {S : Type 0} → Inlet S → S → S → Type 0
+AtOneEnd R old now = (R.ends now ≡ R.ends old) ⊎ (R.ends now ≡ R.ends old ++ length (R.handed now) ∷ [])
 
 -- what a reader says of octets is this refusal: that of a step, or else that of the end
 abbrev pub SaysRefusal : Trace → Refusal → Type 0

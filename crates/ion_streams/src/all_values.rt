@@ -5,7 +5,7 @@ ghost use Rattle.ion_atoms.specs.declared.refusal.Reason.TheVariants as reasons;
 ghost use Rattle.ion_symtab.specs.Cause.{IsReadCause};
 ghost use Rattle.ion_streams.specs.Formats.{format_of};
 ghost use Rattle.ion_streams.specs.reading.Read.{IsFresh};
-ghost use Rattle.ion_streams.specs.Outcomes.{IsRefused, ToldDocument, ToldRefused};
+ghost use Rattle.ion_streams.specs.Outcomes.{AtOneEnd, IsRefused, ToldDocument, ToldRefused};
 
 use crate::source::{Source, Standing};
 use ion_model::{Reason, Refusal, Value};
@@ -29,6 +29,7 @@ pub fn read_items<I: Items + Drop, R: Inlet>(
         IfOk result (λ answer. MatchResult answer
         (λ values. ToldDocument R.Inlet F reader.old reader.new values.items)
         (λ refusal. (s : List Value) × ToldRefused R.Inlet F reader.old reader.new s refusal)) }
+    ensures one_end { AtOneEnd R.Inlet reader.old reader.new }
     ensures few_calls { R.calls_made reader.new ≤ R.calls_made reader.old + reads }
     ensures few_octets { length (R.handed reader.new) ≤ length (R.handed reader.old) + 4096 *
         reads }

@@ -4,6 +4,7 @@ ghost use Rattle.ion_symtab.specs.Cause.{IsReadCause};
 ghost use Rattle.ion_streams.specs.Formats.{format_of};
 ghost use Rattle.ion_streams.specs.reading.Read.{IsFresh};
 ghost use Rattle.ion_streams.specs.Checked.{IsChecked};
+ghost use Rattle.ion_streams.specs.Outcomes.{AtOneEnd};
 
 use crate::source::{Source, Standing};
 use ion_model::Refusal;
@@ -25,6 +26,7 @@ pub fn check_items<I: Items + Drop, R: Inlet>(
     requires reads { reads ≤ 2 ^ 32 }
     ensures verdict { IfOk result (IsChecked R.Inlet
         (format_of I.Items (I.catalog items) (I.limits items)) reader.old reader.new) }
+    ensures one_end { AtOneEnd R.Inlet reader.old reader.new }
     ensures few_calls { R.calls_made reader.new ≤ R.calls_made reader.old + reads }
     ensures few_octets { length (R.handed reader.new) ≤ length (R.handed reader.old) + 4096 *
         reads }

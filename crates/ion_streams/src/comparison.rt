@@ -8,6 +8,8 @@ ghost use Rattle.ion_streams.specs.Formats.{format_of};
 ghost use Rattle.ion_streams.specs.reading.Standing.{IfOpen, IsOpen, StandsUnread, work_of, reads_of, Stood};
 ghost use Rattle.ion_streams.specs.reading.Read.{IsFresh, IsReady, IsWithin};
 ghost use Rattle.ion_streams.specs.Compared.{IsCompared};
+ghost use Rattle.ion_streams.specs.InTurn.{IsInTurn};
+ghost use Rattle.ion_streams.specs.Outcomes.{AtOneEnd};
 ghost use Rattle.ion_streams.specs.reading.Courses.{IsMet, count_of, verdict_of};
 
 use crate::alike::{Alike, Unseen};
@@ -193,6 +195,15 @@ fn compare_places<A: Alike<I, J>, I: Items + Drop, J: Items + Drop, L: Inlet, R:
         Stood R.Inlet J.Items h l right.old right.old right_place.old [] →
         IsCompared L.Inlet R.Inlet (format_of I.Items g k) (format_of J.Items h l)
         left.old left.new right.old right.new verdict) }
+    ensures in_turn { (g h : Catalog) (k l : Limits) →
+        Stood L.Inlet I.Items g k left.old left.old left_place.old [] →
+        Stood R.Inlet J.Items h l right.old right.old right_place.old [] →
+        IsInTurn L.Inlet R.Inlet (format_of I.Items g k) (format_of J.Items h l)
+        left.old left.new right.old right.new }
+    ensures one_end { (g h : Catalog) (k l : Limits) →
+        Stood L.Inlet I.Items g k left.old left.old left_place.old [] →
+        Stood R.Inlet J.Items h l right.old right.old right_place.old [] →
+        AtOneEnd L.Inlet left.old left.new × AtOneEnd R.Inlet right.old right.new }
     ensures few_calls { (L.calls_made left.new ≤ L.calls_made left.old + reads_of left_place.old)
         × (R.calls_made right.new ≤ R.calls_made right.old + reads_of right_place.old) }
     ensures few_octets { (length (L.handed left.new)
@@ -208,12 +219,10 @@ fn compare_places<A: Alike<I, J>, I: Items + Drop, J: Items + Drop, L: Inlet, R:
         ⊎ IsReadCause R.Inlet reads right.old right.new fault) }
 {
     loop {
-        left_place.gather(left)?;
-        right_place.gather(right)?;
         if go_alike::<A, I, J>(course, left_place, right_place) {
             continue;
         }
-        let left_value = value_of(left_place.advance::<Value, L>(left)?);
+        let left_value = value_of(left_place.advance_on_demand::<Value, L>(left)?);
         if let Standing::Refused(refusal) = left_place {
             drop(left_value);
             return Ok(Verdict::Refused {
@@ -221,7 +230,7 @@ fn compare_places<A: Alike<I, J>, I: Items + Drop, J: Items + Drop, L: Inlet, R:
                 refusal: *refusal,
             });
         }
-        let right_value = match right_place.advance::<Value, R>(right) {
+        let right_value = match right_place.advance_on_demand::<Value, R>(right) {
             Err(fault) => {
                 drop(left_value);
                 return Err(fault);
@@ -244,10 +253,10 @@ fn compare_places<A: Alike<I, J>, I: Items + Drop, J: Items + Drop, L: Inlet, R:
 /// `Equivalent` where both are documents and the streams are equivalent (Ion 1.0, "The Ion Data
 /// Model"), `Different` where both are and the streams part, with the path to where the two values
 /// there part, `Refused` for the left side where that is no document, else for the right one. One
-/// value of each is read in turn. A refused left side is answered before the right one's value is
-/// judged, of which 64 KiB may have been read; after the streams parted, or the right side was
-/// refused, both are read to the end, since the left side may still be refused. Faults are
-/// `Memory`, `Read` and `TooManyReads`.
+/// value of each is read in turn: the right device is asked for a value only once that of the left,
+/// or its end, is known, so that a refused left side is answered at once. After the streams parted,
+/// or the right side was refused, both are read to the end, since the left side may still be
+/// refused. Faults are `Memory`, `Read` and `TooManyReads`.
 pub fn compare_items<I: Items + Drop, J: Items + Drop, L: Inlet, R: Inlet>(
     alloc: Global,
     reads: u64,
@@ -263,6 +272,11 @@ pub fn compare_items<I: Items + Drop, J: Items + Drop, L: Inlet, R: Inlet>(
         (format_of I.Items (I.catalog left_items) (I.limits left_items))
         (format_of J.Items (J.catalog right_items) (J.limits right_items))
         left.old left.new right.old right.new) }
+    ensures in_turn { IsInTurn L.Inlet R.Inlet
+        (format_of I.Items (I.catalog left_items) (I.limits left_items))
+        (format_of J.Items (J.catalog right_items) (J.limits right_items))
+        left.old left.new right.old right.new }
+    ensures one_end { AtOneEnd L.Inlet left.old left.new × AtOneEnd R.Inlet right.old right.new }
     ensures few_calls { (L.calls_made left.new ≤ L.calls_made left.old + reads)
         × (R.calls_made right.new ≤ R.calls_made right.old + reads) }
     ensures few_octets { (length (L.handed left.new) ≤ length (L.handed left.old) + 4096 * reads)
@@ -292,6 +306,11 @@ pub fn compare_by<A: Alike<I, J>, I: Items + Drop, J: Items + Drop, L: Inlet, R:
         (format_of I.Items (I.catalog left_items) (I.limits left_items))
         (format_of J.Items (J.catalog right_items) (J.limits right_items))
         left.old left.new right.old right.new) }
+    ensures in_turn { IsInTurn L.Inlet R.Inlet
+        (format_of I.Items (I.catalog left_items) (I.limits left_items))
+        (format_of J.Items (J.catalog right_items) (J.limits right_items))
+        left.old left.new right.old right.new }
+    ensures one_end { AtOneEnd L.Inlet left.old left.new × AtOneEnd R.Inlet right.old right.new }
     ensures few_calls { (L.calls_made left.new ≤ L.calls_made left.old + reads)
         × (R.calls_made right.new ≤ R.calls_made right.old + reads) }
     ensures few_octets { (length (L.handed left.new) ≤ length (L.handed left.old) + 4096 * reads)

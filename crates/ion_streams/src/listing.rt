@@ -7,6 +7,7 @@ ghost use Rattle.ion_symtab.specs.Cause.{IsReadCause};
 ghost use Rattle.ion_streams.specs.Formats.{format_of};
 ghost use Rattle.ion_streams.specs.reading.Read.{IsFresh};
 ghost use Rattle.ion_streams.specs.Listing.{line_of, lines_from, accepted_line, IsShown, IsWriteCause, ShowsSoFar};
+ghost use Rattle.ion_streams.specs.Outcomes.{AtOneEnd};
 
 use crate::source::{Source, Standing};
 use ion_model::{Outline, Refusal};
@@ -109,6 +110,7 @@ pub fn show_items<I: Items + Drop, R: Inlet, W: Outlet>(
     ensures no_write_failed { OnOk result (W.has_failed writer.new ≡ false) }
     ensures so_far { OnErr result (ShowsSoFar R.Inlet I.Items W.Outlet (I.catalog items)
         (I.limits items) reader.old reader.new writer.old writer.new) }
+    ensures one_end { AtOneEnd R.Inlet reader.old reader.new }
     ensures few_calls { R.calls_made reader.new ≤ R.calls_made reader.old + reads }
     ensures few_octets { length (R.handed reader.new) ≤ length (R.handed reader.old) + 4096 *
         reads }

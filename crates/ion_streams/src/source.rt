@@ -7,7 +7,7 @@ ghost use Rattle.ion_symtab.specs.declared.limits.Limits.{Limits};
 ghost use Rattle.ion_symtab.specs.Heard.{Heard};
 ghost use Rattle.ion_symtab.specs.Cause.{WereMade, IsReadCause};
 ghost use Rattle.ion_streams.specs.Formats.{format_of};
-ghost use Rattle.ion_streams.specs.reading.Read.{between, left_of, IsReady, HasToAsk, NoneFailed, NoReadFailed, IsWithin, work, Went, GaveEach, Reads, ReadsEach, GaveSoFar};
+ghost use Rattle.ion_streams.specs.reading.Read.{between, left_of, IsReady, HasToAsk, NoneFailed, NoReadFailed, IsWithin, work, Went, GaveEach, Reads, ReadsEach, GaveSoFar, HandedOn, Sought};
 ghost use Rattle.ion_streams.specs.reading.Gathered.{IsWidened, HasRoom, CanJoin, Gathers, GathersAt, IsJoinCause};
 ghost use Rattle.ion_streams.specs.reading.Reached.{IfValue, IfEnd, IsSpent, Reaches};
 ghost use Rattle.ion_streams.specs.Outcomes.{EndsWell, EndsRefused};
@@ -157,6 +157,7 @@ impl<I: Items + Drop> Source<I> {
         ensures asked { OnOk result (self.new.ended ≡ false → (first : R) (made : ℕ) →
             WereMade R.Inlet made first reader.old → WereMade R.Inlet (made + 1) first reader.new) }
         ensures kept { OnErr result (Heard R.Inlet reader.old reader.new [] false) }
+        ensures grew { HandedOn R.Inlet reader.old reader.new }
         ensures few_calls { R.calls_made reader.new ≤ R.calls_made reader.old + 1 }
         ensures few_octets { length (R.handed reader.new) ≤ length (R.handed reader.old) + 4096 }
         ensures no_read_failed { OnOk result (R.has_failed reader.new ≡ false) }
@@ -220,6 +221,8 @@ impl<I: Items + Drop> Source<I> {
         ensures fewer { OnOk result (self.new.reads + 1 ≡ self.old.reads) }
         ensures ends { OnOk result
             (self.new.ended ≡ true → left_of self.new ≡ left_of self.old) }
+        ensures grew { HandedOn R.Inlet reader.old reader.new }
+        ensures once { R.calls_made reader.new ≤ R.calls_made reader.old + 1 }
         ensures few_calls { R.calls_made reader.new + self.new.reads
             ≤ R.calls_made reader.old + self.old.reads }
         ensures few_octets { length (R.handed reader.new) + 4096 * self.new.reads
@@ -323,6 +326,8 @@ impl<I: Items + Drop> Source<I> {
             ReadsEach R.Inlet I.Items g l first reader.old self.old given →
             GaveEach R.Inlet I.Items g l first reader.new self.new.items (left_of self.new) true given) }
         ensures spent { IfOk result (λ more. more ≡ false → IsSpent I.Items self.new) }
+        ensures grew { HandedOn R.Inlet reader.old reader.new }
+        ensures once { R.calls_made reader.new ≤ R.calls_made reader.old + 1 }
         ensures few_calls { R.calls_made reader.new + self.new.reads
             ≤ R.calls_made reader.old + self.old.reads }
         ensures few_octets { length (R.handed reader.new) + 4096 * self.new.reads
@@ -347,7 +352,8 @@ impl<I: Items + Drop> Source<I> {
         Ok(!self.ended)
     }
 
-    /// Reads on up to the next value or to the end.
+    /// Reads on up to the next value or to the end. The device is asked only where all octets that
+    /// it handed over are used and gave no further value.
     ///
     /// Faults are `Memory`, `Read` and `TooManyReads`.
     #[inline(always)]
@@ -364,6 +370,10 @@ impl<I: Items + Drop> Source<I> {
             IsWithin R.Inlet reads first reader.old self.old →
             IsWithin R.Inlet reads first reader.new self.new)) }
         ensures ended { IfOk result (λ reached. IfEnd reached (IsSpent I.Items self.new)) }
+        ensures sought { (g : Catalog) (l : Limits) (first : R) (s : List Value) →
+            Reads R.Inlet I.Items g l first reader.old self.old s →
+            Sought R.Inlet (format_of I.Items g l) first reader.old reader.new (length s) }
+        ensures grew { HandedOn R.Inlet reader.old reader.new }
         ensures few_calls { R.calls_made reader.new + self.new.reads
             ≤ R.calls_made reader.old + self.old.reads }
         ensures few_octets { length (R.handed reader.new) + 4096 * self.new.reads
@@ -378,7 +388,6 @@ impl<I: Items + Drop> Source<I> {
             Reads R.Inlet I.Items g l first reader.old self.old s →
             GaveSoFar R.Inlet I.Items g l first reader.new s) }
     {
-        self.gather(reader)?;
         loop {
             match self.take::<A>() {
                 Err(
@@ -519,6 +528,55 @@ impl<I: Items + Drop> Standing<I> {
             Stood R.Inlet I.Items g l first reader.old self.old s →
             GaveSoFar R.Inlet I.Items g l first reader.new s) }
     {
+        if let Err(fault) = self.gather(reader) {
+            self.give_up();
+            return Err(fault);
+        }
+        self.advance_on_demand::<A, R>(reader)
+    }
+
+    /// Reads on as `advance` does, but joins no pieces: the device is asked only where all octets
+    /// that it handed over are used and gave no further value.
+    #[inline(always)]
+    pub(crate) fn advance_on_demand<A: Asked, R: Inlet>(
+        &mut self,
+        reader: &mut R,
+    ) -> Result<Option<(A, u64)>, Fault>
+        requires { IfOpen self.old (IsReady I.Items) }
+        ensures gives { IfOk result (λ found.
+            (g : Catalog) (l : Limits) (first : R) (given : List (Value × ℕ)) →
+            StoodEach R.Inlet I.Items g l first reader.old self.old given →
+            GaveNext A.of R.Inlet I.Items g l first reader.new self.new given found) }
+        ensures none { IfOk result (λ found. found ≡ Option.None → IfOpen self.new (λ after. ⊥)) }
+        ensures ready { IfOpen self.new (IsReady I.Items) }
+        ensures less { IfOk result (λ found. IsSome found →
+            work_of I.Items self.new < work_of I.Items self.old) }
+        ensures spends { IfOpen self.old (λ source.
+            work_of I.Items self.new < work_of I.Items self.old) }
+        ensures no_more { work_of I.Items self.new ≤ work_of I.Items self.old }
+        ensures closed { IfClosed self.old ((result ≡ Result.Ok Option.None)
+            × (reader.new ≡ reader.old) × (self.new ≡ self.old)) }
+        ensures within { IfOk result (λ found. (first : R) (reads : ℕ) →
+            IfOpen self.old (IsWithin R.Inlet reads first reader.old) →
+            IfOpen self.new (IsWithin R.Inlet reads first reader.new)) }
+        ensures few_calls { R.calls_made reader.new + reads_of self.new
+            ≤ R.calls_made reader.old + reads_of self.old }
+        ensures few_octets { length (R.handed reader.new) + 4096 * reads_of self.new
+            ≤ length (R.handed reader.old) + 4096 * reads_of self.old }
+        ensures unasked { OnOk result (NoReadFailed R.Inlet reader.old reader.new) }
+        ensures no_read_failed { OnOk result (IfOpen self.old (λ source.
+            NoneFailed R.Inlet I.Items reader.old source → R.has_failed reader.new ≡ false)) }
+        ensures cause { IfErr result (λ fault. (first : R) (reads : ℕ) →
+            IfOpen self.old (IsWithin R.Inlet reads first reader.old) →
+            IsReadCause R.Inlet reads first reader.new fault) }
+        ensures kept { OnErr result ((g : Catalog) (l : Limits) (first : R) (s : List Value) →
+            Stood R.Inlet I.Items g l first reader.old self.old s →
+            GaveSoFar R.Inlet I.Items g l first reader.new s) }
+        ensures sought { (g : Catalog) (l : Limits) (first : R) (s : List Value) →
+            Stood R.Inlet I.Items g l first reader.old self.old s →
+            Sought R.Inlet (format_of I.Items g l) first reader.old reader.new (length s) }
+        ensures grew { HandedOn R.Inlet reader.old reader.new }
+    {
         match self {
             Standing::Open(source) => match source.read_on::<A, R>(reader) {
                 Ok(Reached::Value(found)) => Ok(Some((found, source.used))),
@@ -547,6 +605,7 @@ impl<I: Items + Drop> Standing<I> {
         requires { IfOpen self.old (IsReady I.Items) }
         ensures gathers { OnOk result
             (GathersAt R.Inlet I.Items reader.old reader.new self.old self.new) }
+        ensures opened { OnErr result (IsOpen self.old) }
         ensures few_calls { R.calls_made reader.new + reads_of self.new
             ≤ R.calls_made reader.old + reads_of self.old }
         ensures few_octets { length (R.handed reader.new) + 4096 * reads_of self.new

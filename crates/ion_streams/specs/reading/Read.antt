@@ -8,6 +8,8 @@ use Rattle.ion_symtab.specs.Heard.{Heard}
 use Rattle.ion_symtab.specs.Cause.{WereMade}
 use Rattle.ion_symtab.specs.declared.inlet.Inlet.{Ghosts as Inlet}
 use Rattle.ion_symtab.specs.declared.items.Items.{Ghosts as Items}
+use Rattle.ion_streams.specs.Formats.{Format}
+use Rattle.ion_streams.specs.InTurn.{LastAskedFor}
 use Rattle.ion_streams.specs.declared.source.Source.{Source}
 
 -- the octets of a piece between two places
@@ -61,6 +63,15 @@ pub record NoneFailed {S X : Type 0} (R : Inlet S) (I : Items X) (now : S) (sour
 -- the device wasn't asked between old and now, or no read of it has failed
 pub record NoReadFailed {S : Type 0} (R : Inlet S) (old now : S) : Type 0 where
   pub either : (now ≡ old) ⊎ (R.has_failed now ≡ false)
+
+-- from old to now the device handed over some octets, or none
+pub record HandedOn {S : Type 0} (R : Inlet S) (old now : S) : Type 0 where
+  pub more : List ℕ
+  pub handed : R.handed now ≡ R.handed old ++ more
+
+-- Behind so many values the device wasn't asked between old and now, or it was asked last while its octets gave no more values than these.
+abbrev pub Sought : {S : Type 0} → Inlet S → Format → S → S → S → ℕ → Type 0
+Sought R F first old now values = (now ≡ old) ⊎ LastAskedFor R F first now (values + 1)
 
 -- the calls of read that were made and those that may still be made are so many, and unless the end was answered, none answered it
 pub record IsWithin {S X : Type 0} (R : Inlet S) (reads : ℕ) (first now : S) (source : Source X) : Type 0 where

@@ -1,9 +1,12 @@
 use Rattle.std.proofs.Common.{◌≡◌, ℕ, List, [], ◌∷◌, ◌++◌, arith, Ok, Err, ◌∙◌}
 use Rattle.ion_model.specs.declared.value.Value.{Value}
+use Rattle.ion_symtab.specs.Trace.{plain}
 use Rattle.ion_streams.specs.Loaded.{catalog_of}
 use Rattle.ion_streams.proofs.Loads.{catalog_ok, value_refused}
 use Rattle.ion_streams.proofs.Driven.{driven_on}
-use Rattle.ion_streams.proofs.Passes.{gave_itself}
+use Rattle.ion_streams.proofs.Passes.{gave_none, gave_itself}
+use Rattle.ion_streams.proofs.Steps.{stood_plain}
+use Rattle.ion_streams.proofs.Turns.{each_end, so_far_end}
 use Rattle.ion_streams.proofs.catalogs.load_items.Goals as goal
 
 pub loop-catalog-preserved : goal.loop-catalog-preserved
@@ -40,3 +43,29 @@ returns-in-Err-clause-loaded g c =
     (gave_itself g.R.Inlet g.I.Items _ _ _ _ c.advance.new.self r.0 (c.in-Some.value, c.in-Some.offset) (rw c.in-Some.is at (next.gives _ _ _ r.0 r.1)))
     next.ready
     (catalog_ok [] r.0 found c.loop-catalog.catalog r.2 ∙ none)
+
+pub returns-in_err-value-clause-one_end : goal.returns-in_err-value-clause-one_end
+returns-in_err-value-clause-one_end g c =
+    let r = c.loop-catalog.invariant.reads in
+    so_far_end g.R.Inlet g.I.Items _ _ _ c.advance.new.reader (plain r.0)
+    (c.in_err-value.ensures.kept _ _ _ (plain r.0) (stood_plain g.R.Inlet g.I.Items _ _ _ _ c.loop-catalog.place r.0 r.1))
+
+pub returns-in_err-refusal-clause-one_end : goal.returns-in_err-refusal-clause-one_end
+returns-in_err-refusal-clause-one_end g c =
+    let r = c.loop-catalog.invariant.reads in
+    each_end g.R.Inlet g.I.Items _ _ _ c.advance.new.reader c.advance.new.self (r.0 ++ (c.in-Some.value, c.in-Some.offset) ∷ [])
+    (gave_itself g.R.Inlet g.I.Items _ _ _ _ c.advance.new.self r.0 (c.in-Some.value, c.in-Some.offset)
+    (rw c.in-Some.is at (c.in_ok-value.ensures.gives _ _ _ r.0 r.1)))
+
+pub returns-in-Err-clause-one_end : goal.returns-in-Err-clause-one_end
+returns-in-Err-clause-one_end g c =
+    let r = c.loop-catalog.invariant.reads in
+    each_end g.R.Inlet g.I.Items _ _ _ c.advance.new.reader c.advance.new.self (r.0 ++ (c.in-Some.value, c.in-Some.offset) ∷ [])
+    (gave_itself g.R.Inlet g.I.Items _ _ _ _ c.advance.new.self r.0 (c.in-Some.value, c.in-Some.offset)
+    (rw c.in-Some.is at (c.in_ok-value.ensures.gives _ _ _ r.0 r.1)))
+
+pub returns-clause-one_end : goal.returns-clause-one_end
+returns-clause-one_end g c =
+    let r = c.loop-catalog.invariant.reads in
+    each_end g.R.Inlet g.I.Items _ _ _ c.advance.new.reader c.advance.new.self r.0
+    (gave_none (λ v. v) g.R.Inlet g.I.Items _ _ _ _ c.advance.new.self r.0 c.in_ok-value.field-0 c.in_default.is (c.in_ok-value.ensures.gives _ _ _ r.0 r.1))

@@ -39,6 +39,30 @@ returns-clause-verdict g c =
     (between_nil right.piece.items right.at right.end (omega (arith, r.nothing.0, r.nothing.1))) r.unended in
     ok_by c.compare_places-verdict.result _ _ (λ verdict h. h _ _ _ _ left_begun right_begun) c.compare_places-verdict.ensures.verdict
 
+pub returns-clause-in_turn : goal.returns-clause-in_turn
+returns-clause-in_turn g c =
+    let left = c.in_ok-left_source.left_source in
+    let right = c.in_ok-right_source.right_source in
+    let l = c.in_ok-left_source.ensures in
+    let r = c.in_ok-right_source.ensures in
+    let left_begun = reads_begun g.L.Inlet g.I.Items c.args.left.now left c.args.left_items c.requires.left.stood l.items
+    (between_nil left.piece.items left.at left.end (omega (arith, l.nothing.0, l.nothing.1))) l.unended in
+    let right_begun = reads_begun g.R.Inlet g.J.Items c.args.right.now right c.args.right_items c.requires.right.stood r.items
+    (between_nil right.piece.items right.at right.end (omega (arith, r.nothing.0, r.nothing.1))) r.unended in
+    c.compare_places-verdict.ensures.in_turn _ _ _ _ left_begun right_begun
+
+pub returns-clause-one_end : goal.returns-clause-one_end
+returns-clause-one_end g c =
+    let left = c.in_ok-left_source.left_source in
+    let right = c.in_ok-right_source.right_source in
+    let l = c.in_ok-left_source.ensures in
+    let r = c.in_ok-right_source.ensures in
+    let left_begun = reads_begun g.L.Inlet g.I.Items c.args.left.now left c.args.left_items c.requires.left.stood l.items
+    (between_nil left.piece.items left.at left.end (omega (arith, l.nothing.0, l.nothing.1))) l.unended in
+    let right_begun = reads_begun g.R.Inlet g.J.Items c.args.right.now right c.args.right_items c.requires.right.stood r.items
+    (between_nil right.piece.items right.at right.end (omega (arith, r.nothing.0, r.nothing.1))) r.unended in
+    c.compare_places-verdict.ensures.one_end _ _ _ _ left_begun right_begun
+
 pub returns-clause-cause : goal.returns-clause-cause
 returns-clause-cause g c =
     let left_begun = within_begun g.L.Inlet c.args.left.now c.in_ok-left_source.left_source c.args.reads c.in_ok-left_source.ensures.reads in

@@ -8,6 +8,7 @@ use Rattle.ion_streams.proofs.Steps.{stood_plain, on_err}
 use Rattle.ion_streams.proofs.Fronts.{line_next, so_far}
 use Rattle.ion_streams.proofs.Driven.{driven_on}
 use Rattle.ion_streams.proofs.Passes.{gave_none}
+use Rattle.ion_streams.proofs.Turns.{each_end, so_far_end}
 use Rattle.ion_streams.proofs.Shown.{shows_ok, shown_ok, shown_err}
 use Rattle.ion_streams.proofs.listing.show_items.Goals.{in-Ok+in_ok-write_accepted-in-Ok, in-Err+in_ok-flushed-in-Err}
 use Rattle.ion_streams.proofs.listing.show_items.Goals as goal
@@ -101,3 +102,37 @@ returns-clause-shown g c =
           (Took-kept g.W.Outlet.took g.W.Outlet.written c.args.writer.now c.loop-text.writer w.flushed.new.writer (lines_of (plain r.0)) r.3
           w.flushed.ensures.kept))
     ]
+
+-- the ends that the device answered
+pub returns-in_err-outline-clause-one_end : goal.returns-in_err-outline-clause-one_end
+returns-in_err-outline-clause-one_end g c =
+    let r = c.loop-text.invariant.reads in
+    so_far_end g.R.Inlet g.I.Items _ _ _ c.advance.new.reader (plain r.0)
+    (c.in_err-outline.ensures.kept _ _ _ (plain r.0) (stood_plain g.R.Inlet g.I.Items _ _ _ _ c.loop-text.place r.0 r.1))
+
+pub returns-in_err-write_line-clause-one_end : goal.returns-in_err-write_line-clause-one_end
+returns-in_err-write_line-clause-one_end g c =
+    let r = c.loop-text.invariant.reads in
+    let on = rw c.in-Some.is at (c.in_ok-outline.ensures.gives _ _ _ r.0 r.1) in
+    each_end g.R.Inlet g.I.Items _ _ _ c.advance.new.reader c.advance.new.self (r.0 ++ (on.0, c.in-Some.field-0-1) ∷ []) on.2
+
+pub returns-in_err-write_accepted-in-Ok-clause-one_end : goal.returns-in_err-write_accepted-in-Ok-clause-one_end
+returns-in_err-write_accepted-in-Ok-clause-one_end g c =
+    let r = c.loop-text.invariant.reads in
+    each_end g.R.Inlet g.I.Items _ _ _ c.advance.new.reader c.advance.new.self r.0
+    (gave_none outline_of g.R.Inlet g.I.Items _ _ _ _ c.advance.new.self r.0 c.in_ok-outline.field-0 c.in_default.is
+    (c.in_ok-outline.ensures.gives _ _ _ r.0 r.1))
+
+pub returns-in_err-flushed-in-Err-clause-one_end : goal.returns-in_err-flushed-in-Err-clause-one_end
+returns-in_err-flushed-in-Err-clause-one_end g c =
+    let r = c.loop-text.invariant.reads in
+    each_end g.R.Inlet g.I.Items _ _ _ c.advance.new.reader c.advance.new.self r.0
+    (gave_none outline_of g.R.Inlet g.I.Items _ _ _ _ c.advance.new.self r.0 c.in_ok-outline.field-0 c.in_default.is
+    (c.in_ok-outline.ensures.gives _ _ _ r.0 r.1))
+
+pub returns-clause-one_end : goal.returns-clause-one_end
+returns-clause-one_end g c =
+    let r = c.loop-text.invariant.reads in
+    each_end g.R.Inlet g.I.Items _ _ _ c.advance.new.reader c.advance.new.self r.0
+    (gave_none outline_of g.R.Inlet g.I.Items _ _ _ _ c.advance.new.self r.0 c.in_ok-outline.field-0 c.in_default.is
+    (c.in_ok-outline.ensures.gives _ _ _ r.0 r.1))
