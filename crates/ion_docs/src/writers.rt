@@ -19,7 +19,7 @@ pub trait Encoder {
     /// What is written of a document before its end, where these are its values.
     ghost puts: { List Value → List ℕ };
 
-    /// These values were put, one after another, and no call answered a fault.
+    /// These values may have been put, one after another, and no call answered a fault.
     ghost has_put: { Self → List Value → Type 0 };
 
     /// Writes a value behind those before it. A local symbol table isn't one: it would be read as a
