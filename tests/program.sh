@@ -69,6 +69,12 @@ wait
 { printf '\340\001'; sleep 1; printf '\000\352\041\005'; } > pipe &
 run check - < pipe;                         expect 'a slow pipe' 0 'accepted 1' ''
 wait
+printf '"%s" ]' aaaaaaaaaaaaaaaaaaaaaaaa > closed        # a string, and a bracket that nothing opened
+{ printf '"%s" [1' aaaaaaaaaaaaaaaaaaaaaaaa; sleep 2; : > waited; } > pipe &
+run compare closed pipe < /dev/null
+if [ -e waited ]; then echo 'it waited for the right' >> err; fi
+expect 'a refused left beside a silent pipe' 2 '' 'refused left 28 Unexpected'
+wait
 
 "$program" check short > /dev/full 2> err < /dev/null; status=$?; : > out
 expect 'a full device' 4 '' 'fault Write'

@@ -5,7 +5,7 @@ ghost use Rattle.ion_atoms.specs.declared.refusal.Reason.TheVariants as reasons;
 ghost use Rattle.ion_symtab.specs.Cause.{IsReadCause};
 ghost use Rattle.ion_docs.specs.Documents.{Denotes};
 ghost use Rattle.ion_docs.specs.Formats.{documents};
-ghost use Rattle.ion_streams.specs.Outcomes.{IsRefused, ToldDocument, ToldRefused};
+ghost use Rattle.ion_streams.specs.Outcomes.{AtOneEnd, IsRefused, ToldDocument, ToldRefused};
 
 use crate::doc_reader::DocReader;
 use ion_model::{Refusal, Value};
@@ -52,6 +52,7 @@ pub fn read_document<R: Inlet>(
         IfOk result (λ answer. MatchResult answer
         (λ values. ToldDocument R.Inlet F reader.old reader.new values.items)
         (λ refusal. (s : List Value) × ToldRefused R.Inlet F reader.old reader.new s refusal)) }
+    ensures one_end { AtOneEnd R.Inlet reader.old reader.new }
     ensures few_calls { R.calls_made reader.new ≤ R.calls_made reader.old + limits.reads }
     ensures few_octets { length (R.handed reader.new)
         ≤ length (R.handed reader.old) + 4096 * limits.reads }

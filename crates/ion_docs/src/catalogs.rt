@@ -3,6 +3,7 @@ ghost use Rattle.std.specs.Prelude.{◌≡◌, ◌+◌, ◌≤◌, false, [], If
 ghost use Rattle.ion_symtab.specs.Cause.{IsReadCause};
 ghost use Rattle.ion_docs.specs.Formats.{documents};
 ghost use Rattle.ion_streams.specs.Loaded.{IsLoaded};
+ghost use Rattle.ion_streams.specs.Outcomes.{AtOneEnd};
 
 use crate::doc_reader::DocReader;
 use ion_model::Refusal;
@@ -27,6 +28,7 @@ pub fn load_catalog<R: Inlet>(
     limits: Limits,
 ) -> Result<Result<Catalog, Refusal>, Fault>
     ensures loaded { IfOk result (IsLoaded R.Inlet (documents [] limits) reader.old reader.new) }
+    ensures one_end { AtOneEnd R.Inlet reader.old reader.new }
     ensures few_calls { R.calls_made reader.new ≤ R.calls_made reader.old + limits.reads }
     ensures few_octets { length (R.handed reader.new)
         ≤ length (R.handed reader.old) + 4096 * limits.reads }

@@ -2,6 +2,7 @@
 ghost use Rattle.std.specs.Prelude.{◌≡◌, ℕ, ◌+◌, ◌*◌, ◌++◌, ◌^◌, ◌<◌, ◌≤◌, ◌⊎◌, List, [], length, false, IfOk, IfErr, OnOk, OnErr, option_to_list};
 ghost use Rattle.ion_symtab.specs.Cause.{IsReadCause};
 ghost use Rattle.ion_streams.specs.Formats.{format_of};
+ghost use Rattle.ion_streams.specs.Outcomes.{AtOneEnd};
 ghost use Rattle.ion_streams.specs.reading.Read.{IsFresh};
 ghost use Rattle.ion_docs.specs.Conversion.{WritesKept};
 ghost use Rattle.ion_docs.specs.Converted.{IsConverted, ReadSoFar, ConvertsSoFar, IsConvertCause};
@@ -39,6 +40,7 @@ pub fn convert_items<E: Encoder + Drop, I: Items + Drop, R: Inlet, W: Outlet>(
         reader.old reader.new writer.old writer.new) }
     ensures passed_on { OnOk result (W.passed writer.new ≡ W.written writer.new) }
     ensures no_write_failed { OnOk result (W.has_failed writer.new ≡ false) }
+    ensures one_end { AtOneEnd R.Inlet reader.old reader.new }
     ensures few_calls { R.calls_made reader.new ≤ R.calls_made reader.old + reads }
     ensures few_octets { length (R.handed reader.new) ≤ length (R.handed reader.old) + 4096 *
         reads }
@@ -74,6 +76,7 @@ pub(crate) fn convert_by<C: Carrier<I, E>, E: Encoder + Drop, I: Items + Drop, R
         reader.old reader.new writer.old writer.new) }
     ensures passed_on { OnOk result (W.passed writer.new ≡ W.written writer.new) }
     ensures no_write_failed { OnOk result (W.has_failed writer.new ≡ false) }
+    ensures one_end { AtOneEnd R.Inlet reader.old reader.new }
     ensures few_calls { R.calls_made reader.new ≤ R.calls_made reader.old + reads }
     ensures few_octets { length (R.handed reader.new) ≤ length (R.handed reader.old) + 4096 *
         reads }

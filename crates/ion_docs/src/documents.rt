@@ -5,6 +5,8 @@ ghost use Rattle.ion_docs.specs.Encodings.{encoding_of};
 ghost use Rattle.ion_docs.specs.Formats.{documents};
 ghost use Rattle.ion_streams.specs.Checked.{IsChecked};
 ghost use Rattle.ion_streams.specs.Compared.{IsCompared};
+ghost use Rattle.ion_streams.specs.InTurn.{IsInTurn};
+ghost use Rattle.ion_streams.specs.Outcomes.{AtOneEnd};
 ghost use Rattle.ion_docs.specs.Conversion.{KeepsStream};
 ghost use Rattle.ion_docs.specs.Converted.{IsConverted, ReadSoFar, ConvertsSoFar, IsConvertCause};
 ghost use Rattle.ion_streams.specs.Listing.{IsShown, IsWriteCause, ShowsSoFar};
@@ -38,6 +40,7 @@ pub fn check<R: Inlet>(
 ) -> Result<Result<u64, Refusal>, Fault>
     ensures verdict { IfOk result (IsChecked R.Inlet (documents catalog.now limits)
         reader.old reader.new) }
+    ensures one_end { AtOneEnd R.Inlet reader.old reader.new }
     ensures few_calls { R.calls_made reader.new ≤ R.calls_made reader.old + limits.reads }
     ensures few_octets { length (R.handed reader.new)
         ≤ length (R.handed reader.old) + 4096 * limits.reads }
@@ -68,6 +71,7 @@ pub fn show<R: Inlet, W: Outlet>(
     ensures no_write_failed { OnOk result (W.has_failed writer.new ≡ false) }
     ensures so_far { OnErr result (ShowsSoFar R.Inlet ⟦<DocReader<'static> as Items>⟧ W.Outlet
         catalog.now limits reader.old reader.new writer.old writer.new) }
+    ensures one_end { AtOneEnd R.Inlet reader.old reader.new }
     ensures few_calls { R.calls_made reader.new ≤ R.calls_made reader.old + limits.reads }
     ensures few_octets { length (R.handed reader.new)
         ≤ length (R.handed reader.old) + 4096 * limits.reads }
@@ -108,6 +112,7 @@ pub fn convert<R: Inlet, W: Outlet>(
         (documents catalog.now limits) reader.old reader.new writer.old writer.new) }
     ensures passed_on { OnOk result (W.passed writer.new ≡ W.written writer.new) }
     ensures no_write_failed { OnOk result (W.has_failed writer.new ≡ false) }
+    ensures one_end { AtOneEnd R.Inlet reader.old reader.new }
     ensures few_calls { R.calls_made reader.new ≤ R.calls_made reader.old + limits.reads }
     ensures few_octets { length (R.handed reader.new)
         ≤ length (R.handed reader.old) + 4096 * limits.reads }
@@ -142,6 +147,7 @@ pub fn convert_with_hasher<H: BuildHasher + Drop, R: Inlet, W: Outlet>(
         (documents catalog.now limits) reader.old reader.new writer.old writer.new) }
     ensures passed_on { OnOk result (W.passed writer.new ≡ W.written writer.new) }
     ensures no_write_failed { OnOk result (W.has_failed writer.new ≡ false) }
+    ensures one_end { AtOneEnd R.Inlet reader.old reader.new }
     ensures few_calls { R.calls_made reader.new ≤ R.calls_made reader.old + limits.reads }
     ensures few_octets { length (R.handed reader.new)
         ≤ length (R.handed reader.old) + 4096 * limits.reads }
@@ -186,11 +192,11 @@ pub fn convert_with_hasher<H: BuildHasher + Drop, R: Inlet, W: Outlet>(
 /// The verdict is right about whatever octets begin with those that the devices handed over during
 /// the call, and end there where one answered its end. Neither is asked on behind that end.
 ///
-/// One value of each is read in turn. A left side that is no document is refused before the right
-/// one's value is judged, of which 64 KiB may have been read; after the streams parted, and after
-/// the right side was refused, both are still read to the end, so that the left side is refused
-/// wherever it is no document, and the right where it alone is none. Offsets and faults are those of
-/// `check`.
+/// One value of each is read in turn: the right device is asked for a value only once that of the
+/// left, or its end, is known, so that a left side that is no document is refused at once. After
+/// the streams parted, and after the right side was refused, both are still read to the end, so that
+/// the left side is refused wherever it is no document, and the right where it alone is none. Offsets
+/// and faults are those of `check`.
 pub fn compare<L: Inlet, R: Inlet>(
     alloc: Global,
     left: &mut L,
@@ -201,6 +207,10 @@ pub fn compare<L: Inlet, R: Inlet>(
     ensures verdict { IfOk result (IsCompared L.Inlet R.Inlet
         (documents catalog.now limits) (documents catalog.now limits)
         left.old left.new right.old right.new) }
+    ensures in_turn { IsInTurn L.Inlet R.Inlet
+        (documents catalog.now limits) (documents catalog.now limits)
+        left.old left.new right.old right.new }
+    ensures one_end { AtOneEnd L.Inlet left.old left.new × AtOneEnd R.Inlet right.old right.new }
     ensures few_calls { (L.calls_made left.new ≤ L.calls_made left.old + limits.reads)
         × (R.calls_made right.new ≤ R.calls_made right.old + limits.reads) }
     ensures few_octets { (length (L.handed left.new) ≤ length (L.handed left.old) + 4096 *

@@ -235,6 +235,12 @@ fn a_read_of_two_fails(rt: HostRuntime) {
 /// Three values, which are shown by the octets behind them and by the end.
 const THREE: &[u8] = b"1 2 3";
 
+/// A string, and behind it an octet that can't stand there.
+const CLOSED: &[u8] = b"\"aaaaaaaaaaaaaaaaaaaaaaaa\" ]";
+
+/// The same string, and behind it a list that goes on.
+const CUT: &[u8] = b"\"aaaaaaaaaaaaaaaaaaaaaaaa\" [1";
+
 /// Where the left side of a comparison is refused, if it is, or a fault; and how often each side
 /// was read.
 type Turns = (Result<Option<u64>, Fault>, [u64; 2]);
@@ -250,11 +256,17 @@ fn left_refused(verdict: &Verdict) -> Option<u64> {
     }
 }
 
-/// How these octets are compared with the three values, where of each side the read with this index
+/// How two documents compare, so many octets a call, where of each side the read with this index
 /// fails.
-fn turns(alloc: Global, catalog: &Catalog, octets: &[u8], fail_at: [u64; 2]) -> Turns {
-    let mut left = one_by_one(octets, fail_at[0]);
-    let mut right = one_by_one(THREE, fail_at[1]);
+fn turns(
+    alloc: Global,
+    catalog: &Catalog,
+    documents: [&[u8]; 2],
+    size: usize,
+    fail_at: [u64; 2],
+) -> Turns {
+    let mut left = in_pieces(documents[0], size, fail_at[0]);
+    let mut right = in_pieces(documents[1], size, fail_at[1]);
     let answer = match compare(alloc, &mut left, &mut right, catalog, Limits::usual()) {
         Ok(verdict) => {
             let refused = left_refused(&verdict);
@@ -267,20 +279,24 @@ fn turns(alloc: Global, catalog: &Catalog, octets: &[u8], fail_at: [u64; 2]) -> 
 }
 
 /// One value of each side is read in turn, the left one first; where that is refused, the right
-/// isn't read.
+/// isn't read, also where octets of it are left.
 #[test]
 fn sides_are_read_in_turn(rt: HostRuntime) {
     let catalog = Catalog::new(rt.alloc());
     let found = [
-        turns(rt.alloc(), &catalog, b"]", [NEVER, 0]),
-        turns(rt.alloc(), &catalog, THREE, [NEVER, 0]),
-        turns(rt.alloc(), &catalog, THREE, [2, NEVER]),
+        turns(rt.alloc(), &catalog, [b"]", THREE], 1, [NEVER, 0]),
+        turns(rt.alloc(), &catalog, [THREE; 2], 1, [NEVER, 0]),
+        turns(rt.alloc(), &catalog, [THREE; 2], 1, [2, NEVER]),
+        turns(rt.alloc(), &catalog, [CLOSED, CUT], 64, [NEVER, 1]),
+        turns(rt.alloc(), &catalog, [CUT; 2], 64, [NEVER, 1]),
     ];
     drop(catalog);
     let wanted = [
         (Ok(Some(1)), [1, 0]),
         (Err(Fault::Read), [2, 1]),
         (Err(Fault::Read), [3, 2]),
+        (Ok(Some(28)), [1, 1]),
+        (Ok(Some(29)), [2, 1]),
     ];
     same(&rt, "turns", found, wanted);
 }

@@ -12,6 +12,7 @@ use Rattle.ion_streams.proofs.Passes.{stood_next, stood_still}
 use Rattle.ion_streams.proofs.Driven.{driven_on}
 use Rattle.ion_docs.proofs.Conversions.{took_whole, took_some, front_of_front, took_front, put_cause, was_read, converted_at, kept_at}
 use Rattle.ion_streams.proofs.Gathering.{at_driven, at_less, join_cause}
+use Rattle.ion_streams.proofs.Turns.{stood_end, so_far_end}
 use Rattle.ion_docs.proofs.Carrying.{Done, as_it_was, done_gathered}
 use Rattle.ion_docs.proofs.conversion.convert_by.Goals as goal
 
@@ -246,3 +247,63 @@ pub returns-in_err-gather-clause-cause : goal.returns-in_err-gather-clause-cause
 returns-in_err-gather-clause-cause g c =
     let p = err_from_is_err_and c.from_residual-in_err-gather.result c.from_residual-in_err-gather.ensures.1 in
     rw (p.1, p.2) (inl (join_cause g.R.Inlet c.args.reads c.args.reader.now _ _ c.in_err-gather.ensures.cause))
+
+-- the ends that the device answered
+pub returns-in_err-gather-clause-one_end : goal.returns-in_err-gather-clause-one_end
+returns-in_err-gather-clause-one_end g c =
+    let r = c.loop-encoder.invariant.done in
+    so_far_end g.R.Inlet g.I.Items _ _ c.args.reader.now c.gather.new.reader r.0 (c.in_err-gather.ensures.kept _ _ _ r.0 r.1)
+
+pub returns-in-Some-Err-clause-one_end : goal.returns-in-Some-Err-clause-one_end
+returns-in-Some-Err-clause-one_end g c =
+    let done = done_gathered g.R.Inlet g.I.Items g.E.Encoder g.W.Outlet (g.I.Items.catalog c.args.items) (g.I.Items.limits c.args.items) c.args.reader.now
+    c.args.writer.now c.loop-encoder.reader c.gather.new.reader c.loop-encoder.place c.gather.new.self c.loop-encoder.values c.loop-encoder.encoder
+    c.loop-encoder.writer c.in_ok-gather.ensures.gathers c.loop-encoder.invariant.done in
+    stood_end g.R.Inlet g.I.Items _ _ c.args.reader.now c.gather.new.reader c.gather.new.self done.0 done.1
+
+pub returns-in_err-advance-clause-one_end : goal.returns-in_err-advance-clause-one_end
+returns-in_err-advance-clause-one_end g c =
+    let done = done_gathered g.R.Inlet g.I.Items g.E.Encoder g.W.Outlet (g.I.Items.catalog c.args.items) (g.I.Items.limits c.args.items) c.args.reader.now
+    c.args.writer.now c.loop-encoder.reader c.gather.new.reader c.loop-encoder.place c.gather.new.self c.loop-encoder.values c.loop-encoder.encoder
+    c.loop-encoder.writer c.in_ok-gather.ensures.gathers c.loop-encoder.invariant.done in
+    let r = as_it_was (Done g.R.Inlet g.I.Items g.E.Encoder g.W.Outlet (g.I.Items.catalog c.args.items) (g.I.Items.limits c.args.items) c.args.reader.now
+    c.args.writer.now c.gather.new.reader c.loop-encoder.values)
+    (c.in-None.ensures.stays refl) done in
+    so_far_end g.R.Inlet g.I.Items _ _ c.args.reader.now c.advance.new.reader r.0 (c.in_err-advance.ensures.kept _ _ _ r.0 r.1)
+
+pub returns-in_err-put-in-Some-clause-one_end : goal.returns-in_err-put-in-Some-clause-one_end
+returns-in_err-put-in-Some-clause-one_end g c =
+    let done = done_gathered g.R.Inlet g.I.Items g.E.Encoder g.W.Outlet (g.I.Items.catalog c.args.items) (g.I.Items.limits c.args.items) c.args.reader.now
+    c.args.writer.now c.loop-encoder.reader c.gather.new.reader c.loop-encoder.place c.gather.new.self c.loop-encoder.values c.loop-encoder.encoder
+    c.loop-encoder.writer c.in_ok-gather.ensures.gathers c.loop-encoder.invariant.done in
+    let r = as_it_was (Done g.R.Inlet g.I.Items g.E.Encoder g.W.Outlet (g.I.Items.catalog c.args.items) (g.I.Items.limits c.args.items) c.args.reader.now
+    c.args.writer.now c.gather.new.reader c.loop-encoder.values)
+    (c.in-None.ensures.stays refl) done in
+    let value = ap (λ (x : Option (Value × ℕ)). option_map (λ (y : Value × ℕ). y.0) x) (sym c.in-Some.is) in
+    stood_end g.R.Inlet g.I.Items _ _ c.args.reader.now c.advance.new.reader c.advance.new.self _
+    (stood_next g.R.Inlet g.I.Items _ _ c.args.reader.now c.gather.new.reader c.advance.new.reader c.carry.new.self c.advance.new.self r.0
+    c.in_ok-advance.field-0 (Some c.in-Some.value) value c.in_ok-advance.ensures.closed (c.in_ok-advance.ensures.gives _ _ _) r.1)
+
+pub returns-in_err-finish-clause-one_end : goal.returns-in_err-finish-clause-one_end
+returns-in_err-finish-clause-one_end g c =
+    let done = done_gathered g.R.Inlet g.I.Items g.E.Encoder g.W.Outlet (g.I.Items.catalog c.args.items) (g.I.Items.limits c.args.items) c.args.reader.now
+    c.args.writer.now c.loop-encoder.reader c.gather.new.reader c.loop-encoder.place c.gather.new.self c.loop-encoder.values c.loop-encoder.encoder
+    c.loop-encoder.writer c.in_ok-gather.ensures.gathers c.loop-encoder.invariant.done in
+    let r = as_it_was (Done g.R.Inlet g.I.Items g.E.Encoder g.W.Outlet (g.I.Items.catalog c.args.items) (g.I.Items.limits c.args.items) c.args.reader.now
+    c.args.writer.now c.gather.new.reader c.loop-encoder.values)
+    (c.in-None.ensures.stays refl) done in
+    stood_end g.R.Inlet g.I.Items _ _ c.args.reader.now c.advance.new.reader c.advance.new.self r.0
+    (stood_still g.R.Inlet g.I.Items _ _ c.args.reader.now c.gather.new.reader c.advance.new.reader c.carry.new.self c.advance.new.self r.0
+    c.in_ok-advance.field-0 c.in-None-2.is c.in_ok-advance.ensures.closed (c.in_ok-advance.ensures.gives _ _ _) r.1)
+
+pub returns-clause-one_end : goal.returns-clause-one_end
+returns-clause-one_end g c =
+    let done = done_gathered g.R.Inlet g.I.Items g.E.Encoder g.W.Outlet (g.I.Items.catalog c.args.items) (g.I.Items.limits c.args.items) c.args.reader.now
+    c.args.writer.now c.loop-encoder.reader c.gather.new.reader c.loop-encoder.place c.gather.new.self c.loop-encoder.values c.loop-encoder.encoder
+    c.loop-encoder.writer c.in_ok-gather.ensures.gathers c.loop-encoder.invariant.done in
+    let r = as_it_was (Done g.R.Inlet g.I.Items g.E.Encoder g.W.Outlet (g.I.Items.catalog c.args.items) (g.I.Items.limits c.args.items) c.args.reader.now
+    c.args.writer.now c.gather.new.reader c.loop-encoder.values)
+    (c.in-None.ensures.stays refl) done in
+    stood_end g.R.Inlet g.I.Items _ _ c.args.reader.now c.advance.new.reader c.advance.new.self r.0
+    (stood_still g.R.Inlet g.I.Items _ _ c.args.reader.now c.gather.new.reader c.advance.new.reader c.carry.new.self c.advance.new.self r.0
+    c.in_ok-advance.field-0 c.in-None-2.is c.in_ok-advance.ensures.closed (c.in_ok-advance.ensures.gives _ _ _) r.1)
