@@ -1,8 +1,9 @@
 -- What whole calls say of devices that tell only certain octets.
-use Rattle.std.proofs.Common.{◌≡◌, ℕ, List, [], ◌++◌, refl, sym, subst, ◌∙◌, Bool, true, false, Result, Ok, Err, append-nil}
+use Rattle.std.proofs.Common.{◌≡◌, ℕ, ◌+◌, ◌≤◌, List, [], ◌++◌, length, refl, sym, ap, subst, ◌∙◌, Bool, true, false, Result, Ok, Err, append-nil, length-append, arith}
 use Rattle.std.proofs.lemmas.List.{append_cancel_left}
 use Rattle.ion_model.specs.declared.value.Value.{Value}
 use Rattle.ion_atoms.specs.declared.refusal.Refusal.{Refusal}
+use Rattle.ion_symtab.specs.Cause.{WereMade}
 use Rattle.ion_symtab.specs.Heard.{Heard, MayFollow}
 use Rattle.ion_symtab.specs.laws.Heard.{Heard-end}
 use Rattle.ion_symtab.specs.Took.{Took}
@@ -29,6 +30,13 @@ module _ {S : Type 0} (R : Inlet S) (some : (device : S) → (rest : List ℕ) �
       × (octets ++ more ≡ w)
   whole first now octets w true h only = ([], λ _. refl, append-nil octets ∙ only.1 octets (Heard-end R first now octets h))
   whole first now octets w false h only = let rest = some now in (rest.0, λ never. absurd cc, only.1 (octets ++ rest.0) (h.told.told rest.0 rest.1))
+
+  -- so many calls that handed something over were made only where it has as many octets
+  pub reads_whole : (reads : ℕ) (first now : S) (w : List ℕ) → WereMade R reads first now → TellsOnly R first w → reads ≤ length w
+  reads_whole reads first now w h only =
+      let all = whole first now h.octets w false h.heard only in
+      let many : length h.octets + length all.0 ≡ length w = sym (length-append h.octets all.0) ∙ ap (λ (x : List ℕ). length x) all.2 in
+      omega (arith, h.each, many)
 
   pub document_whole : (F : Format) (first now : S) (s : List Value) (w : List ℕ) → ToldDocument R F first now s → TellsOnly R first w → F.denotes w s
   document_whole F first now s w h only = subst (λ (x : List ℕ). F.denotes x s) (only.1 h.octets h.told) h.denoted

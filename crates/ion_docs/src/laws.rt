@@ -1,10 +1,11 @@
 //! Laws of documents and verdicts. Each stands on a function that does nothing: its contract is the
 //! law.
-ghost use Rattle.std.specs.Prelude.{◌≡◌, ◌↔◌, ℕ, List, [], length, map, Option, Result, Ok};
+ghost use Rattle.std.specs.Prelude.{◌≡◌, ◌≤◌, ◌↔◌, ℕ, List, [], length, map, Option, Result, Ok};
 ghost use Rattle.ion_atoms.specs.declared.refusal.Refusal.{Refusal};
 ghost use Rattle.ion_model.specs.declared.value.Value.{Value};
 ghost use Rattle.ion_atoms.specs.Octets.{AreOctets};
 ghost use Rattle.ion_model.specs.Kept.{AreKept};
+ghost use Rattle.ion_symtab.specs.Cause.{WereMade};
 ghost use Rattle.ion_symtab.specs.declared.catalog.Catalog.{Catalog};
 ghost use Rattle.ion_symtab.specs.declared.limits.Limits.{Limits};
 ghost use Rattle.ion_symtab.specs.Shared.{shared_table};
@@ -186,4 +187,12 @@ pub fn conversion_of_told<R: Inlet, W: Outlet>()
         (u : List ℕ) → TellsOnly R.Inlet a u →
         (w : List ℕ) × Took W.took W.written old new w
         × IsConversionOf g k (encoding_of target) u w answer }
+{}
+
+/// A device that tells only certain octets is asked at most once for each of them before it answers
+/// its end: so a call over it is stopped by `TooManyReads` only where they are at least as many as
+/// the reads that its limits allow.
+pub fn reads_of_told<R: Inlet>()
+    ensures { (reads : ℕ) (first now : R) (u : List ℕ) → TellsOnly R.Inlet first u →
+        WereMade R.Inlet reads first now → reads ≤ length u }
 {}

@@ -23,6 +23,6 @@ pub use ion_streams::{
     Side, Verdict, check_items, compare_items, load_items, read_items, read_octets, show_items,
 };
 pub use ion_symtab::Target;
-pub use memory::in_memory;
+pub use memory::{InMemory, in_memory};
 pub use paths::{PathText, path_text, spelling_of_path};
 pub use writers::Encoder;

@@ -1,14 +1,17 @@
 -- Why a fault was answered.
-use Rattle.std.specs.Prelude.{◌≡◌, ℕ, ◌+◌, ◌-◌, ◌^◌, true, ◌⊎◌, ⊤}
+use Rattle.std.specs.Prelude.{◌≡◌, ℕ, ◌+◌, ◌-◌, ◌^◌, ◌≤◌, List, length, true, false, ◌⊎◌, ⊤}
+use Rattle.ion_symtab.specs.Heard.{Heard}
 use Rattle.ion_symtab.specs.declared.fault.Fault.{Fault}
 use Rattle.ion_symtab.specs.declared.fault.Fault.TheVariants.{Memory, Read, Write, TooManyReads, TooLarge, Open}
 use Rattle.ion_symtab.specs.declared.inlet.Inlet.{Ghosts}
 
 module _ {S : Type 0} (R : Ghosts S) where
-  -- so many calls of read were made, or their count stands at its end, and none of them answered the end of the octets
+  -- So many calls of read were made, or their count stands at its end. Each handed over an octet at least, and none answered the end.
   pub record WereMade (reads : ℕ) (old new : S) : Type 0 where
+    pub octets : List ℕ
     pub made : (R.calls_made new ≡ R.calls_made old + reads) ⊎ (R.calls_made new ≡ 2 ^ 64 - 1)
-    pub no_end : R.ends new ≡ R.ends old
+    pub heard : Heard R old new octets false
+    pub each : reads ≤ length octets
 
   -- what a fault of reading says of the device: no other fault comes of it
   abbrev pub IsReadCause : ℕ → S → S → Fault → Type 0

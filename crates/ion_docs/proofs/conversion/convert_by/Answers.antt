@@ -1,4 +1,4 @@
-use Rattle.std.proofs.Common.{◌+◌, ◌++◌, ◌∷◌, ℕ, [], Option, Some, option_map, inl, inr, arith, refl, ap, sym, ◌∙◌, length-append}
+use Rattle.std.proofs.Common.{◌+◌, ◌++◌, ◌∷◌, ℕ, [], Option, Some, option_map, inl, inr, arith, rules, refl, ap, sym, ◌∙◌, length-append}
 use Rattle.std.proofs.lemmas.Result.{err_from_is_err_and}
 use Rattle.ion_model.specs.declared.value.Value.{Value}
 use Rattle.ion_model.specs.laws.Kept.{kept_both}
@@ -7,7 +7,7 @@ use Rattle.ion_streams.specs.reading.Standing.{IfOpen, work_of, reads_of}
 use Rattle.ion_docs.specs.Converted.{ReadSoFar, in_reading, so_far}
 use Rattle.ion_streams.proofs.Alongside.{past_ready, past_less, past_reads, past_within, past_stood}
 use Rattle.ion_streams.proofs.Unfailed.{heard_past}
-use Rattle.ion_streams.proofs.Steps.{on_err}
+use Rattle.ion_streams.proofs.Steps.{on_err, within_begun}
 use Rattle.ion_streams.proofs.Passes.{stood_next, stood_still}
 use Rattle.ion_streams.proofs.Driven.{driven_on}
 use Rattle.ion_docs.proofs.Conversions.{took_whole, took_some, front_of_front, took_front, put_cause, was_read, converted_at, kept_at}
@@ -15,6 +15,9 @@ use Rattle.ion_streams.proofs.Gathering.{at_driven, at_less, join_cause}
 use Rattle.ion_streams.proofs.Turns.{stood_end, so_far_end}
 use Rattle.ion_docs.proofs.Carrying.{Done, as_it_was, done_gathered}
 use Rattle.ion_docs.proofs.conversion.convert_by.Goals as goal
+
+pub loop-encoder-init : goal.loop-encoder-init
+loop-encoder-init g c = search (rules, within_begun)
 
 -- a value was carried
 pub returns-in-Some-Err-clause-so_far : goal.returns-in-Some-Err-clause-so_far

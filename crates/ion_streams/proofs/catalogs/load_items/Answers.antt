@@ -1,13 +1,16 @@
-use Rattle.std.proofs.Common.{◌≡◌, ℕ, List, [], ◌∷◌, ◌++◌, arith, Ok, Err, ◌∙◌}
+use Rattle.std.proofs.Common.{◌≡◌, ℕ, List, [], ◌∷◌, ◌++◌, arith, rules, Ok, Err, ◌∙◌}
 use Rattle.ion_model.specs.declared.value.Value.{Value}
 use Rattle.ion_symtab.specs.Trace.{plain}
 use Rattle.ion_streams.specs.Loaded.{catalog_of}
 use Rattle.ion_streams.proofs.Loads.{catalog_ok, value_refused}
 use Rattle.ion_streams.proofs.Driven.{driven_on}
 use Rattle.ion_streams.proofs.Passes.{gave_none, gave_itself}
-use Rattle.ion_streams.proofs.Steps.{stood_plain}
+use Rattle.ion_streams.proofs.Steps.{stood_plain, within_begun}
 use Rattle.ion_streams.proofs.Turns.{each_end, so_far_end}
 use Rattle.ion_streams.proofs.catalogs.load_items.Goals as goal
+
+pub loop-catalog-init : goal.loop-catalog-init
+loop-catalog-init g c = search (rules, within_begun)
 
 pub loop-catalog-preserved : goal.loop-catalog-preserved
 loop-catalog-preserved g c =

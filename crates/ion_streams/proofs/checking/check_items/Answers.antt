@@ -1,9 +1,13 @@
+use Rattle.std.proofs.Common.{rules}
 use Rattle.ion_symtab.specs.Trace.{plain}
 use Rattle.ion_streams.proofs.Passes.{gave_none}
 use Rattle.ion_streams.proofs.Driven.{checked_at}
-use Rattle.ion_streams.proofs.Steps.{stood_plain}
+use Rattle.ion_streams.proofs.Steps.{stood_plain, within_begun}
 use Rattle.ion_streams.proofs.Turns.{each_end, so_far_end}
 use Rattle.ion_streams.proofs.checking.check_items.Goals as goal
+
+pub loop-place-init : goal.loop-place-init
+loop-place-init g c = search (rules, within_begun)
 
 pub returns-clause-verdict : goal.returns-clause-verdict
 returns-clause-verdict g c =

@@ -1,4 +1,5 @@
-use Rattle.std.proofs.Common.{rules, arith, refl, take, ◌≤◌, length}
+use Rattle.std.proofs.Common.{rules, arith, refl, take, ◌≤◌, ◌<◌, length, length-take}
+use Rattle.ion_symtab.specs.laws.Causes.{WereMade-more}
 use Rattle.ion_streams.proofs.Joined.{between_written, heard_read}
 use Rattle.ion_streams.proofs.source.read_behind.Goals as goal
 
@@ -18,3 +19,11 @@ returns-clause-joined g c =
             fits e.within (search rules)),
       ),
     )
+
+pub returns-clause-asked : goal.returns-clause-asked
+returns-clause-asked g c = λ some first made were.
+    let count = c.in_ok-count.count in
+    let e = c.in_ok-count.ensures in
+    let more = take count c.read.new.piece in
+    let all : 0 < length more = omega (arith, some, e.within, length-take count c.read.new.piece) in
+    WereMade-more g.R.Inlet made first c.args.reader.now c.read.new.self more were (record { told = e.told; answered = e.going some }) all c.read.ensures.calls
