@@ -18,7 +18,8 @@ pub enum Fault {
     /// As many reads of one document were made as `Limits` allows, and none answered the end.
     #[error("TooManyReads")]
     TooManyReads,
-    /// A binary document would need a body of 2^63 octets, or a symbol id above 2^31-1.
+    /// A binary document would need a symbol id above 2^31-1. (A body of 2^63 octets would be too
+    /// large as well, and memory ends before.)
     #[error("TooLarge")]
     TooLarge,
     /// A name gave no reader.
