@@ -1,1 +1,7 @@
+pub mod Balanced
+pub mod FieldPairs
+pub mod Followed
+pub mod Sought
+pub mod Taped
+pub mod Trees
 mod ToldItems

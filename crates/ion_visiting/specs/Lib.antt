@@ -4,4 +4,6 @@ pub mod Events
 pub mod Count
 pub mod Outlining
 pub mod Building
+pub mod Tapes
+pub mod Following
 pub mod laws

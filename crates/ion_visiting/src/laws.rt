@@ -1,14 +1,19 @@
 //! Laws of events and of visitors. Each stands on an empty function: its contract is the law.
-ghost use Rattle.std.specs.Prelude.{◌≡◌, ◌-◌, ◌^◌, ◌++◌, List, length, min, Some};
+ghost use Rattle.std.specs.Prelude.{◌≡◌, ◌-◌, ◌^◌, ◌++◌, List, length, min, true, Some};
 ghost use Rattle.ion_model.specs.Outlines.{outline_of};
+ghost use Rattle.ion_model.specs.Same.{same};
 ghost use Rattle.ion_model.specs.declared.value.Value.{Value};
 ghost use Rattle.ion_visiting.specs.declared.building.Open.TheVariants as places;
 ghost use Rattle.ion_visiting.specs.declared.count.Count.{Count};
+ghost use Rattle.ion_visiting.specs.declared.following.Following.{Following};
 ghost use Rattle.ion_visiting.specs.declared.outlining.Outlining.{Outlining};
+ghost use Rattle.ion_visiting.specs.declared.tape.Tape.{Tape};
 ghost use Rattle.ion_visiting.specs.Building.{Built, builds, fresh};
 ghost use Rattle.ion_visiting.specs.Count.{counts, no_values};
 ghost use Rattle.ion_visiting.specs.Events.{Event, Led, events_of, stream_events};
+ghost use Rattle.ion_visiting.specs.Following.{StartsOn, follows};
 ghost use Rattle.ion_visiting.specs.Outlining.{no_outline, outline_in, outlines};
+ghost use Rattle.ion_visiting.specs.Tapes.{Holds, IsBlank, events_in, tapes};
 
 use crate::visitor::Visitor;
 
@@ -45,4 +50,19 @@ pub fn counted()
 pub fn outlined()
     ensures { (v : Value) (o : Outlining) → Led outlines (events_of v) no_outline o
         → outline_in o ≡ outline_of v }
+{}
+
+/// A tape that was told the events of a value, from nothing, holds that value, and tells those
+/// events.
+pub fn value_wrote()
+    ensures holds { (v : Value) (a t : Tape) → IsBlank a → Led tapes (events_of v) a t
+        → Holds t v }
+    ensures tells { (v : Value) (t : Tape) → Holds t v → events_in t ≡ events_of v }
+{}
+
+/// Where a tape holds a value, and a visitor that follows it from its front was led on by the
+/// events of another, the two are equivalent.
+pub fn value_followed()
+    ensures { (t : Tape) (v w : Value) (a b : Following) → Holds t v → StartsOn t a
+        → Led follows (events_of w) a b → same v w ≡ true }
 {}

@@ -1,0 +1,113 @@
+-- The visitor that finds on a tape what it is told.
+use Rattle.std.specs.Prelude.{◌≡◌, ◌+◌, ◌/◌, ◌%◌, ◌^◌, ◌++◌, ℕ, suc, [], ◌∷◌, List, slice_get, Bool, true, false, Option, Some}
+use Rattle.ion_visiting.specs.declared.bracket.Bracket.{Bracket}
+use Rattle.ion_visiting.specs.declared.bracket.Bracket.TheVariants as brackets
+use Rattle.ion_visiting.specs.declared.following.Following.{Following}
+use Rattle.ion_visiting.specs.declared.following.Frame.{Frame}
+use Rattle.ion_visiting.specs.declared.tape.Role.TheVariants as roles
+use Rattle.ion_visiting.specs.declared.tape.Entry.{Entry}
+use Rattle.ion_visiting.specs.declared.tape.Entry.TheVariants as entries
+use Rattle.ion_visiting.specs.declared.tape.Tape.{Tape}
+use Rattle.ion_visiting.specs.Events.{Event, name, opens, closes, ended}
+use Rattle.ion_visiting.specs.Tapes.{Tells}
+
+-- at the front of a tape
+pub record StartsOn (t : Tape) (a : Following) : Type 0 where
+  pub tape : a.tape.now ≡ t
+  pub at : a.at ≡ 0
+
+-- what a name is
+abbrev pub is_name : Entry → Bool
+is_name (entries.Unknown roles.Name) = true
+is_name (entries.Symbol roles.Name r) = true
+is_name _ = false
+
+-- a field begins at a place
+pub record IsField (t : Tape) (i : ℕ) : Type 0 where
+  pub entry : Entry
+  pub there : slice_get t.entries.items i ≡ Some entry
+  pub is : is_name entry ≡ true
+
+-- what an annotation is
+abbrev pub is_annotation : Entry → Bool
+is_annotation (entries.Unknown roles.Annotation) = true
+is_annotation (entries.Symbol roles.Annotation r) = true
+is_annotation _ = false
+
+-- where the payload ends whose front stands at a place
+abbrev pub behind_payload : Entry → ℕ → ℕ
+behind_payload (entries.Open x j) i = j
+behind_payload _ i = i + 1
+
+-- the value at a place ends before another, as its front says
+pub data Behind (t : Tape) : ℕ → ℕ → Type 0 where
+  past_annotation : (i j : ℕ) (e : Entry) → slice_get t.entries.items i ≡ Some e → is_annotation e ≡ true → Behind t (i + 1) j → Behind t i j
+  past_payload : (i : ℕ) (e : Entry) → slice_get t.entries.items i ≡ Some e → is_annotation e ≡ false → Behind t i (behind_payload e i)
+
+-- so many fields on, each with its bit
+pub data Steps (t : Tape) (f n : ℕ) : ℕ → ℕ → ℕ → Type 0 where
+  no_step : Steps t f n 0 f n
+  one_step : (k g m h : ℕ) → Steps t f n k g m → IsField t g → ((j : ℕ) → Behind t (g + 1) j → h ≡ j) → Steps t f n (suc k) h (m / 2)
+
+-- past fields that are taken
+pub data Skips (t : Tape) (f n : ℕ) : ℕ → ℕ → Type 0 where
+  none_skipped : Skips t f n f n
+  one_skipped : (g m h : ℕ) → Skips t f n g m → IsField t g → m % 2 ≡ 1 → ((j : ℕ) → Behind t (g + 1) j → h ≡ j) → Skips t f n h (m / 2)
+
+-- one entry on
+pub record Takes (a : Following) (e : Entry) (b : Following) : Type 0 where
+  pub there : slice_get a.tape.now.entries.items a.at ≡ Some e
+  pub is : b ≡ record a { at = a.at + 1 }
+
+-- a field of this name that isn't taken, at a place, by its bit
+pub record Seeks (t : Tape) (f : Frame) (s : Option (List ℕ)) (place bit : ℕ) : Type 0 where
+  pub k : ℕ
+  pub others : ℕ
+  pub steps : Steps t f.free f.taken k place others
+  pub is_free : others % 2 ≡ 0
+  pub tells : Tells t place (name s)
+  pub is_bit : bit ≡ 2 ^ k
+
+-- the event there is this one
+pub record Finds (a : Following) (e : Event) (b : Following) : Type 0 where
+  pub tells : Tells a.tape.now a.at e
+  pub is : b ≡ record a { at = a.at + 1 }
+
+-- a field of this name is taken, and those at the front that are taken are passed
+pub record Names (a : Following) (s : Option (List ℕ)) (b : Following) : Type 0 where
+  pub place : ℕ
+  pub bit : ℕ
+  pub seeks : Seeks a.tape.now a.frame s place bit
+  pub skips : Skips a.tape.now a.frame.free (a.frame.taken + bit) b.frame.free b.frame.taken
+  pub tape : b.tape ≡ a.tape
+  pub at : b.at ≡ place + 1
+  pub outer : b.outer ≡ a.outer
+
+-- into brackets; the frame around them is kept
+pub record Descends (a : Following) (x : Bracket) (b : Following) : Type 0 where
+  pub end : ℕ
+  pub there : slice_get a.tape.now.entries.items a.at ≡ Some (entries.Open x end)
+  pub tape : b.tape ≡ a.tape
+  pub at : b.at ≡ a.at + 1
+  pub frame : b.frame ≡ record { free = a.at + 1; taken = 0 }
+  pub outer : b.outer.items ≡ a.outer.items ++ a.frame ∷ []
+
+-- where nothing may be left at a close: in a struct at the first field that isn't taken
+abbrev pub place_in : Bracket → Following → ℕ
+place_in brackets.Fields a = a.frame.free
+place_in _ a = a.at
+
+-- out of brackets
+pub record Ascends (a : Following) (x : Bracket) (b : Following) : Type 0 where
+  pub there : slice_get a.tape.now.entries.items (place_in x a) ≡ Some (entries.Close x)
+  pub tape : b.tape ≡ a.tape
+  pub at : b.at ≡ place_in x a + 1
+  pub outer : a.outer.items ≡ b.outer.items ++ b.frame ∷ []
+
+-- the visitor
+abbrev pub follows : Following → Event → Following → Type 0
+follows a (name s) b = Names a s b
+follows a (opens x) b = Descends a x b
+follows a (closes x) b = Ascends a x b
+follows a ended b = b ≡ a
+follows a e b = Finds a e b

@@ -1,0 +1,132 @@
+-- A tape: what events were written down, and how a value lies among them.
+use Rattle.std.specs.Prelude.{◌≡◌, ◌+◌, ℕ, List, [], ◌∷◌, ◌++◌, length, take, drop, set, slice_get, nat_le, cond, Option, Some, None, option_map}
+use Rattle.std.specs.List.{flat_map}
+use Rattle.std.specs.Option.{option_to_list}
+use Rattle.ion_model.specs.declared.value.Value.{Value}
+use Rattle.ion_model.specs.declared.value.Payload.TheVariants as payloads
+use Rattle.ion_scalar.specs.declared.number.Number.{Number}
+use Rattle.ion_visiting.specs.declared.bracket.Bracket.{Bracket}
+use Rattle.ion_visiting.specs.declared.tape.Role.{Role}
+use Rattle.ion_visiting.specs.declared.tape.Role.TheVariants as roles
+use Rattle.ion_visiting.specs.declared.tape.Form.{Form}
+use Rattle.ion_visiting.specs.declared.tape.Form.TheVariants as forms
+use Rattle.ion_visiting.specs.declared.tape.Range.{Range}
+use Rattle.ion_visiting.specs.declared.tape.Entry.{Entry}
+use Rattle.ion_visiting.specs.declared.tape.Entry.TheVariants as entries
+use Rattle.ion_visiting.specs.declared.tape.Tape.{Tape}
+use Rattle.ion_visiting.specs.Events.{Event, part, annotation, name, opens, closes, ended, events_of, Led}
+use Rattle.ion_visiting.specs.Parts.{number_payload}
+
+-- a symbol as a value, as an annotation or as the name of a field
+abbrev pub symbol_event : Role → Option (List ℕ) → Event
+symbol_event roles.Value s = part (payloads.Symbol s)
+symbol_event roles.Annotation s = annotation s
+symbol_event roles.Name s = name s
+
+-- a string or a lob
+abbrev pub text_event : Form → List ℕ → Event
+text_event forms.Str w = part (payloads.Str w)
+text_event forms.Clob w = part (payloads.Clob w)
+text_event forms.Blob w = part (payloads.Blob w)
+
+-- the octets of a range, where it ends among those that there are
+abbrev pub text_at : Tape → Range → Option (List ℕ)
+text_at t r = cond (nat_le (r.from + r.count) (length t.octets.items)) (Some (take r.count (drop r.from t.octets.items))) None
+
+-- what an entry tells; none where its text or its number isn't there
+abbrev pub told : Tape → Entry → Option Event
+told t (entries.Null k) = Some (part (payloads.Null k))
+told t (entries.Truth b) = Some (part (payloads.Truth b))
+told t (entries.Number i) = option_map (λ n. part (number_payload n)) (slice_get t.numbers.items i)
+told t (entries.Unknown x) = Some (symbol_event x None)
+told t (entries.Symbol x r) = option_map (λ w. symbol_event x (Some w)) (text_at t r)
+told t (entries.Text x r) = option_map (text_event x) (text_at t r)
+told t (entries.Open x j) = Some (opens x)
+told t (entries.Close x) = Some (closes x)
+
+-- the events that a tape tells
+abbrev pub events_in : Tape → List Event
+events_in t = flat_map (λ e. option_to_list (told t e)) t.entries.items
+
+-- an entry at a place tells this
+pub record Tells (t : Tape) (i : ℕ) (e : Event) : Type 0 where
+  pub entry : Entry
+  pub there : slice_get t.entries.items i ≡ Some entry
+  pub is : told t entry ≡ Some e
+
+-- nothing was written down yet
+pub record IsBlank (t : Tape) : Type 0 where
+  pub entries : t.entries.items ≡ []
+  pub opened : t.opened.items ≡ []
+
+-- the texts and numbers of the one are at the front of the other's, and the same brackets are open
+pub record Grows (a b : Tape) : Type 0 where
+  pub text : List ℕ
+  pub octets : b.octets.items ≡ a.octets.items ++ text
+  pub number : List Number
+  pub numbers : b.numbers.items ≡ a.numbers.items ++ number
+  pub opened : b.opened.items ≡ a.opened.items
+
+-- one entry more, which tells this
+pub record Writes (a b : Tape) (e : Event) : Type 0 where
+  pub entry : Entry
+  pub entries : b.entries.items ≡ a.entries.items ++ entry ∷ []
+  pub is : told b entry ≡ Some e
+  pub grows : Grows a b
+
+-- texts and numbers are the same
+pub record Rests (a b : Tape) : Type 0 where
+  pub octets : b.octets ≡ a.octets
+  pub numbers : b.numbers ≡ a.numbers
+
+-- brackets are opened
+pub record Opens (a b : Tape) (x : Bracket) : Type 0 where
+  pub entries : b.entries.items ≡ a.entries.items ++ entries.Open x 0 ∷ []
+  pub opened : b.opened.items ≡ a.opened.items ++ length a.entries.items ∷ []
+  pub rests : Rests a b
+
+-- those opened last are closed: where they were opened stands the place behind the close
+pub record Closes (a b : Tape) (x : Bracket) : Type 0 where
+  pub place : ℕ
+  pub opened : a.opened.items ≡ b.opened.items ++ place ∷ []
+  pub entries : b.entries.items ≡ set a.entries.items place (entries.Open x (length a.entries.items + 1)) ++ entries.Close x ∷ []
+  pub rests : Rests a b
+
+-- the visitor that writes down what it takes; that a value of the top level ended is not written
+abbrev pub tapes : Tape → Event → Tape → Type 0
+tapes a (opens x) b = Opens a b x
+tapes a (closes x) b = Closes a b x
+tapes a ended b = b ≡ a
+tapes a e b = Writes a b e
+
+-- a place on a tape, and where the brackets around it end, the innermost first
+pub record Walk : Type 0 where
+  pub at : ℕ
+  pub ends : List ℕ
+
+-- past an event
+pub record Passes (t : Tape) (a : Walk) (e : Event) (b : Walk) : Type 0 where
+  pub tells : Tells t a.at e
+  pub is : b ≡ record { at = a.at + 1; ends = a.ends }
+
+-- into brackets, which say where they end
+pub record Enters (t : Tape) (a : Walk) (x : Bracket) (b : Walk) : Type 0 where
+  pub end : ℕ
+  pub there : slice_get t.entries.items a.at ≡ Some (entries.Open x end)
+  pub is : b ≡ record { at = a.at + 1; ends = end ∷ a.ends }
+
+-- out of brackets, which end there
+pub record Leaves (t : Tape) (a : Walk) (x : Bracket) (b : Walk) : Type 0 where
+  pub there : slice_get t.entries.items a.at ≡ Some (entries.Close x)
+  pub at : b.at ≡ a.at + 1
+  pub ends : a.ends ≡ b.at ∷ b.ends
+
+-- along a tape
+abbrev pub walks : Tape → Walk → Event → Walk → Type 0
+walks t a (opens x) b = Enters t a x b
+walks t a (closes x) b = Leaves t a x b
+walks t a e b = Passes t a e b
+
+-- a tape is of this value: its events stand there from front to end, and brackets say where they end
+abbrev pub Holds : Tape → Value → Type 0
+Holds t v = Led (walks t) (events_of v) (record { at = 0; ends = [] }) (record { at = length t.entries.items; ends = [] })

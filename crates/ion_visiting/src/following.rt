@@ -1,0 +1,259 @@
+//! Finding a value on a tape as it is told, the fields of a struct in any order.
+ghost use Rattle.std.specs.Prelude.{◌≡◌, ◌+◌, ◌<◌, ◌^◌, ℕ, true, IfSome, Some, option_map};
+ghost use Rattle.ion_visiting.specs.Events.{name};
+ghost use Rattle.ion_visiting.specs.Following.{Behind, IsField, Seeks, Skips, StartsOn, Takes, behind_payload, is_annotation};
+ghost use Rattle.ion_visiting.specs.Tapes.{Tells, told};
+
+use crate::bracket::Bracket;
+use crate::part::Part;
+use crate::tape::{Entry, Role, Tape};
+use crate::visitor::Visitor;
+use ion_scalar::Number;
+use std::alloc::Global;
+
+/// Which fields of a struct are still to come.
+#[derive(Clone, Copy, Drop)]
+pub(crate) struct Frame {
+    /// The first field of which that isn't known to be taken, or the close behind the last.
+    free: usize,
+    /// Which fields from that one on are taken, the first by the lowest bit.
+    taken: u64,
+}
+
+/// The visitor that finds on a tape what it is told: the items of lists and s-expressions in their
+/// order, each field of a struct as the first of its name that isn't taken yet, of the 64 fields
+/// from the first on that is free.
+///
+/// It answers `false` where what it is told isn't there, and may do so of equivalent values: where
+/// a field stands further off, where fields of one name stand in another order, or where memory
+/// was refused. It takes memory for the containers that are open, 16 octets for each.
+#[derive(Drop)]
+pub struct Following<'a> {
+    tape: &'a Tape,
+    at: usize,
+    frame: Frame,
+    /// The frames around, the innermost last.
+    outer: Vec<Frame>,
+}
+
+impl<'a> Following<'a> {
+    /// At the front of a tape. Takes no memory.
+    pub fn new(alloc: Global, tape: &'a Tape) -> Following<'a>
+        ensures { StartsOn tape.now result }
+    {
+        Following {
+            tape,
+            at: 0,
+            frame: Frame { free: 0, taken: 0 },
+            outer: Vec::new(alloc),
+        }
+    }
+
+    // The entry there; goes behind it.
+    #[inline(always)]
+    fn take(&mut self) -> Option<Entry>
+        ensures { IfSome result (λ entry. Takes self.old entry self.new) }
+    {
+        let entry = *self.tape.entries.get(self.at)?;
+        self.at += 1;
+        Some(entry)
+    }
+}
+
+// Whether the name of a field stands there.
+#[inline(always)]
+fn is_field(tape: &Tape, place: usize) -> bool
+    ensures { result ≡ true → IsField tape.now place }
+{
+    match tape.entries.get(place) {
+        Some(Entry::Symbol(Role::Name, _)) => true,
+        Some(Entry::Unknown(Role::Name)) => true,
+        _ => false,
+    }
+}
+
+// Whether this name stands there.
+#[inline(always)]
+fn is_name(tape: &Tape, place: usize, text: Option<&str>) -> bool
+    ensures { result ≡ true →
+        Tells tape.now place (name (option_map (λ t. t.now) text.entry)) }
+{
+    match tape.entries.get(place) {
+        Some(entry) => tape.tells_symbol(*entry, Role::Name, text),
+        None => false,
+    }
+}
+
+#[inline(always)]
+fn is_annotation(entry: Entry) -> bool
+    ensures { result ≡ is_annotation entry }
+{
+    match entry {
+        Entry::Symbol(Role::Annotation, _) => true,
+        Entry::Unknown(Role::Annotation) => true,
+        _ => false,
+    }
+}
+
+// Behind the payload whose front stands there.
+#[inline(always)]
+fn behind_payload(entry: Entry, place: usize) -> usize
+    requires { place + 1 < 2 ^ 64 }
+    ensures { result ≡ behind_payload entry place }
+{
+    match entry {
+        Entry::Open(_, end) => end as usize,
+        _ => place + 1,
+    }
+}
+
+// Behind the value there.
+#[inline(always)]
+#[tactic(auto, using(crate::proofs::Sought::past_annotation, crate::proofs::Sought::past_payload, crate::proofs::Sought::past_none))]
+fn behind_value(tape: &Tape, from: usize) -> usize
+    ensures { (j : ℕ) → Behind tape.now from j → result ≡ j }
+{
+    let mut at = from;
+    for _ in 0..tape.entries.len() {
+        let Some(entry) = tape.entries.get(at) else {
+            return at;
+        };
+        if !is_annotation(*entry) {
+            return behind_payload(*entry, at);
+        }
+        at += 1;
+    }
+    at
+}
+
+// The first field of this name that isn't taken: where it stands, and its bit.
+#[tactic(auto, using(crate::proofs::Sought::field_within))]
+fn seek(tape: &Tape, frame: Frame, text: Option<&str>) -> Option<(usize, u64)>
+    ensures { IfSome result (λ field.
+        Seeks tape.now frame (option_map (λ t. t.now) text.entry) field.0 field.1) }
+{
+    let mut place = frame.free;
+    let mut others = frame.taken;
+    let mut bit: u64 = 1;
+    for _ in 0..64 {
+        if others % 2 == 0 && is_name(tape, place, text) {
+            return Some((place, bit));
+        }
+        if !is_field(tape, place) {
+            return None;
+        }
+        place = behind_value(tape, place + 1);
+        others /= 2;
+        bit = bit.checked_mul(2)?;
+    }
+    None
+}
+
+// Past fields that are taken.
+#[tactic(auto, using(crate::proofs::Sought::field_within))]
+fn skip_taken(tape: &Tape, frame: Frame) -> Option<Frame>
+    ensures { IfSome result (λ left.
+        Skips tape.now frame.free frame.taken left.free left.taken) }
+{
+    let mut free = frame.free;
+    let mut taken = frame.taken;
+    for _ in 0..64 {
+        if taken % 2 == 0 {
+            break;
+        }
+        if !is_field(tape, free) {
+            return None;
+        }
+        free = behind_value(tape, free + 1);
+        taken /= 2;
+    }
+    Some(Frame { free, taken })
+}
+
+impl Visitor for Following<'_> {
+    ghost use Rattle.ion_visiting.specs.Following.{follows};
+
+    ghost takes = { follows };
+
+    #[inline(always)]
+    fn part(&mut self, said: &Part<'_>) -> bool {
+        match self.take() {
+            Some(entry) => self.tape.tells_part(entry, said),
+            None => false,
+        }
+    }
+
+    #[inline(always)]
+    fn number(&mut self, number: Number) -> bool {
+        match self.take() {
+            Some(entry) => self.tape.tells_number(entry, number),
+            None => false,
+        }
+    }
+
+    #[inline(always)]
+    fn unknown_symbol(&mut self) -> bool {
+        match self.take() {
+            Some(entry) => self.tape.tells_symbol(entry, Role::Value, None),
+            None => false,
+        }
+    }
+
+    #[inline(always)]
+    fn annotation(&mut self, text: Option<&str>) -> bool {
+        match self.take() {
+            Some(entry) => self.tape.tells_symbol(entry, Role::Annotation, text),
+            None => false,
+        }
+    }
+
+    fn name(&mut self, text: Option<&str>) -> bool {
+        let Some((place, bit)) = seek(self.tape, self.frame, text) else {
+            return false;
+        };
+        let Some(taken) = self.frame.taken.checked_add(bit) else {
+            return false;
+        };
+        let free = self.frame.free;
+        let Some(frame) = skip_taken(self.tape, Frame { free, taken }) else {
+            return false;
+        };
+        self.frame = frame;
+        self.at = place + 1;
+        true
+    }
+
+    #[inline(always)]
+    fn open(&mut self, bracket: Bracket) -> bool {
+        let Some(Entry::Open(own, _)) = self.take() else {
+            return false;
+        };
+        let frame = Frame {
+            free: self.at,
+            taken: 0,
+        };
+        let outer = self.frame;
+        self.frame = frame;
+        own == bracket && self.outer.push(outer).is_ok()
+    }
+
+    #[inline(always)]
+    fn close(&mut self, bracket: Bracket) -> bool {
+        if bracket == Bracket::Fields {
+            self.at = self.frame.free;
+        }
+        let Some(Entry::Close(own)) = self.take() else {
+            return false;
+        };
+        let Some(frame) = self.outer.pop() else {
+            return false;
+        };
+        self.frame = frame;
+        own == bracket
+    }
+
+    #[inline(always)]
+    fn ended(&mut self) -> bool {
+        true
+    }
+}

@@ -1,0 +1,378 @@
+//! Values written down event by event, in whatever encoding they were read.
+ghost use Rattle.std.specs.Prelude.{◌≡◌, ◌+◌, ◌++◌, ◌∷◌, [], ℕ, true, IfSome, Some, option_map};
+ghost use Rattle.std.specs.Option.{is_some};
+ghost use Rattle.ion_visiting.specs.Events.{Led, part};
+ghost use Rattle.ion_visiting.specs.Parts.{number_payload, payload_of};
+ghost use Rattle.ion_visiting.specs.Tapes.{Grows, IsBlank, Rests, Writes, events_in, symbol_event, text_at, text_event, told};
+
+use crate::bracket::Bracket;
+use crate::part::Part;
+use crate::visitor::Visitor;
+use ion_model::Kind;
+use ion_scalar::Number;
+use std::alloc::Global;
+use std::str;
+
+/// Where a text stands among the octets of a tape.
+#[derive(Clone, Copy)]
+pub(crate) struct Range {
+    from: u32,
+    count: u32,
+}
+
+/// What a symbol is there.
+#[derive(Clone, Copy, PartialEq, Eq)]
+pub(crate) enum Role {
+    Value,
+    Annotation,
+    Name,
+}
+
+/// What octets are there.
+#[derive(Clone, Copy, PartialEq, Eq)]
+pub(crate) enum Form {
+    Str,
+    Clob,
+    Blob,
+}
+
+/// An event as it is written down. Texts and numbers stand beside the entries.
+#[derive(Clone, Copy)]
+pub(crate) enum Entry {
+    Null(Kind),
+    Truth(bool),
+    /// By its place among the numbers.
+    Number(u32),
+    /// A symbol of unknown text.
+    Unknown(Role),
+    Symbol(Role, Range),
+    Text(Form, Range),
+    /// With the entry behind the close, once that is there.
+    Open(Bracket, u32),
+    Close(Bracket),
+}
+
+/// The visitor that writes down what it is told, to be told again or to be found there by
+/// `Following`. An event takes 12 to 16 octets, its text as many as it has, a number 40.
+///
+/// It answers `false` where memory was refused, and beyond 2^32-1 events, numbers or octets of
+/// texts; `clear` begins anew.
+#[derive(Drop)]
+pub struct Tape {
+    pub(crate) entries: Vec<Entry>,
+    octets: Vec<u8>,
+    numbers: Vec<Number>,
+    /// Where the brackets that are open were opened, the innermost last.
+    opened: Vec<u32>,
+}
+
+impl Tape {
+    /// Of nothing. Takes no memory.
+    pub fn new(alloc: Global) -> Tape
+        ensures { IsBlank result }
+    {
+        Tape {
+            entries: Vec::new(alloc),
+            octets: Vec::new(alloc),
+            numbers: Vec::new(alloc),
+            opened: Vec::new(alloc),
+        }
+    }
+
+    /// Forgets what was written down, and keeps the memory.
+    pub fn clear(&mut self)
+        ensures { IsBlank self.new }
+    {
+        self.entries.clear();
+        self.octets.clear();
+        self.numbers.clear();
+        self.opened.clear();
+    }
+
+    // One entry more.
+    #[inline(always)]
+    fn put(&mut self, entry: Entry) -> bool
+        ensures entries { result ≡ true →
+            self.new.entries.items ≡ self.old.entries.items ++ entry ∷ [] }
+        ensures rests { Rests self.old self.new }
+        ensures opened { self.new.opened ≡ self.old.opened }
+    {
+        self.entries.push(entry).is_ok()
+    }
+
+    // Where this text stands now.
+    #[inline(always)]
+    fn put_text(&mut self, text: &[u8]) -> Option<Range>
+        ensures text { IfSome result (λ range. text_at self.new range ≡ Some text.now) }
+        ensures grows { IfSome result (λ _. Grows self.old self.new) }
+        ensures entries { self.new.entries ≡ self.old.entries }
+    {
+        let from = self.octets.len();
+        let all = from + text.len();
+        if all > u32::MAX as usize || !self.octets.extend_from_slice(text).is_ok() {
+            return None;
+        }
+        Some(Range {
+            from: from as u32,
+            count: text.len() as u32,
+        })
+    }
+
+    #[inline(always)]
+    fn write_symbol(&mut self, role: Role, text: Option<&str>) -> bool
+        ensures { result ≡ true → Writes self.old self.new
+            (symbol_event role (option_map (λ t. t.now) text.entry)) }
+    {
+        let Some(text) = text else {
+            return self.put(Entry::Unknown(role));
+        };
+        match self.put_text(text.as_bytes()) {
+            Some(range) => self.put(Entry::Symbol(role, range)),
+            None => false,
+        }
+    }
+
+    #[inline(always)]
+    fn write_text(&mut self, form: Form, octets: &[u8]) -> bool
+        ensures { result ≡ true → Writes self.old self.new (text_event form octets.now) }
+    {
+        match self.put_text(octets) {
+            Some(range) => self.put(Entry::Text(form, range)),
+            None => false,
+        }
+    }
+
+    // The text that stands there.
+    #[inline(always)]
+    fn text(&self, range: Range) -> Option<&[u8]>
+        ensures { option_map (λ t. t.now) result ≡ text_at self.now range }
+    {
+        let from = range.from as usize;
+        let to = from + range.count as usize;
+        if to > self.octets.len() {
+            return None;
+        }
+        Some(&self.octets[from..to])
+    }
+
+    // Whether this text stands there.
+    #[inline(always)]
+    fn has_text(&self, range: Range, text: &[u8]) -> bool
+        ensures { result ≡ true → text_at self.now range ≡ Some text.now }
+    {
+        match self.text(range) {
+            Some(own) => own == text,
+            None => false,
+        }
+    }
+
+    /// Whether this entry tells this symbol.
+    #[inline(always)]
+    pub(crate) fn tells_symbol(&self, entry: Entry, role: Role, text: Option<&str>) -> bool
+        ensures { result ≡ true → told self.now entry
+            ≡ Some (symbol_event role (option_map (λ t. t.now) text.entry)) }
+    {
+        match (entry, text) {
+            (Entry::Unknown(own), None) => own == role,
+            (Entry::Symbol(own, range), Some(text)) => {
+                own == role && self.has_text(range, text.as_bytes())
+            }
+            _ => false,
+        }
+    }
+
+    /// Whether this entry tells these octets.
+    #[inline(always)]
+    pub(crate) fn tells_text(&self, entry: Entry, form: Form, octets: &[u8]) -> bool
+        ensures { result ≡ true → told self.now entry ≡ Some (text_event form octets.now) }
+    {
+        match entry {
+            Entry::Text(own, range) => own == form && self.has_text(range, octets),
+            _ => false,
+        }
+    }
+
+    /// Whether this entry tells this number.
+    #[inline(always)]
+    pub(crate) fn tells_number(&self, entry: Entry, number: Number) -> bool
+        ensures { result ≡ true → told self.now entry ≡ Some (part (number_payload number)) }
+    {
+        let Entry::Number(place) = entry else {
+            return false;
+        };
+        match self.numbers.get(place as usize) {
+            Some(own) => same_number(own, &number),
+            None => false,
+        }
+    }
+
+    /// Whether this entry tells this part.
+    #[inline(always)]
+    pub(crate) fn tells_part(&self, entry: Entry, said: &Part<'_>) -> bool
+        ensures { result ≡ true → told self.now entry ≡ Some (part (payload_of said.now)) }
+    {
+        match said {
+            Part::Null(kind) => matches!(entry, Entry::Null(own) if own == *kind),
+            Part::Truth(truth) => matches!(entry, Entry::Truth(own) if own == *truth),
+            Part::Symbol(text) => self.tells_symbol(entry, Role::Value, Some(text)),
+            Part::Str(text) => self.tells_text(entry, Form::Str, text.as_bytes()),
+            Part::Clob(octets) => self.tells_text(entry, Form::Clob, octets),
+            Part::Blob(octets) => self.tells_text(entry, Form::Blob, octets),
+        }
+    }
+
+    /// Tells a visitor what was written down; `false` where the visitor answered so, of which the
+    /// rest isn't told. Takes no memory by itself.
+    pub fn tell<V: Visitor>(&self, visitor: &mut V) -> bool
+        ensures { result ≡ true →
+            Led V.takes (events_in self.now) visitor.old visitor.new }
+    {
+        let entries = self.entries.as_slice();
+        for entry in entries {
+            if !self.tell_entry(*entry, visitor) {
+                return false;
+            }
+        }
+        true
+    }
+
+    fn tell_entry<V: Visitor>(&self, entry: Entry, visitor: &mut V) -> bool
+        ensures told { result ≡ true →
+            IfSome (told self.now entry) (λ e. V.takes visitor.old e visitor.new) }
+        ensures some { result ≡ true → is_some (told self.now entry) ≡ true }
+    {
+        match entry {
+            Entry::Null(kind) => visitor.part(&Part::Null(kind)),
+            Entry::Truth(truth) => visitor.part(&Part::Truth(truth)),
+            Entry::Number(place) => match self.numbers.get(place as usize) {
+                Some(number) => visitor.number(*number),
+                None => false,
+            },
+            Entry::Unknown(role) => tell_symbol(role, None, visitor),
+            Entry::Symbol(role, range) => match self.text(range) {
+                Some(octets) => match str::from_utf8(octets) {
+                    Ok(text) => tell_symbol(role, Some(text), visitor),
+                    Err(_) => false,
+                },
+                None => false,
+            },
+            Entry::Text(form, range) => match self.text(range) {
+                Some(octets) => tell_text(form, octets, visitor),
+                None => false,
+            },
+            Entry::Open(bracket, _) => visitor.open(bracket),
+            Entry::Close(bracket) => visitor.close(bracket),
+        }
+    }
+}
+
+#[inline(always)]
+fn same_number(number: &Number, other: &Number) -> bool
+    ensures { result ≡ true → number.now ≡ other.now }
+{
+    match number {
+        Number::Int(whole) => matches!(other, Number::Int(other) if whole == other),
+        Number::Decimal(decimal) => {
+            matches!(other, Number::Decimal(other) if decimal.same(*other))
+        }
+        Number::Timestamp(timestamp) => {
+            matches!(other, Number::Timestamp(other) if timestamp.same(*other))
+        }
+    }
+}
+
+fn tell_symbol<V: Visitor>(role: Role, text: Option<&str>, visitor: &mut V) -> bool
+    ensures { result ≡ true → V.takes visitor.old
+        (symbol_event role (option_map (λ t. t.now) text.entry)) visitor.new }
+{
+    match role {
+        Role::Value => match text {
+            None => visitor.unknown_symbol(),
+            Some(text) => visitor.part(&Part::Symbol(text)),
+        },
+        Role::Annotation => visitor.annotation(text),
+        Role::Name => visitor.name(text),
+    }
+}
+
+fn tell_text<V: Visitor>(form: Form, octets: &[u8], visitor: &mut V) -> bool
+    ensures { result ≡ true → V.takes visitor.old (text_event form octets.now) visitor.new }
+{
+    match form {
+        Form::Str => match str::from_utf8(octets) {
+            Ok(text) => visitor.part(&Part::Str(text)),
+            Err(_) => false,
+        },
+        Form::Clob => visitor.part(&Part::Clob(octets)),
+        Form::Blob => visitor.part(&Part::Blob(octets)),
+    }
+}
+
+impl Visitor for Tape {
+    ghost use Rattle.ion_visiting.specs.Tapes.{tapes};
+
+    ghost takes = { tapes };
+
+    #[inline(always)]
+    fn part(&mut self, said: &Part<'_>) -> bool {
+        match said {
+            Part::Null(kind) => self.put(Entry::Null(*kind)),
+            Part::Truth(truth) => self.put(Entry::Truth(*truth)),
+            Part::Symbol(text) => self.write_symbol(Role::Value, Some(text)),
+            Part::Str(text) => self.write_text(Form::Str, text.as_bytes()),
+            Part::Clob(octets) => self.write_text(Form::Clob, octets),
+            Part::Blob(octets) => self.write_text(Form::Blob, octets),
+        }
+    }
+
+    #[inline(always)]
+    #[tactic(auto, using(crate::proofs::Taped::number_writes))]
+    fn number(&mut self, number: Number) -> bool {
+        let place = self.numbers.len();
+        if place > u32::MAX as usize || !self.numbers.push(number).is_ok() {
+            return false;
+        }
+        self.put(Entry::Number(place as u32))
+    }
+
+    #[inline(always)]
+    fn unknown_symbol(&mut self) -> bool {
+        self.put(Entry::Unknown(Role::Value))
+    }
+
+    #[inline(always)]
+    fn annotation(&mut self, text: Option<&str>) -> bool {
+        self.write_symbol(Role::Annotation, text)
+    }
+
+    #[inline(always)]
+    fn name(&mut self, text: Option<&str>) -> bool {
+        self.write_symbol(Role::Name, text)
+    }
+
+    #[inline(always)]
+    fn open(&mut self, bracket: Bracket) -> bool {
+        let place = self.entries.len();
+        place <= u32::MAX as usize
+            && self.opened.push(place as u32).is_ok()
+            && self.put(Entry::Open(bracket, 0))
+    }
+
+    #[inline(always)]
+    fn close(&mut self, bracket: Bracket) -> bool {
+        let Some(place) = self.opened.pop() else {
+            return false;
+        };
+        let count = self.entries.len();
+        if place as usize >= count || count >= u32::MAX as usize {
+            return false;
+        }
+        self.entries[place as usize] = Entry::Open(bracket, count as u32 + 1);
+        self.put(Entry::Close(bracket))
+    }
+
+    #[inline(always)]
+    fn ended(&mut self) -> bool {
+        true
+    }
+}
