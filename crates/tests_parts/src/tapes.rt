@@ -1,0 +1,79 @@
+//! Values written on a tape, told again from there, and found there. What is owned is let go by a
+//! call of `drop`, as in `model.rt`.
+use crate::answers::same;
+use ion_model::{Reason, Value};
+use ion_visiting::{Building, Following, Tape, tell};
+use std::alloc::Global;
+use std::test::Fail;
+
+/// `{a:1,b:[word,{c:"text",d:null}],a:2}`: the fields of both structs in this order, or each as the
+/// first that can be so. The text is given.
+fn nested(alloc: Global, text: &str, reordered: bool) -> Result<Value, Reason> {
+    let (text, truth) = (Value::string(alloc, text)?, Value::bool(alloc, true));
+    let inner = match reordered {
+        false => vec![in alloc; ("c", text), ("d", truth)]?,
+        true => vec![in alloc; ("d", truth), ("c", text)]?,
+    };
+    let items = vec![in alloc; Value::symbol(alloc, "word")?, Value::record(alloc, inner)?]?;
+    let list = Value::list(alloc, items).annotated(alloc, &["note"])?;
+    let (one, two) = (Value::int(alloc, 1), Value::int(alloc, 2));
+    let outer = match reordered {
+        false => vec![in alloc; ("a", one), ("b", list), ("a", two)]?,
+        true => vec![in alloc; ("b", list), ("a", one), ("a", two)]?,
+    };
+    Value::record(alloc, outer)
+}
+
+/// Whether a value is found on the tape of another. Both are let go.
+fn is_found(alloc: Global, written: Value, value: Value) -> bool {
+    let mut tape = Tape::new(alloc);
+    let wrote = tell(&written, &mut tape);
+    let mut following = Following::new(alloc, &tape);
+    let found = wrote && tell(&value, &mut following);
+    drop(following);
+    drop(tape);
+    drop(written);
+    drop(value);
+    found
+}
+
+#[test]
+fn fields_are_found_in_any_order(rt: HostRuntime) -> Result<(), Fail> {
+    for row in &[(false, false), (false, true), (true, false)] {
+        let written = nested(rt.alloc(), "text", row.0)?;
+        let value = nested(rt.alloc(), "text", row.1)?;
+        same(&rt, *row, is_found(rt.alloc(), written, value), true);
+    }
+    Ok(())
+}
+
+#[test]
+fn another_text_is_not_found(rt: HostRuntime) -> Result<(), Fail> {
+    for text in &["texts", "tex", "test"] {
+        let written = nested(rt.alloc(), "text", false)?;
+        let value = nested(rt.alloc(), *text, true)?;
+        same(&rt, *text, is_found(rt.alloc(), written, value), false);
+    }
+    Ok(())
+}
+
+/// Whether what a tape tells of a value is built as that value.
+fn is_told_again(alloc: Global, value: Value) -> bool {
+    let mut tape = Tape::new(alloc);
+    let mut building = Building::new(alloc);
+    let told = tell(&value, &mut tape) && tape.tell(&mut building);
+    let built = building.take();
+    let found = told && built.as_ref() == Some(&value);
+    drop(built);
+    drop(building);
+    drop(tape);
+    drop(value);
+    found
+}
+
+#[test]
+fn a_tape_tells_what_it_was_told(rt: HostRuntime) -> Result<(), Fail> {
+    let value = nested(rt.alloc(), "text", false)?;
+    same(&rt, "the value", is_told_again(rt.alloc(), value), true);
+    Ok(())
+}
