@@ -1,21 +1,20 @@
-//! The calls of `ion_docs` over devices that fail once and then would go on, with reads beyond what
-//! may be, and with writers that take nothing. `M` in a comment stands for the version marker `E0
-//! 01 00 EA`.
+//! The calls of `ion_docs` over devices that fail once and then would go on, and with reads beyond
+//! what may be. `M` in a comment stands for the version marker `E0 01 00 EA`.
 use crate::answers::same;
-use ion_devices::{FrailReader, FrailWriter, NEVER};
-use ion_docs::{Side, Target, Verdict, check, compare, convert, load_catalog, show};
+use ion_devices::{FrailReader, NEVER};
+use ion_docs::{Side, Target, Verdict, check, compare, convert, load_catalog, read_document, show};
 use ion_model::Refusal;
 use ion_symtab::{Catalog, Fault, FromRead, Inlet, Limits, ToWrite};
 use std::alloc::Global;
 use std::io;
 use std::io::{ErrorKind, Read};
 
-/// The octets, so many a call.
-fn in_pieces(octets: &[u8], size: usize, fails_at: u64) -> FromRead<FrailReader<'_>> {
+/// The octets one by one; the call with this index fails.
+fn one_by_one(octets: &[u8], fails_at: u64) -> FromRead<FrailReader<'_>> {
     FromRead::new(FrailReader {
         octets,
-        first: size,
-        then: size,
+        first: 1,
+        then: 1,
         calls: 0,
         fails_at,
         kind: ErrorKind::Interrupted,
@@ -47,11 +46,6 @@ impl Read for Endless {
     }
 }
 
-/// The octets one by one; the call with this index fails.
-fn one_by_one(octets: &[u8], fails_at: u64) -> FromRead<FrailReader<'_>> {
-    in_pieces(octets, 1, fails_at)
-}
-
 /// What a call over one document answers: how many values it has, or a refusal.
 type Answer = Result<Result<u64, Refusal>, Fault>;
 
@@ -62,6 +56,7 @@ enum Call {
     Show,
     ToText,
     ToBinary,
+    Values,
     Load,
 }
 
@@ -87,6 +82,18 @@ fn written<R: Inlet>(
     answer
 }
 
+/// How many values these octets are, all of which are read, or their refusal.
+fn counted<R: Inlet>(alloc: Global, catalog: &Catalog, reader: &mut R, limits: Limits) -> Answer {
+    match read_document(alloc, reader, catalog, limits)? {
+        Ok(values) => {
+            let count = values.len() as u64;
+            drop(values);
+            Ok(Ok(count))
+        }
+        Err(refusal) => Ok(Err(refusal)),
+    }
+}
+
 /// How many tables t 1 these octets bring, or their refusal.
 fn loaded<R: Inlet>(alloc: Global, reader: &mut R, limits: Limits) -> Answer {
     match load_catalog(alloc, reader, limits)? {
@@ -99,6 +106,21 @@ fn loaded<R: Inlet>(alloc: Global, reader: &mut R, limits: Limits) -> Answer {
     }
 }
 
+/// What a call answers of these octets.
+fn called<R: Inlet>(
+    alloc: Global,
+    catalog: &Catalog,
+    call: Call,
+    reader: &mut R,
+    limits: Limits,
+) -> Answer {
+    match call {
+        Call::Load => loaded(alloc, reader, limits),
+        Call::Values => counted(alloc, catalog, reader, limits),
+        _ => written(alloc, catalog, call, reader, limits),
+    }
+}
+
 /// What a call answers of these octets, where the read with this index fails.
 fn answered(
     alloc: Global,
@@ -108,11 +130,13 @@ fn answered(
     fails_at: u64,
     limits: Limits,
 ) -> Answer {
-    let mut reader = one_by_one(octets, fails_at);
-    match call {
-        Call::Load => loaded(alloc, &mut reader, limits),
-        _ => written(alloc, catalog, call, &mut reader, limits),
-    }
+    called(
+        alloc,
+        catalog,
+        call,
+        &mut one_by_one(octets, fails_at),
+        limits,
+    )
 }
 
 /// Octets in memory, of which no call may ask for more than 4096.
@@ -139,10 +163,7 @@ fn answered_in_pieces(alloc: Global, catalog: &Catalog, call: Call) -> (Answer, 
     let mut reader = FromRead::new(Narrow {
         octets: BLANKS.as_slice(),
     });
-    let answer = match call {
-        Call::Load => loaded(alloc, &mut reader, Limits::usual()),
-        _ => written(alloc, catalog, call, &mut reader, Limits::usual()),
-    };
+    let answer = called(alloc, catalog, call, &mut reader, Limits::usual());
     (answer, reader.calls())
 }
 
@@ -181,11 +202,12 @@ fn compared(
     Ok(values)
 }
 
-static CALLS: [Call; 5] = [
+static CALLS: [Call; 6] = [
     Call::Check,
     Call::Show,
     Call::ToText,
     Call::ToBinary,
+    Call::Values,
     Call::Load,
 ];
 
@@ -285,6 +307,7 @@ fn sides_are_read_in_turn(rt: HostRuntime) {
     let catalog = Catalog::new(rt.alloc());
     let found = [
         turns(rt.alloc(), &catalog, [b"]", THREE], 1, [NEVER, 0]),
+        turns(rt.alloc(), &catalog, [b"1", THREE], 1, [NEVER, 0]),
         turns(rt.alloc(), &catalog, [THREE; 2], 1, [NEVER, 0]),
         turns(rt.alloc(), &catalog, [THREE; 2], 1, [2, NEVER]),
         turns(rt.alloc(), &catalog, [CLOSED, CUT], 64, [NEVER, 1]),
@@ -293,6 +316,7 @@ fn sides_are_read_in_turn(rt: HostRuntime) {
     drop(catalog);
     let wanted = [
         (Ok(Some(1)), [1, 0]),
+        (Err(Fault::Read), [2, 1]),
         (Err(Fault::Read), [2, 1]),
         (Err(Fault::Read), [3, 2]),
         (Ok(Some(28)), [1, 1]),
@@ -328,7 +352,7 @@ static WITHIN: [(&[u8], u64, Answer); 5] = [
 fn reads_are_limited(rt: HostRuntime) {
     let catalog = Catalog::new(rt.alloc());
     for (octets, reads, wanted) in &WITHIN {
-        for call in &CALLS[..4] {
+        for call in &CALLS[..5] {
             let found = within(rt.alloc(), &catalog, *call, octets, *reads);
             same(&rt, (*call, *octets, *reads), found, Some(*wanted));
         }
@@ -404,36 +428,4 @@ fn endless_reads_are_limited(rt: HostRuntime) {
     drop(catalog);
     let wanted = Some((Err(Fault::TooManyReads), 1000));
     same(&rt, "endless", found, [wanted; 2]);
-}
-
-/// What a conversion of M `21 01 21 02` answers whose writer takes no octet, and how many it took.
-fn converted(alloc: Global, catalog: &Catalog, target: Target) -> (Answer, usize) {
-    let mut taken = Vec::new(alloc);
-    let answer = convert(
-        alloc,
-        &mut in_pieces(b"\xE0\x01\x00\xEA\x21\x01\x21\x02", 4, NEVER),
-        &mut ToWrite::new(FrailWriter {
-            taken: &mut taken,
-            calls: 0,
-            fails_at: NEVER,
-            takes: 0,
-        }),
-        target,
-        catalog,
-        Limits::usual(),
-    );
-    let count = taken.len();
-    drop(taken);
-    (answer, count)
-}
-
-/// A writer that takes no octet of a conversion is a fault.
-#[test]
-fn nothing_is_taken(rt: HostRuntime) {
-    let catalog = Catalog::new(rt.alloc());
-    let binary = converted(rt.alloc(), &catalog, Target::Binary);
-    let text = converted(rt.alloc(), &catalog, Target::Text);
-    drop(catalog);
-    let wanted = (Err(Fault::Write), 0);
-    same(&rt, "targets", [binary, text], [wanted; 2]);
 }

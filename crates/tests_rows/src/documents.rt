@@ -4,7 +4,7 @@ use crate::row::{Row, is_told};
 use ion_devices::{FrailReader, NEVER};
 use ion_docs::{Side, Verdict, check, compare, load_catalog, path_text};
 use ion_model::{Path, Refusal};
-use ion_symtab::{Catalog, FromRead, Limits};
+use ion_symtab::{Catalog, Fault, FromRead, Inlet, Limits};
 use std::alloc::{AllocError, Global};
 use std::io::ErrorKind;
 use std::test::Fail;
@@ -18,6 +18,7 @@ pub struct Pieces<'a> {
     octets: &'a [u8],
     first: usize,
     then: usize,
+    fails_at: u64,
 }
 
 impl<'a> Pieces<'a> {
@@ -27,16 +28,17 @@ impl<'a> Pieces<'a> {
             octets,
             first,
             then: WHOLE,
+            fails_at: NEVER,
         }
     }
 
     /// In one piece.
-    fn whole(octets: &'a [u8]) -> Pieces<'a> {
+    pub fn whole(octets: &'a [u8]) -> Pieces<'a> {
         Pieces::each(octets, WHOLE)
     }
 
     /// One by one.
-    fn singles(octets: &'a [u8]) -> Pieces<'a> {
+    pub fn singles(octets: &'a [u8]) -> Pieces<'a> {
         Pieces::each(octets, 1)
     }
 
@@ -46,17 +48,28 @@ impl<'a> Pieces<'a> {
             octets,
             first: size,
             then: size,
+            fails_at: NEVER,
         }
     }
 
-    /// Them, so that no call fails.
+    /// The same, where the call with this index fails once.
+    pub fn failing(self, fails_at: u64) -> Pieces<'a> {
+        Pieces {
+            octets: self.octets,
+            first: self.first,
+            then: self.then,
+            fails_at,
+        }
+    }
+
+    /// Them; unless it was said, no call fails.
     pub fn reader(self) -> FromRead<FrailReader<'a>> {
         FromRead::new(FrailReader {
             octets: self.octets,
             first: self.first,
             then: self.then,
             calls: 0,
-            fails_at: NEVER,
+            fails_at: self.fails_at,
             kind: ErrorKind::Interrupted,
         })
     }
@@ -128,8 +141,19 @@ pub fn tell_refusal(refusal: Refusal, told: &mut String) -> Result<(), AllocErro
     write!(told, "{} {}", refusal.offset, refusal.reason.name())
 }
 
+/// What `check` answers of a document, and how many reads it makes.
+type Checked = (Result<Result<u64, Refusal>, Fault>, u64);
+
+fn checked(alloc: Global, pieces: Pieces<'_>, catalog: &Catalog, limits: Limits) -> Checked {
+    let mut reader = pieces.reader();
+    let answer = check(alloc, &mut reader, catalog, limits);
+    let reads = reader.calls();
+    drop(reader);
+    (answer, reads)
+}
+
 /// Fails, where `check` gives a document another answer, which comes whole, cut once or in single
-/// octets.
+/// octets; or another than the fault, where a read of it fails.
 pub fn checks(
     alloc: Global,
     document: &[u8],
@@ -148,7 +172,13 @@ pub fn checks(
         checks_pieces(alloc, pieces, catalog, limits, wanted, told)?;
     }
     let singles = Pieces::singles(document);
-    checks_pieces(alloc, singles, catalog, limits, wanted, told)
+    checks_pieces(alloc, singles, catalog, limits, wanted, told)?;
+    let pieces = if cuts == 0 {
+        Pieces::whole(document)
+    } else {
+        singles
+    };
+    fails_each_read(alloc, pieces, catalog, limits)
 }
 
 fn checks_pieces(
@@ -159,10 +189,31 @@ fn checks_pieces(
     wanted: &str,
     told: &mut String,
 ) -> Result<(), Fail> {
-    let mut reader = pieces.reader();
-    let answer = check(alloc, &mut reader, catalog, limits);
-    drop(reader);
+    let (answer, _) = checked(alloc, pieces, catalog, limits);
     answers(wanted, answer?, told)
+}
+
+/// Fails, where one of the reads that `check` makes fails, and that isn't its answer.
+fn fails_each_read(
+    alloc: Global,
+    pieces: Pieces<'_>,
+    catalog: &Catalog,
+    limits: Limits,
+) -> Result<(), Fail> {
+    let (_, reads) = checked(alloc, pieces, catalog, limits);
+    for fails_at in 0..reads {
+        let (answer, _) = checked(alloc, pieces.failing(fails_at), catalog, limits);
+        is_failed_read(fails_at, answer.err())?;
+    }
+    Ok(())
+}
+
+/// Fails, where this isn't the fault of a read.
+pub fn is_failed_read(fails_at: u64, fault: Option<Fault>) -> Result<(), Fail> {
+    match fault {
+        Some(Fault::Read) => Ok(()),
+        _ => Err(Fail::new(format_args!("read {fails_at} fails, and is not answered"))),
+    }
 }
 
 /// Tells what two documents are to each other.
@@ -191,6 +242,19 @@ fn tell_refused(side: Side, refusal: Refusal, told: &mut String) -> Result<(), A
     tell_refusal(refusal, told)
 }
 
+/// What two documents are to each other, and how many reads are made of each.
+type Compared = (Result<Verdict, Fault>, [u64; 2]);
+
+fn compared(alloc: Global, left: Pieces<'_>, right: Pieces<'_>, catalog: &Catalog) -> Compared {
+    let mut left = left.reader();
+    let mut right = right.reader();
+    let answer = compare(alloc, &mut left, &mut right, catalog, Limits::usual());
+    let reads = [left.calls(), right.calls()];
+    drop(left);
+    drop(right);
+    (answer, reads)
+}
+
 /// Fails, where these documents are something else to each other than field 3 says.
 fn compares_pieces(
     alloc: Global,
@@ -200,11 +264,7 @@ fn compares_pieces(
     catalog: &Catalog,
     told: &mut String,
 ) -> Result<(), Fail> {
-    let mut left = left.reader();
-    let mut right = right.reader();
-    let answer = compare(alloc, &mut left, &mut right, catalog, Limits::usual());
-    drop(left);
-    drop(right);
+    let (answer, _) = compared(alloc, left, right, catalog);
     let verdict = answer?;
     let tried = tell(alloc, &verdict, told);
     drop(verdict);
@@ -216,8 +276,8 @@ fn compares_pieces(
 /// value that is, and the path to where; `left` or `right`, the offset and the reason of its
 /// refusal | the shared table.
 ///
-/// Each is cut, the other whole or in single octets; documents that differ are turned as well. Then
-/// the command compares them.
+/// Each is cut, the other whole or in single octets; documents that differ are turned as well. Each
+/// read of either fails once. Then the command compares them.
 pub fn compares(alloc: Global, row: Row<'_>, left: &[u8], told: &mut String) -> Result<(), Fail> {
     let mut right = Vec::new(alloc);
     let tried = match row.put_octets(2, &mut right) {
@@ -238,6 +298,10 @@ fn compares_with(
     let catalog = catalog(alloc, row, 4)?;
     let tried = match cuts_left(alloc, row, left, right, &catalog, told) {
         Ok(()) => cuts_right(alloc, row, left, right, &catalog, told),
+        Err(fail) => Err(fail),
+    };
+    let tried = match tried {
+        Ok(()) => fails_each_read_of_two(alloc, left, right, &catalog),
         Err(fail) => Err(fail),
     };
     drop(catalog);
@@ -276,6 +340,27 @@ fn cuts_right(
         if differ {
             compares_pieces(alloc, row, cut, Pieces::whole(left), catalog, told)?;
         }
+    }
+    Ok(())
+}
+
+/// Fails, where one of the reads that `compare` makes of either document fails, and that isn't its
+/// answer.
+fn fails_each_read_of_two(
+    alloc: Global,
+    left: &[u8],
+    right: &[u8],
+    catalog: &Catalog,
+) -> Result<(), Fail> {
+    let (left, right) = (Pieces::singles(left), Pieces::singles(right));
+    let (_, reads) = compared(alloc, left, right, catalog);
+    for fails_at in 0..reads[0] {
+        let (answer, _) = compared(alloc, left.failing(fails_at), right, catalog);
+        is_failed_read(fails_at, answer.err())?;
+    }
+    for fails_at in 0..reads[1] {
+        let (answer, _) = compared(alloc, left, right.failing(fails_at), catalog);
+        is_failed_read(fails_at, answer.err())?;
     }
     Ok(())
 }

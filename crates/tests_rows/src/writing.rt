@@ -1,12 +1,12 @@
 //! What is written of documents, a line for each value or a conversion, however the octets come and
 //! go.
 use crate::commands::Asked;
-use crate::documents::{Pieces, WHOLE, answers, catalog, limits};
+use crate::documents::{Pieces, WHOLE, answers, catalog, is_failed_read, limits};
 use crate::row::{Row, are_so};
 use ion_devices::{FrailReader, FrailWriter, NEVER};
 use ion_docs::{Target, convert, show};
 use ion_model::Refusal;
-use ion_symtab::{Catalog, Fault, FromRead, Limits, ToWrite};
+use ion_symtab::{Catalog, Fault, FromRead, Inlet, Limits, ToWrite};
 use std::alloc::Global;
 use std::test::Fail;
 
@@ -27,15 +27,18 @@ struct Wanted<'a> {
     answer: &'a str,
 }
 
+/// What the lines or the conversion answer, and how many reads are made of the document.
+type Written = (Result<Result<u64, Refusal>, Fault>, u64);
+
 /// Puts what is written of a document, where a call takes so many octets at most and one call
-/// fails; what the lines or the conversion answer.
+/// fails.
 fn put_written(
     writing: Writing<'_>,
     pieces: Pieces<'_>,
     takes: usize,
     fails_at: u64,
     taken: &mut Vec<u8>,
-) -> Result<Result<u64, Refusal>, Fault> {
+) -> Written {
     taken.clear();
     let mut reader = pieces.reader();
     let mut writer = ToWrite::new(FrailWriter {
@@ -45,9 +48,10 @@ fn put_written(
         takes,
     });
     let answer = write(writing, &mut reader, &mut writer);
+    let reads = reader.calls();
     drop(writer);
     drop(reader);
-    answer
+    (answer, reads)
 }
 
 fn write(
@@ -63,12 +67,12 @@ fn write(
 }
 
 /// Fails, where anything else is written or answered: however the octets come, and however few a
-/// call takes. Each call fails once, the flush behind the last too: then what was written before
-/// stands.
+/// call takes, none too. Each read and each write fails once, the flush behind the last too: then
+/// what was written before stands.
 fn writes(writing: Writing<'_>, wanted: Wanted<'_>, told: &mut String) -> Result<(), Fail> {
     let mut taken = Vec::new(writing.alloc);
     let tried = match writes_each_cut(writing, wanted, &mut taken, told) {
-        Ok(()) => fails_at_each_call(writing, wanted, &mut taken),
+        Ok(()) => fails_by_device(writing, wanted, &mut taken),
         Err(fail) => Err(fail),
     };
     drop(taken);
@@ -98,9 +102,56 @@ fn writes_cut(
     told: &mut String,
 ) -> Result<(), Fail> {
     let pieces = Pieces::cut(writing.document, first);
-    let answer = put_written(writing, pieces, takes, NEVER, taken)?;
-    answers(wanted.answer, answer, told)?;
+    let (answer, _) = put_written(writing, pieces, takes, NEVER, taken);
+    answers(wanted.answer, answer?, told)?;
     are_so(taken.as_slice() == wanted.written, taken.as_slice())
+}
+
+/// Fails, where the failing of a device is not the answer.
+fn fails_by_device(
+    writing: Writing<'_>,
+    wanted: Wanted<'_>,
+    taken: &mut Vec<u8>,
+) -> Result<(), Fail> {
+    fails_at_each_read(writing, wanted, taken)?;
+    fails_at_each_call(writing, wanted, taken)?;
+    takes_nothing(writing, wanted, taken)
+}
+
+/// Fails, where one of the reads fails and that is not the answer, or what was written before is no
+/// front.
+fn fails_at_each_read(
+    writing: Writing<'_>,
+    wanted: Wanted<'_>,
+    taken: &mut Vec<u8>,
+) -> Result<(), Fail> {
+    let pieces = Pieces::singles(writing.document);
+    let (_, reads) = put_written(writing, pieces, WHOLE, NEVER, taken);
+    for fails_at in 0..reads {
+        let failing = pieces.failing(fails_at);
+        let (answer, _) = put_written(writing, failing, WHOLE, NEVER, taken);
+        is_failed_read(fails_at, answer.err())?;
+        are_so(
+            wanted.written.starts_with(taken.as_slice()),
+            taken.as_slice(),
+        )?;
+    }
+    Ok(())
+}
+
+/// Fails, where a writer takes no octet of some and that is not the answer.
+fn takes_nothing(
+    writing: Writing<'_>,
+    wanted: Wanted<'_>,
+    taken: &mut Vec<u8>,
+) -> Result<(), Fail> {
+    if wanted.written.is_empty() {
+        return Ok(());
+    }
+    let pieces = Pieces::whole(writing.document);
+    let (answer, _) = put_written(writing, pieces, 0, NEVER, taken);
+    let is_so = answer == Err(Fault::Write) && taken.is_empty();
+    are_so(is_so, taken.as_slice())
 }
 
 fn fails_at_each_call(
@@ -126,7 +177,7 @@ fn fails_at(
 ) -> Result<(), Fail> {
     let pieces = Pieces::cut(writing.document, first);
     match put_written(writing, pieces, 1, calls as u64, taken) {
-        Err(Fault::Write) => {
+        (Err(Fault::Write), _) => {
             let front = wanted.written.get(..calls).unwrap_or(&[]);
             are_so(taken.as_slice() == front, taken.as_slice())
         }
@@ -289,7 +340,7 @@ fn converts_to_both(
 /// Fails, where a document is converted to other octets than a field spells.
 fn converts_to(row: Row<'_>, writing: Writing<'_>, number: usize) -> Result<(), Fail> {
     let mut taken = Vec::new(writing.alloc);
-    let pieces = Pieces::each(writing.document, WHOLE);
+    let pieces = Pieces::whole(writing.document);
     let _ = put_written(writing, pieces, WHOLE, NEVER, &mut taken);
     let tried = row.wants_octets(writing.alloc, number, taken.as_slice());
     drop(taken);
