@@ -9,12 +9,12 @@ use std::alloc::Global;
 use std::io;
 use std::io::{ErrorKind, Read};
 
-/// The octets one by one; the call with this index fails.
-fn one_by_one(octets: &[u8], fails_at: u64) -> FromRead<FrailReader<'_>> {
+/// The octets, so many a call; the call with this index fails.
+fn in_pieces(octets: &[u8], size: usize, fails_at: u64) -> FromRead<FrailReader<'_>> {
     FromRead::new(FrailReader {
         octets,
-        first: 1,
-        then: 1,
+        first: size,
+        then: size,
         calls: 0,
         fails_at,
         kind: ErrorKind::Interrupted,
@@ -44,6 +44,11 @@ impl Read for Endless {
             }
         }
     }
+}
+
+/// The octets one by one; the call with this index fails.
+fn one_by_one(octets: &[u8], fails_at: u64) -> FromRead<FrailReader<'_>> {
+    in_pieces(octets, 1, fails_at)
 }
 
 /// What a call over one document answers: how many values it has, or a refusal.
