@@ -1,9 +1,11 @@
 -- What octets in memory are as documents, and what is written of them.
-use Rattle.std.specs.Prelude.{◌≡◌, ℕ, List, ◌++◌, length, Result, Ok, Err}
+use Rattle.std.specs.Prelude.{◌≡◌, ◌≤◌, ℕ, List, ◌++◌, length, Result, Ok, Err, ⊤}
 use Rattle.ion_model.specs.declared.value.Value.{Value}
 use Rattle.ion_atoms.specs.declared.refusal.Refusal.{Refusal}
 use Rattle.ion_symtab.specs.declared.fault.Fault.{Fault}
-use Rattle.ion_symtab.specs.declared.fault.Fault.TheVariants.{Memory, Write}
+use Rattle.ion_symtab.specs.declared.fault.Fault.TheVariants.{Memory, Read, Write, TooManyReads, TooLarge, Open}
+use Rattle.ion_symtab.specs.declared.limits.Limits.{Limits}
+use Rattle.ion_symtab.specs.Trace.{IsFront, plain}
 use Rattle.ion_streams.specs.Formats.{Format}
 use Rattle.ion_streams.specs.Listing.{lines_of, accepted_line}
 use Rattle.ion_streams.specs.Outcomes.{IsRefused}
@@ -30,6 +32,27 @@ pub record IsConversion (E : Encoding) (F : Format) (octets : List ℕ) (answer 
   pub counted : IsCount F octets answer
   pub same : (s : List Value) × IsRead F octets answer s × DenotesAnywhere E written s
   pub spelled : (s : List Value) × IsRead F octets answer s × (written ≡ E.document s)
+
+-- The values s were read of the octets so far: these give them, or a front of these with the octet that a reader awaited behind it begins with them. Or s are
+-- all that was read of the octets.
+pub data WereRead (F : Format) (octets : List ℕ) (s : List Value) : Type 0 where
+  so_far : (front rest next : List ℕ) (given : List (Value × ℕ)) → front ++ rest ≡ octets → length next ≤ 1 → IsFront given (F.trace (front ++ next)).given
+      → plain given ≡ s → WereRead F octets s
+  in_all : (answer : Result ℕ Refusal) → IsRead F octets answer s → WereRead F octets s
+
+-- an id would be too large for a symbol of values that were read
+abbrev pub NeedsTooLargeId : Encoding → Format → List ℕ → Type 0
+NeedsTooLargeId E F octets = (s : List Value) × WereRead F octets s × E.needs_large_id s
+
+-- Why a call over octets in memory has no answer: none is stopped by a name, by a read or by a write. Each read hands over an octet at least, so where too
+-- many were made there are as many octets as reads are allowed; `large` says when an id is too large.
+abbrev pub IsFaultInMemory : Limits → List ℕ → Type 0 → Fault → Type 0
+IsFaultInMemory l octets large Memory = ⊤
+IsFaultInMemory l octets large TooManyReads = l.reads ≤ length octets
+IsFaultInMemory l octets large TooLarge = large
+IsFaultInMemory l octets large Read = ⊥
+IsFaultInMemory l octets large Write = ⊥
+IsFaultInMemory l octets large Open = ⊥
 
 -- a write to memory fails where a growth was refused
 abbrev pub fault_in_memory : Fault → Fault

@@ -1,15 +1,18 @@
 //! Calls for other languages: the catalog is octets, the limits are numbers, and all that is told
 //! is one `Outcome`.
 ghost use Rattle.std.specs.Prelude.{◌≡◌, ◌⊎◌, ℕ, List, [], IfOk, IfErr};
-ghost use Rattle.ion_memory.specs.Outcomes.{IsOutcome, IsSetting, IsNoSetting, IsFault, IsChecked, IsShown, IsCompared, IsConverted, EndsVerdict};
+ghost use Rattle.ion_memory.specs.Outcomes.{IsOutcome, IsSetting, IsNoSetting, IsChecked, IsShown, IsCompared, IsConverted, EndsVerdict};
 ghost use Rattle.ion_memory.specs.Endings.{ending_of, whose_side};
+ghost use Rattle.ion_memory.specs.declared.ending.Ending.TheVariants.{Faulted};
+ghost use Rattle.ion_symtab.specs.declared.fault.Fault.TheVariants.{Memory};
 
-use crate::documents::{Written, check, compare, convert, show};
+use crate::documents::{Written, check, compare, convert_with_hasher, show};
 use crate::ending::{Ending, Whose};
 use crate::setting::{Setting, set_up};
 use ion_docs::{Side, Target, Verdict, path_text};
 use ion_symtab::Fault;
 use std::alloc::Global;
+use std::hash::{BuildHasher, BuildHasherDefault, FoldHasher};
 
 /// How a call ended, and its text: the lines, the document, or the path to a difference.
 #[derive(Debug, Drop)]
@@ -76,7 +79,7 @@ pub fn compared_under(
     }
 }
 
-/// A document of the same stream, as `convert` writes it.
+/// A document of the same stream, as `convert` writes it: in binary with a hash of a fixed seed.
 pub fn converted(
     alloc: Global,
     input: &[u8],
@@ -88,16 +91,35 @@ pub fn converted(
     ensures { IsOutcome catalog.now depth item (IsConverted target input.now)
         result.ending result.text.items }
 {
+    let hasher = BuildHasherDefault::<FoldHasher>::new();
+    converted_with_hasher(alloc, hasher, input, target, catalog, depth, item)
+}
+
+/// The same with this hasher, as `convert_with_hasher` writes it.
+pub fn converted_with_hasher<H: BuildHasher + Drop>(
+    alloc: Global,
+    hasher: H,
+    input: &[u8],
+    target: Target,
+    catalog: &[u8],
+    depth: u32,
+    item: u64,
+) -> Outcome
+    ensures { IsOutcome catalog.now depth item (IsConverted target input.now)
+        result.ending result.text.items }
+{
     match set_up(alloc, catalog, depth, item) {
-        Ok(setting) => converted_in(alloc, input, target, &setting),
-        Err(ending) => without_text(alloc, ending),
+        Ok(setting) => converted_in(alloc, hasher, input, target, &setting),
+        Err(ending) => {
+            drop(hasher);
+            without_text(alloc, ending)
+        }
     }
 }
 
 fn checked_in(alloc: Global, input: &[u8], setting: &Setting) -> Outcome
     ensures { IsChecked input.now setting.now.catalog setting.now.limits
-        result.ending result.text.items
-        ⊎ IsFault result.ending result.text.items }
+        result.ending result.text.items }
 {
     match check(alloc, input, &setting.catalog, setting.limits) {
         Ok(answer) => without_text(alloc, Ending::of(answer)),
@@ -107,8 +129,7 @@ fn checked_in(alloc: Global, input: &[u8], setting: &Setting) -> Outcome
 
 fn shown_in(alloc: Global, input: &[u8], setting: &Setting) -> Outcome
     ensures { IsShown input.now setting.now.catalog setting.now.limits
-        result.ending result.text.items
-        ⊎ IsFault result.ending result.text.items }
+        result.ending result.text.items }
 {
     match show(alloc, input, &setting.catalog, setting.limits) {
         Ok(written) => with_text(written),
@@ -116,12 +137,24 @@ fn shown_in(alloc: Global, input: &[u8], setting: &Setting) -> Outcome
     }
 }
 
-fn converted_in(alloc: Global, input: &[u8], target: Target, setting: &Setting) -> Outcome
+fn converted_in<H: BuildHasher + Drop>(
+    alloc: Global,
+    hasher: H,
+    input: &[u8],
+    target: Target,
+    setting: &Setting,
+) -> Outcome
     ensures { IsConverted target input.now setting.now.catalog setting.now.limits
-        result.ending result.text.items
-        ⊎ IsFault result.ending result.text.items }
+        result.ending result.text.items }
 {
-    match convert(alloc, input, target, &setting.catalog, setting.limits) {
+    match convert_with_hasher(
+        alloc,
+        hasher,
+        input,
+        target,
+        &setting.catalog,
+        setting.limits,
+    ) {
         Ok(written) => with_text(written),
         Err(fault) => without_text(alloc, Ending::Faulted { fault }),
     }
@@ -129,8 +162,7 @@ fn converted_in(alloc: Global, input: &[u8], target: Target, setting: &Setting) 
 
 fn compared_in(alloc: Global, left: &[u8], right: &[u8], setting: &Setting) -> Outcome
     ensures { IsCompared left.now right.now setting.now.catalog setting.now.limits
-        result.ending result.text.items
-        ⊎ IsFault result.ending result.text.items }
+        result.ending result.text.items }
 {
     match compare(alloc, left, right, &setting.catalog, setting.limits) {
         Ok(verdict) => told(alloc, &verdict),
@@ -141,7 +173,7 @@ fn compared_in(alloc: Global, left: &[u8], right: &[u8], setting: &Setting) -> O
 /// How a comparison ends, with the path where the two differ.
 fn told(alloc: Global, verdict: &Verdict) -> Outcome
     ensures { EndsVerdict verdict.now result.ending result.text.items
-        ⊎ IsFault result.ending result.text.items }
+        ⊎ ((result.ending ≡ Faulted Memory) × (result.text.items ≡ [])) }
 {
     match verdict {
         Verdict::Equivalent { values } => {

@@ -1,18 +1,18 @@
 //! What octets in memory are as documents: the calls of `ion_docs` on devices that tell just these
 //! octets.
-ghost use Rattle.std.specs.Prelude.{◌≡◌, ◌≢◌, [], IfOk, IfErr, Result};
-ghost use Rattle.ion_symtab.specs.declared.fault.Fault.TheVariants as faults;
+ghost use Rattle.std.specs.Prelude.{◌≡◌, ◌⊎◌, [], IfOk, IfErr, Result};
 ghost use Rattle.ion_docs.specs.Encodings.{encoding_of};
 ghost use Rattle.ion_docs.specs.Formats.{documents};
 ghost use Rattle.ion_streams.specs.Compared.{IsVerdict};
 ghost use Rattle.ion_streams.specs.Loaded.{IsCatalog};
-ghost use Rattle.ion_memory.specs.Octets.{IsCount, IsListing, IsConversion, fault_in_memory};
+ghost use Rattle.ion_memory.specs.Octets.{IsCount, IsListing, IsConversion, IsFaultInMemory, NeedsTooLargeId, fault_in_memory};
 
 use ion_docs::laws::catalog_documents;
-use ion_docs::{Target, Verdict};
+use ion_docs::{Target, Verdict, in_memory};
 use ion_model::Refusal;
-use ion_symtab::{Catalog, Fault, FromRead, Limits, ToWrite};
+use ion_symtab::{Catalog, Fault, Limits, ToWrite};
 use std::alloc::Global;
+use std::hash::{BuildHasher, BuildHasherDefault, FoldHasher};
 
 /// What was written of a document.
 #[derive(Debug, Drop)]
@@ -28,16 +28,17 @@ pub struct Written {
 ///
 /// The offset of a refusal counts octets with which no document begins, or all of them; it is never
 /// `Memory`. Faults: `Memory`, where a growth was refused, and `TooManyReads`, where `limits` allow
-/// too few reads of 4 KiB each.
+/// too few reads of 4 KiB each; never while they allow more reads than there are octets.
 pub fn check(
     alloc: Global,
     input: &[u8],
     catalog: &Catalog,
     limits: Limits,
 ) -> Result<Result<u64, Refusal>, Fault>
-    ensures { IfOk result (IsCount (documents catalog.now limits) input.now) }
+    ensures answer { IfOk result (IsCount (documents catalog.now limits) input.now) }
+    ensures cause { IfErr result (IsFaultInMemory limits input.now ⊥) }
 {
-    let mut reader = FromRead::new(input);
+    let mut reader = in_memory(input);
     ion_docs::check(alloc, &mut reader, catalog, limits)
 }
 
@@ -54,16 +55,16 @@ pub fn show(
 ) -> Result<Written, Fault>
     ensures lines { IfOk result (λ written.
         IsListing (documents catalog.now limits) input.now written.answer written.octets.items) }
-    ensures no_write { IfErr result (λ fault. fault ≢ faults.Write) }
+    ensures cause { IfErr result (IsFaultInMemory limits input.now ⊥) }
 {
-    let mut reader = FromRead::new(input);
+    let mut reader = in_memory(input);
     let mut writer = ToWrite::new(Vec::new(alloc));
     match ion_docs::show(alloc, &mut reader, &mut writer, catalog, limits) {
         Ok(answer) => {
             let octets = writer.into_inner();
             Ok(Written { answer, octets })
         }
-        Err(fault) => Err(in_memory(fault)),
+        Err(fault) => Err(fault_of_memory(fault)),
     }
 }
 
@@ -72,6 +73,9 @@ pub fn show(
 ///
 /// The answer is that of `check`; on a refusal the document is that of the values before it. Faults
 /// are those of `check`, and `TooLarge`, where a symbol in binary would need an id above 2^31-1.
+///
+/// Ids are found by a hash of a fixed seed, which is for documents that are trusted: texts that are
+/// chosen to collide make it slow. `convert_with_hasher` is for other ones.
 pub fn convert(
     alloc: Global,
     input: &[u8],
@@ -81,21 +85,50 @@ pub fn convert(
 ) -> Result<Written, Fault>
     ensures document { IfOk result (λ written. IsConversion (encoding_of target)
         (documents catalog.now limits) input.now written.answer written.octets.items) }
-    ensures no_write { IfErr result (λ fault. fault ≢ faults.Write) }
+    ensures cause { IfErr result (IsFaultInMemory limits input.now
+        (NeedsTooLargeId (encoding_of target) (documents catalog.now limits) input.now)) }
 {
-    let mut reader = FromRead::new(input);
+    let hasher = BuildHasherDefault::<FoldHasher>::new();
+    convert_with_hasher(alloc, hasher, input, target, catalog, limits)
+}
+
+/// The same, where this hasher finds the ids of symbols in a binary document. What is written is
+/// the same.
+pub fn convert_with_hasher<H: BuildHasher + Drop>(
+    alloc: Global,
+    hasher: H,
+    input: &[u8],
+    target: Target,
+    catalog: &Catalog,
+    limits: Limits,
+) -> Result<Written, Fault>
+    ensures document { IfOk result (λ written. IsConversion (encoding_of target)
+        (documents catalog.now limits) input.now written.answer written.octets.items) }
+    ensures cause { IfErr result (IsFaultInMemory limits input.now
+        (NeedsTooLargeId (encoding_of target) (documents catalog.now limits) input.now)) }
+{
+    let mut reader = in_memory(input);
     let mut writer = ToWrite::new(Vec::new(alloc));
-    match ion_docs::convert(alloc, &mut reader, &mut writer, target, catalog, limits) {
+    let answer = ion_docs::convert_with_hasher(
+        alloc,
+        hasher,
+        &mut reader,
+        &mut writer,
+        target,
+        catalog,
+        limits,
+    );
+    match answer {
         Ok(answer) => {
             let octets = writer.into_inner();
             Ok(Written { answer, octets })
         }
-        Err(fault) => Err(in_memory(fault)),
+        Err(fault) => Err(fault_of_memory(fault)),
     }
 }
 
 /// A write to memory fails where a growth was refused, which is want of memory.
-fn in_memory(fault: Fault) -> Fault
+fn fault_of_memory(fault: Fault) -> Fault
     ensures { result ≡ fault_in_memory fault }
 {
     match fault {
@@ -117,11 +150,13 @@ pub fn compare(
     catalog: &Catalog,
     limits: Limits,
 ) -> Result<Verdict, Fault>
-    ensures { IfOk result (IsVerdict (documents catalog.now limits) (documents catalog.now limits)
-        left.now right.now) }
+    ensures verdict { IfOk result (IsVerdict (documents catalog.now limits)
+        (documents catalog.now limits) left.now right.now) }
+    ensures cause { IfErr result (λ fault. IsFaultInMemory limits left.now ⊥ fault
+        ⊎ IsFaultInMemory limits right.now ⊥ fault) }
 {
-    let mut left = FromRead::new(left);
-    let mut right = FromRead::new(right);
+    let mut left = in_memory(left);
+    let mut right = in_memory(right);
     ion_docs::compare(alloc, &mut left, &mut right, catalog, limits)
 }
 
@@ -135,12 +170,13 @@ pub fn load_catalog(
     octets: &[u8],
     limits: Limits,
 ) -> Result<Result<Catalog, Refusal>, Fault>
-    ensures { IfOk result (IsCatalog (documents [] limits) octets.now) }
+    ensures loaded { IfOk result (IsCatalog (documents [] limits) octets.now) }
+    ensures cause { IfErr result (IsFaultInMemory limits octets.now ⊥) }
 {
     if octets.is_empty() {
         return Ok(Ok(no_tables(alloc, limits)));
     }
-    let mut reader = FromRead::new(octets);
+    let mut reader = in_memory(octets);
     ion_docs::load_catalog(alloc, &mut reader, limits)
 }
 

@@ -13,8 +13,10 @@ mod ending;
 mod reasons;
 mod setting;
 
-pub use calls::{Outcome, checked, compared, compared_under, converted, shown};
-pub use documents::{Written, check, compare, convert, load_catalog, show};
+pub use calls::{
+    Outcome, checked, compared, compared_under, converted, converted_with_hasher, shown,
+};
+pub use documents::{Written, check, compare, convert, convert_with_hasher, load_catalog, show};
 pub use ending::{Ending, Whose};
 pub use reasons::reason_of_number;
 pub use setting::{Setting, set_up};

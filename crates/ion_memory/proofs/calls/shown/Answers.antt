@@ -1,10 +1,9 @@
-use Rattle.ion_memory.specs.Outcomes.{IsShown}
-use Rattle.ion_memory.proofs.Ended.{begun, none}
+use Rattle.ion_memory.specs.Outcomes.{IsShown, ended}
+use Rattle.ion_memory.proofs.Ended.{none}
 use Rattle.ion_memory.proofs.calls.shown.Goals as goal
 
 pub returns-in-Ok : goal.returns-in-Ok
-returns-in-Ok c = begun c.args.catalog.now c.args.depth c.args.item (IsShown c.args.input.now) c.shown_in.result.ending c.shown_in.result.text.items
-    c.in-Ok.setting.catalog c.in-Ok.setting.limits c.in-Ok.ensures.some c.shown_in.ensures
+returns-in-Ok c = ended c.in-Ok.setting.catalog c.in-Ok.setting.limits c.in-Ok.ensures.some c.shown_in.ensures
 
 pub returns-in-Err : goal.returns-in-Err
 returns-in-Err c = none c.args.catalog.now c.args.depth c.args.item (IsShown c.args.input.now) c.without_text.result.ending c.without_text.result.text.items
