@@ -101,16 +101,14 @@ returns-in_err-advance_on_demand g c =
     let e = err_from_is_err_and c.from_residual.result c.from_residual.ensures.1 in
     record {
       verdict = rw e.1 tt;
-      in_turn = λ left_catalog right_catalog left_limits right_limits a b.
-          let w = i.stood left_catalog right_catalog left_limits right_limits a b in
-          left_failed g.L.Inlet g.R.Inlet g.I.Items g.J.Items left_catalog right_catalog left_limits right_limits c.args.left.now c.args.right.now
-          (g.met.I.Items.settled left_catalog left_limits) c.go_alike.new.left left_now.self p.left left_now.reader p.right _ (λ no. absurd cc) l.closed l.grew
-          w.5.asked;
-      one_end = λ left_catalog right_catalog left_limits right_limits a b.
-          let w = i.stood left_catalog right_catalog left_limits right_limits a b in (
-            so_far_end g.L.Inlet g.I.Items left_catalog left_limits c.args.left.now left_now.reader w.0
-                (l.kept left_catalog left_limits c.args.left.now w.0 w.2),
-            stood_end g.R.Inlet g.J.Items right_catalog right_limits c.args.right.now p.right c.go_alike.new.right w.1 w.3,
+      in_turn = λ g' h k l' a b.
+          let w = i.stood g' h k l' a b in
+          left_failed g.L.Inlet g.R.Inlet g.I.Items g.J.Items g' h k l' c.args.left.now c.args.right.now (g.met.I.Items.settled g' k) c.go_alike.new.left
+          left_now.self p.left left_now.reader p.right _ (λ no. absurd cc) l.closed l.grew w.5.asked;
+      one_end = λ g' h k l' a b.
+          let w = i.stood g' h k l' a b in (
+            so_far_end g.L.Inlet g.I.Items g' k c.args.left.now left_now.reader w.0 (l.kept g' k c.args.left.now w.0 w.2),
+            stood_end g.R.Inlet g.J.Items h l' c.args.right.now p.right c.go_alike.new.right w.1 w.3,
           );
       few_calls = (omega (arith, left_asked, l.few_calls), omega (arith, right_asked));
       few_octets = (omega (arith, left_handed, l.few_octets), omega (arith, right_handed));
@@ -131,30 +129,25 @@ returns-in-Refused g c =
     let right_handed = i.right_handed in
     let l = c.in_ok-advance_on_demand.ensures in
     let left_now = c.advance_on_demand.new in
+    let left_found = c.in_ok-advance_on_demand.field-0 in
+    let v = c.value_of-left_value.result in
+    let on = left_goes g.L.Inlet g.R.Inlet g.I.Items g.J.Items _ _ _ _ g.met.I.Items.settled _ p.left left_now.reader p.right c.go_alike.new.left left_now.self
+    c.go_alike.new.right left_found v i c.value_of-left_value.ensures l.closed l.gives l.none l.grew in
     record {
-      verdict = λ left_catalog right_catalog left_limits right_limits a b.
-          let on = left_goes g.L.Inlet g.R.Inlet g.I.Items g.J.Items _ _ _ _ left_catalog right_catalog left_limits right_limits
-          (g.met.I.Items.settled left_catalog left_limits) _ p.left left_now.reader p.right c.go_alike.new.left left_now.self c.go_alike.new.right
-          c.in_ok-advance_on_demand.field-0 c.value_of-left_value.result i a b c.value_of-left_value.ensures l.closed
-          (l.gives left_catalog left_limits c.args.left.now) l.none l.grew in
-          left_refused g.L.Inlet g.I.Items g.R.Inlet g.J.Items left_catalog right_catalog left_limits right_limits c.args.left.now left_now.reader
-          c.args.right.now p.right c.go_alike.new.right (on.s ++ option_to_list c.value_of-left_value.result) on.t c.in-Refused.refusal
-          (subst (λ (x : Standing _). Stood g.L.Inlet g.I.Items left_catalog left_limits c.args.left.now left_now.reader x
-          (on.s ++ option_to_list c.value_of-left_value.result)) c.in-Refused.is on.left_stood) on.right_stood;
-      in_turn = λ left_catalog right_catalog left_limits right_limits a b.
-          let on = left_goes g.L.Inlet g.R.Inlet g.I.Items g.J.Items _ _ _ _ left_catalog right_catalog left_limits right_limits
-          (g.met.I.Items.settled left_catalog left_limits) _ p.left left_now.reader p.right c.go_alike.new.left left_now.self c.go_alike.new.right
-          c.in_ok-advance_on_demand.field-0 c.value_of-left_value.result i a b c.value_of-left_value.ensures l.closed
-          (l.gives left_catalog left_limits c.args.left.now) l.none l.grew in
-          in_turn g.L.Inlet g.R.Inlet g.I.Items g.J.Items left_catalog right_catalog left_limits right_limits c.args.left.now c.args.right.now
-          left_now.self left_now.reader p.right _ on.left_stood on.asked;
-      one_end = λ left_catalog right_catalog left_limits right_limits a b.
-          let on = left_goes g.L.Inlet g.R.Inlet g.I.Items g.J.Items _ _ _ _ left_catalog right_catalog left_limits right_limits
-          (g.met.I.Items.settled left_catalog left_limits) _ p.left left_now.reader p.right c.go_alike.new.left left_now.self c.go_alike.new.right
-          c.in_ok-advance_on_demand.field-0 c.value_of-left_value.result i a b c.value_of-left_value.ensures l.closed
-          (l.gives left_catalog left_limits c.args.left.now) l.none l.grew in (
-            stood_end g.L.Inlet g.I.Items left_catalog left_limits c.args.left.now left_now.reader left_now.self _ on.left_stood,
-            stood_end g.R.Inlet g.J.Items right_catalog right_limits c.args.right.now p.right c.go_alike.new.right on.t on.right_stood,
+      verdict = λ g' h k l' a b.
+          let x = on g' h k l' a b in
+          left_refused g.L.Inlet g.I.Items g.R.Inlet g.J.Items g' h k l' c.args.left.now left_now.reader c.args.right.now p.right c.go_alike.new.right
+          (x.s ++ option_to_list v) x.t c.in-Refused.refusal
+          (subst (λ (y : Standing _). Stood g.L.Inlet g.I.Items g' k c.args.left.now left_now.reader y (x.s ++ option_to_list v)) c.in-Refused.is x.left_stood)
+          x.right_stood;
+      in_turn = λ g' h k l' a b.
+          let x = on g' h k l' a b in
+          in_turn g.L.Inlet g.R.Inlet g.I.Items g.J.Items g' h k l' c.args.left.now c.args.right.now left_now.self left_now.reader
+          p.right _ x.left_stood x.asked;
+      one_end = λ g' h k l' a b.
+          let x = on g' h k l' a b in (
+            stood_end g.L.Inlet g.I.Items g' k c.args.left.now left_now.reader left_now.self _ x.left_stood,
+            stood_end g.R.Inlet g.J.Items h l' c.args.right.now p.right c.go_alike.new.right x.t x.right_stood,
           );
       few_calls = (omega (arith, left_asked, l.few_calls), omega (arith, right_asked));
       few_octets = (omega (arith, left_handed, l.few_octets), omega (arith, right_handed));
@@ -178,29 +171,25 @@ returns-in-Err g c =
     let right_handed = i.right_handed in
     let l = c.in_ok-advance_on_demand.ensures in
     let left_now = c.advance_on_demand.new in
+    let left_found = c.in_ok-advance_on_demand.field-0 in
+    let v = c.value_of-left_value.result in
+    let on = left_goes g.L.Inlet g.R.Inlet g.I.Items g.J.Items _ _ _ _ g.met.I.Items.settled _ p.left left_now.reader p.right c.go_alike.new.left left_now.self
+    c.go_alike.new.right left_found v i c.value_of-left_value.ensures l.closed l.gives l.none l.grew in
     let r = c.in-Err.ensures in
     let right_now = c.advance_on_demand-in-loop-left_place.new in
     record {
       verdict = tt;
-      in_turn = λ left_catalog right_catalog left_limits right_limits a b.
-          let on = left_goes g.L.Inlet g.R.Inlet g.I.Items g.J.Items _ _ _ _ left_catalog right_catalog left_limits right_limits
-          (g.met.I.Items.settled left_catalog left_limits) _ p.left left_now.reader p.right c.go_alike.new.left left_now.self c.go_alike.new.right
-          c.in_ok-advance_on_demand.field-0 c.value_of-left_value.result i a b c.value_of-left_value.ensures l.closed
-          (l.gives left_catalog left_limits c.args.left.now) l.none l.grew in
-          in_turn g.L.Inlet g.R.Inlet g.I.Items g.J.Items left_catalog right_catalog left_limits right_limits c.args.left.now c.args.right.now
-          left_now.self left_now.reader right_now.reader _ on.left_stood
-          (right_on g.L.Inlet g.R.Inlet g.I.Items g.J.Items left_catalog right_catalog left_limits right_limits c.args.left.now c.args.right.now
-          (g.met.I.Items.settled left_catalog left_limits) g.met.I.Items.given_so_far g.met.I.Items.given_with_next left_now.self left_now.reader p.right
-          right_now.reader _ on.t on.left_stood l.ready c.in_default.not-Refused on.ahead
-          (r.sought right_catalog right_limits c.args.right.now on.t on.right_stood) on.asked);
-      one_end = λ left_catalog right_catalog left_limits right_limits a b.
-          let on = left_goes g.L.Inlet g.R.Inlet g.I.Items g.J.Items _ _ _ _ left_catalog right_catalog left_limits right_limits
-          (g.met.I.Items.settled left_catalog left_limits) _ p.left left_now.reader p.right c.go_alike.new.left left_now.self c.go_alike.new.right
-          c.in_ok-advance_on_demand.field-0 c.value_of-left_value.result i a b c.value_of-left_value.ensures l.closed
-          (l.gives left_catalog left_limits c.args.left.now) l.none l.grew in (
-            stood_end g.L.Inlet g.I.Items left_catalog left_limits c.args.left.now left_now.reader left_now.self _ on.left_stood,
-            so_far_end g.R.Inlet g.J.Items right_catalog right_limits c.args.right.now right_now.reader on.t
-                (r.kept right_catalog right_limits c.args.right.now on.t on.right_stood),
+      in_turn = λ g' h k l' a b.
+          let x = on g' h k l' a b in
+          in_turn g.L.Inlet g.R.Inlet g.I.Items g.J.Items g' h k l' c.args.left.now c.args.right.now left_now.self left_now.reader
+          right_now.reader _ x.left_stood
+          (right_on g.L.Inlet g.R.Inlet g.I.Items g.J.Items g' h k l' c.args.left.now c.args.right.now (g.met.I.Items.settled g' k)
+          g.met.I.Items.given_so_far g.met.I.Items.given_with_next left_now.self left_now.reader p.right right_now.reader _ x.t x.left_stood l.ready
+          c.in_default.not-Refused x.ahead (r.sought h l' c.args.right.now x.t x.right_stood) x.asked);
+      one_end = λ g' h k l' a b.
+          let x = on g' h k l' a b in (
+            stood_end g.L.Inlet g.I.Items g' k c.args.left.now left_now.reader left_now.self _ x.left_stood,
+            so_far_end g.R.Inlet g.J.Items h l' c.args.right.now right_now.reader x.t (r.kept h l' c.args.right.now x.t x.right_stood),
           );
       few_calls = (omega (arith, left_asked, l.few_calls), omega (arith, right_asked, r.few_calls));
       few_octets = (omega (arith, left_handed, l.few_octets), omega (arith, right_handed, r.few_octets));
@@ -210,48 +199,48 @@ returns-in-Err g c =
 
 -- both were read on, and what they gave can't be compared
 pub returns-in_err-met-clause-in_turn : goal.returns-in_err-met-clause-in_turn
-returns-in_err-met-clause-in_turn g c = λ left_catalog right_catalog left_limits right_limits a b.
+returns-in_err-met-clause-in_turn g c = λ g' h k l' a b.
     let p = c.loop-left_place in
     let stays = c.go_alike.ensures.stays (search rules) in
     let i = both_still g.L.Inlet g.R.Inlet g.I.Items g.J.Items _ _ _ _ p.course c.go_alike.new.course p.left p.right p.left_place c.go_alike.new.left
     p.right_place c.go_alike.new.right stays p.invariant in
     let l = c.in_ok-advance_on_demand.ensures in
     let left_now = c.advance_on_demand.new in
+    let left_found = c.in_ok-advance_on_demand.field-0 in
+    let v = c.value_of-left_value.result in
+    let on = left_goes g.L.Inlet g.R.Inlet g.I.Items g.J.Items _ _ _ _ g.met.I.Items.settled _ p.left left_now.reader p.right c.go_alike.new.left left_now.self
+    c.go_alike.new.right left_found v i c.value_of-left_value.ensures l.closed l.gives l.none l.grew in
     let r = c.in-Ok.ensures in
     let right_now = c.advance_on_demand-in-loop-left_place.new in
-    let on = left_goes g.L.Inlet g.R.Inlet g.I.Items g.J.Items _ _ _ _ left_catalog right_catalog left_limits right_limits
-    (g.met.I.Items.settled left_catalog left_limits) _ p.left left_now.reader p.right c.go_alike.new.left left_now.self c.go_alike.new.right
-    c.in_ok-advance_on_demand.field-0 c.value_of-left_value.result i a b c.value_of-left_value.ensures l.closed
-    (l.gives left_catalog left_limits c.args.left.now) l.none l.grew in
-    let both = right_goes g.L.Inlet g.R.Inlet g.I.Items g.J.Items _ _ _ _ left_catalog right_catalog left_limits right_limits
-    (g.met.I.Items.settled left_catalog left_limits) g.met.I.Items.given_so_far g.met.I.Items.given_with_next _ left_now.reader p.right right_now.reader
-    c.go_alike.new.left left_now.self c.go_alike.new.right right_now.self c.value_of-left_value.result c.in-Ok.found c.value_of-right_value.result on l.ready
-    c.in_default.not-Refused c.value_of-right_value.ensures r.closed (r.gives right_catalog right_limits c.args.right.now)
-    (r.sought right_catalog right_limits c.args.right.now on.t on.right_stood) in
-    in_turn g.L.Inlet g.R.Inlet g.I.Items g.J.Items left_catalog right_catalog left_limits right_limits c.args.left.now c.args.right.now
-    left_now.self left_now.reader right_now.reader _ both.left_stood both.turn.asked
+    let w = c.value_of-right_value.result in
+    let both = right_goes g.L.Inlet g.R.Inlet g.I.Items g.J.Items _ _ _ _ g.met.I.Items.settled g.met.I.Items.given_so_far g.met.I.Items.given_with_next _
+    left_now.reader p.right right_now.reader c.go_alike.new.left left_now.self c.go_alike.new.right right_now.self v c.in-Ok.found w l.ready
+    c.in_default.not-Refused c.value_of-right_value.ensures r.closed r.gives r.sought in
+    let y = both g' h k l' (on g' h k l' a b) in
+    in_turn g.L.Inlet g.R.Inlet g.I.Items g.J.Items g' h k l' c.args.left.now c.args.right.now left_now.self left_now.reader right_now.reader _
+    y.left_stood y.turn.asked
 
 pub returns-in_err-met-clause-one_end : goal.returns-in_err-met-clause-one_end
-returns-in_err-met-clause-one_end g c = λ left_catalog right_catalog left_limits right_limits a b.
+returns-in_err-met-clause-one_end g c = λ g' h k l' a b.
     let p = c.loop-left_place in
     let stays = c.go_alike.ensures.stays (search rules) in
     let i = both_still g.L.Inlet g.R.Inlet g.I.Items g.J.Items _ _ _ _ p.course c.go_alike.new.course p.left p.right p.left_place c.go_alike.new.left
     p.right_place c.go_alike.new.right stays p.invariant in
     let l = c.in_ok-advance_on_demand.ensures in
     let left_now = c.advance_on_demand.new in
+    let left_found = c.in_ok-advance_on_demand.field-0 in
+    let v = c.value_of-left_value.result in
+    let on = left_goes g.L.Inlet g.R.Inlet g.I.Items g.J.Items _ _ _ _ g.met.I.Items.settled _ p.left left_now.reader p.right c.go_alike.new.left left_now.self
+    c.go_alike.new.right left_found v i c.value_of-left_value.ensures l.closed l.gives l.none l.grew in
     let r = c.in-Ok.ensures in
     let right_now = c.advance_on_demand-in-loop-left_place.new in
-    let on = left_goes g.L.Inlet g.R.Inlet g.I.Items g.J.Items _ _ _ _ left_catalog right_catalog left_limits right_limits
-    (g.met.I.Items.settled left_catalog left_limits) _ p.left left_now.reader p.right c.go_alike.new.left left_now.self c.go_alike.new.right
-    c.in_ok-advance_on_demand.field-0 c.value_of-left_value.result i a b c.value_of-left_value.ensures l.closed
-    (l.gives left_catalog left_limits c.args.left.now) l.none l.grew in
-    let both = right_goes g.L.Inlet g.R.Inlet g.I.Items g.J.Items _ _ _ _ left_catalog right_catalog left_limits right_limits
-    (g.met.I.Items.settled left_catalog left_limits) g.met.I.Items.given_so_far g.met.I.Items.given_with_next _ left_now.reader p.right right_now.reader
-    c.go_alike.new.left left_now.self c.go_alike.new.right right_now.self c.value_of-left_value.result c.in-Ok.found c.value_of-right_value.result on l.ready
-    c.in_default.not-Refused c.value_of-right_value.ensures r.closed (r.gives right_catalog right_limits c.args.right.now)
-    (r.sought right_catalog right_limits c.args.right.now on.t on.right_stood) in (
-      stood_end g.L.Inlet g.I.Items left_catalog left_limits c.args.left.now left_now.reader left_now.self _ both.left_stood,
-      stood_end g.R.Inlet g.J.Items right_catalog right_limits c.args.right.now right_now.reader right_now.self _ both.right_stood,
+    let w = c.value_of-right_value.result in
+    let both = right_goes g.L.Inlet g.R.Inlet g.I.Items g.J.Items _ _ _ _ g.met.I.Items.settled g.met.I.Items.given_so_far g.met.I.Items.given_with_next _
+    left_now.reader p.right right_now.reader c.go_alike.new.left left_now.self c.go_alike.new.right right_now.self v c.in-Ok.found w l.ready
+    c.in_default.not-Refused c.value_of-right_value.ensures r.closed r.gives r.sought in
+    let y = both g' h k l' (on g' h k l' a b) in (
+      stood_end g.L.Inlet g.I.Items g' k c.args.left.now left_now.reader left_now.self _ y.left_stood,
+      stood_end g.R.Inlet g.J.Items h l' c.args.right.now right_now.reader right_now.self _ y.right_stood,
     )
 
 -- both are closed
@@ -267,56 +256,38 @@ returns-then-not-is_open-2 g c =
     let right_handed = i.right_handed in
     let l = c.in_ok-advance_on_demand.ensures in
     let left_now = c.advance_on_demand.new in
+    let left_found = c.in_ok-advance_on_demand.field-0 in
+    let v = c.value_of-left_value.result in
+    let on = left_goes g.L.Inlet g.R.Inlet g.I.Items g.J.Items _ _ _ _ g.met.I.Items.settled _ p.left left_now.reader p.right c.go_alike.new.left left_now.self
+    c.go_alike.new.right left_found v i c.value_of-left_value.ensures l.closed l.gives l.none l.grew in
     let r = c.in-Ok.ensures in
     let right_now = c.advance_on_demand-in-loop-left_place.new in
-    let left_same = closed_same p.left left_now.reader c.go_alike.new.left left_now.self c.in_ok-advance_on_demand.field-0 c.value_of-left_value.result
-    c.value_of-left_value.ensures l.closed in
-    let right_same = closed_same p.right right_now.reader c.go_alike.new.right right_now.self c.in-Ok.found c.value_of-right_value.result
-    c.value_of-right_value.ensures r.closed in
+    let w = c.value_of-right_value.result in
+    let both = right_goes g.L.Inlet g.R.Inlet g.I.Items g.J.Items _ _ _ _ g.met.I.Items.settled g.met.I.Items.given_so_far g.met.I.Items.given_with_next _
+    left_now.reader p.right right_now.reader c.go_alike.new.left left_now.self c.go_alike.new.right right_now.self v c.in-Ok.found w l.ready
+    c.in_default.not-Refused c.value_of-right_value.ensures r.closed r.gives r.sought in
+    let left_same = closed_same p.left left_now.reader c.go_alike.new.left left_now.self left_found v c.value_of-left_value.ensures l.closed in
+    let right_same = closed_same p.right right_now.reader c.go_alike.new.right right_now.self c.in-Ok.found w c.value_of-right_value.ensures r.closed in
     record {
-      verdict = λ left_catalog right_catalog left_limits right_limits a b.
-          let on = left_goes g.L.Inlet g.R.Inlet g.I.Items g.J.Items _ _ _ _ left_catalog right_catalog left_limits right_limits
-          (g.met.I.Items.settled left_catalog left_limits) _ p.left left_now.reader p.right c.go_alike.new.left left_now.self c.go_alike.new.right
-          c.in_ok-advance_on_demand.field-0 c.value_of-left_value.result i a b c.value_of-left_value.ensures l.closed
-          (l.gives left_catalog left_limits c.args.left.now) l.none l.grew in
-          let both = right_goes g.L.Inlet g.R.Inlet g.I.Items g.J.Items _ _ _ _ left_catalog right_catalog left_limits right_limits
-          (g.met.I.Items.settled left_catalog left_limits) g.met.I.Items.given_so_far g.met.I.Items.given_with_next _ left_now.reader p.right right_now.reader
-          c.go_alike.new.left left_now.self c.go_alike.new.right right_now.self c.value_of-left_value.result c.in-Ok.found c.value_of-right_value.result on l.ready
-          c.in_default.not-Refused c.value_of-right_value.ensures r.closed (r.gives right_catalog right_limits c.args.right.now)
-          (r.sought right_catalog right_limits c.args.right.now on.t on.right_stood) in
-          let verdict = closed_verdict g.L.Inlet g.I.Items g.R.Inlet g.J.Items left_catalog right_catalog left_limits right_limits c.args.left.now
-          left_now.reader c.args.right.now right_now.reader left_now.self right_now.self c.meet-met.new.self _ _ both.left_stood both.right_stood
-          (meets_more c.go_alike.new.course c.meet-met.new.self c.go_alike.new.left left_now.self c.go_alike.new.right right_now.self on.s on.t
-          c.value_of-left_value.result c.value_of-right_value.result c.in_ok-met.ensures on.meets left_same right_same
-          (λ none. l.none (none_of c.in_ok-advance_on_demand.field-0 c.value_of-left_value.result c.value_of-left_value.ensures none))
-          (λ none. r.none (none_of c.in-Ok.found c.value_of-right_value.result c.value_of-right_value.ensures none)))
+      verdict = λ g' h k l' a b.
+          let x = on g' h k l' a b in
+          let y = both g' h k l' x in
+          let verdict = closed_verdict g.L.Inlet g.I.Items g.R.Inlet g.J.Items g' h k l' c.args.left.now left_now.reader c.args.right.now right_now.reader
+          left_now.self right_now.self c.meet-met.new.self _ _ y.left_stood y.right_stood
+          (meets_more c.go_alike.new.course c.meet-met.new.self c.go_alike.new.left left_now.self c.go_alike.new.right right_now.self x.s x.t v w
+          c.in_ok-met.ensures x.meets left_same right_same (λ none. l.none (none_of left_found v c.value_of-left_value.ensures none))
+          (λ none. r.none (none_of c.in-Ok.found w c.value_of-right_value.ensures none)))
           c.in_default.not-Refused (false_case c.is_open.result _ _ c.is_open.ensures (search rules))
           (false_case c.is_open-then-not-is_open.result _ _ c.is_open-then-not-is_open.ensures (search rules)) in
           rw c.verdict.ensures verdict;
-      in_turn = λ left_catalog right_catalog left_limits right_limits a b.
-          let on = left_goes g.L.Inlet g.R.Inlet g.I.Items g.J.Items _ _ _ _ left_catalog right_catalog left_limits right_limits
-          (g.met.I.Items.settled left_catalog left_limits) _ p.left left_now.reader p.right c.go_alike.new.left left_now.self c.go_alike.new.right
-          c.in_ok-advance_on_demand.field-0 c.value_of-left_value.result i a b c.value_of-left_value.ensures l.closed
-          (l.gives left_catalog left_limits c.args.left.now) l.none l.grew in
-          let both = right_goes g.L.Inlet g.R.Inlet g.I.Items g.J.Items _ _ _ _ left_catalog right_catalog left_limits right_limits
-          (g.met.I.Items.settled left_catalog left_limits) g.met.I.Items.given_so_far g.met.I.Items.given_with_next _ left_now.reader p.right right_now.reader
-          c.go_alike.new.left left_now.self c.go_alike.new.right right_now.self c.value_of-left_value.result c.in-Ok.found c.value_of-right_value.result on l.ready
-          c.in_default.not-Refused c.value_of-right_value.ensures r.closed (r.gives right_catalog right_limits c.args.right.now)
-          (r.sought right_catalog right_limits c.args.right.now on.t on.right_stood) in
-          in_turn g.L.Inlet g.R.Inlet g.I.Items g.J.Items left_catalog right_catalog left_limits right_limits c.args.left.now c.args.right.now
-          left_now.self left_now.reader right_now.reader _ both.left_stood both.turn.asked;
-      one_end = λ left_catalog right_catalog left_limits right_limits a b.
-          let on = left_goes g.L.Inlet g.R.Inlet g.I.Items g.J.Items _ _ _ _ left_catalog right_catalog left_limits right_limits
-          (g.met.I.Items.settled left_catalog left_limits) _ p.left left_now.reader p.right c.go_alike.new.left left_now.self c.go_alike.new.right
-          c.in_ok-advance_on_demand.field-0 c.value_of-left_value.result i a b c.value_of-left_value.ensures l.closed
-          (l.gives left_catalog left_limits c.args.left.now) l.none l.grew in
-          let both = right_goes g.L.Inlet g.R.Inlet g.I.Items g.J.Items _ _ _ _ left_catalog right_catalog left_limits right_limits
-          (g.met.I.Items.settled left_catalog left_limits) g.met.I.Items.given_so_far g.met.I.Items.given_with_next _ left_now.reader p.right right_now.reader
-          c.go_alike.new.left left_now.self c.go_alike.new.right right_now.self c.value_of-left_value.result c.in-Ok.found c.value_of-right_value.result on l.ready
-          c.in_default.not-Refused c.value_of-right_value.ensures r.closed (r.gives right_catalog right_limits c.args.right.now)
-          (r.sought right_catalog right_limits c.args.right.now on.t on.right_stood) in (
-            stood_end g.L.Inlet g.I.Items left_catalog left_limits c.args.left.now left_now.reader left_now.self _ both.left_stood,
-            stood_end g.R.Inlet g.J.Items right_catalog right_limits c.args.right.now right_now.reader right_now.self _ both.right_stood,
+      in_turn = λ g' h k l' a b.
+          let y = both g' h k l' (on g' h k l' a b) in
+          in_turn g.L.Inlet g.R.Inlet g.I.Items g.J.Items g' h k l' c.args.left.now c.args.right.now left_now.self left_now.reader
+          right_now.reader _ y.left_stood y.turn.asked;
+      one_end = λ g' h k l' a b.
+          let y = both g' h k l' (on g' h k l' a b) in (
+            stood_end g.L.Inlet g.I.Items g' k c.args.left.now left_now.reader left_now.self _ y.left_stood,
+            stood_end g.R.Inlet g.J.Items h l' c.args.right.now right_now.reader right_now.self _ y.right_stood,
           );
       few_calls = (omega (arith, left_asked, l.few_calls), omega (arith, right_asked, r.few_calls));
       few_octets = (omega (arith, left_handed, l.few_octets), omega (arith, right_handed, r.few_octets));
@@ -341,17 +312,23 @@ loop-left_place-preserved g c =
     let right_handed = i.right_handed in
     let l = c.in_ok-advance_on_demand.ensures in
     let left_now = c.advance_on_demand.new in
+    let left_found = c.in_ok-advance_on_demand.field-0 in
+    let v = c.value_of-left_value.result in
+    let on = left_goes g.L.Inlet g.R.Inlet g.I.Items g.J.Items _ _ _ _ g.met.I.Items.settled _ p.left left_now.reader p.right c.go_alike.new.left left_now.self
+    c.go_alike.new.right left_found v i c.value_of-left_value.ensures l.closed l.gives l.none l.grew in
     let r = c.in-Ok.ensures in
     let right_now = c.advance_on_demand-in-loop-left_place.new in
-    let left_same = closed_same p.left left_now.reader c.go_alike.new.left left_now.self c.in_ok-advance_on_demand.field-0 c.value_of-left_value.result
-    c.value_of-left_value.ensures l.closed in
-    let right_same = closed_same p.right right_now.reader c.go_alike.new.right right_now.self c.in-Ok.found c.value_of-right_value.result
-    c.value_of-right_value.ensures r.closed in
+    let w = c.value_of-right_value.result in
+    let both = right_goes g.L.Inlet g.R.Inlet g.I.Items g.J.Items _ _ _ _ g.met.I.Items.settled g.met.I.Items.given_so_far g.met.I.Items.given_with_next _
+    left_now.reader p.right right_now.reader c.go_alike.new.left left_now.self c.go_alike.new.right right_now.self v c.in-Ok.found w l.ready
+    c.in_default.not-Refused c.value_of-right_value.ensures r.closed r.gives r.sought in
+    let left_same = closed_same p.left left_now.reader c.go_alike.new.left left_now.self left_found v c.value_of-left_value.ensures l.closed in
+    let right_same = closed_same p.right right_now.reader c.go_alike.new.right right_now.self c.in-Ok.found w c.value_of-right_value.ensures r.closed in
     let bound = i.bound in
     let less = works_less g.I.Items g.J.Items c.go_alike.new.left left_now.self c.go_alike.new.right right_now.self _ _ i.open_still l.spends left_same
     r.spends right_same in
     let right_heard = heard_alone g.J.Items g.R.Inlet c.go_alike.new.right c.args.right.now p.right i.right_heard in
-    let count = count_met c.go_alike.new.course c.meet-met.new.self c.value_of-left_value.result c.value_of-right_value.result c.in_ok-met.ensures in
+    let count = count_met c.go_alike.new.course c.meet-met.new.self v w c.in_ok-met.ensures in
     record {
       left_ready = l.ready;
       right_ready = r.ready;
@@ -373,25 +350,17 @@ loop-left_place-preserved g c =
             (true_case w.is_open-then-not-is_open.result _ _ w.is_open-then-not-is_open.ensures (search rules))
         | else-not-is_open-via-else-not-is_open w ↦ inl (true_case c.is_open.result _ _ c.is_open.ensures (search rules))
       ];
-      stood = λ left_catalog right_catalog left_limits right_limits a b.
-          let on = left_goes g.L.Inlet g.R.Inlet g.I.Items g.J.Items _ _ _ _ left_catalog right_catalog left_limits right_limits
-          (g.met.I.Items.settled left_catalog left_limits) _ p.left left_now.reader p.right c.go_alike.new.left left_now.self c.go_alike.new.right
-          c.in_ok-advance_on_demand.field-0 c.value_of-left_value.result i a b c.value_of-left_value.ensures l.closed
-          (l.gives left_catalog left_limits c.args.left.now) l.none l.grew in
-          let both = right_goes g.L.Inlet g.R.Inlet g.I.Items g.J.Items _ _ _ _ left_catalog right_catalog left_limits right_limits
-          (g.met.I.Items.settled left_catalog left_limits) g.met.I.Items.given_so_far g.met.I.Items.given_with_next _ left_now.reader p.right right_now.reader
-          c.go_alike.new.left left_now.self c.go_alike.new.right right_now.self c.value_of-left_value.result c.in-Ok.found c.value_of-right_value.result on l.ready
-          c.in_default.not-Refused c.value_of-right_value.ensures r.closed (r.gives right_catalog right_limits c.args.right.now)
-          (r.sought right_catalog right_limits c.args.right.now on.t on.right_stood) in (
-            on.s ++ option_to_list c.value_of-left_value.result,
-            on.t ++ option_to_list c.value_of-right_value.result,
-            both.left_stood,
-            both.right_stood,
-            meets_more c.go_alike.new.course c.meet-met.new.self c.go_alike.new.left left_now.self c.go_alike.new.right right_now.self on.s on.t
-                c.value_of-left_value.result c.value_of-right_value.result c.in_ok-met.ensures on.meets left_same right_same
-                (λ none. l.none (none_of c.in_ok-advance_on_demand.field-0 c.value_of-left_value.result c.value_of-left_value.ensures none))
-                (λ none. r.none (none_of c.in-Ok.found c.value_of-right_value.result c.value_of-right_value.ensures none)),
-            both.turn,
+      stood = λ g' h k l' a b.
+          let x = on g' h k l' a b in
+          let y = both g' h k l' x in (
+            x.s ++ option_to_list v,
+            x.t ++ option_to_list w,
+            y.left_stood,
+            y.right_stood,
+            meets_more c.go_alike.new.course c.meet-met.new.self c.go_alike.new.left left_now.self c.go_alike.new.right right_now.self x.s x.t v w
+                c.in_ok-met.ensures x.meets left_same right_same (λ none. l.none (none_of left_found v c.value_of-left_value.ensures none))
+                (λ none. r.none (none_of c.in-Ok.found w c.value_of-right_value.ensures none)),
+            y.turn,
           );
     }
 
@@ -403,12 +372,13 @@ loop-left_place-smaller g c =
     p.right_place c.go_alike.new.right stays p.invariant in
     let l = c.in_ok-advance_on_demand.ensures in
     let left_now = c.advance_on_demand.new in
+    let left_found = c.in_ok-advance_on_demand.field-0 in
+    let v = c.value_of-left_value.result in
     let r = c.in-Ok.ensures in
     let right_now = c.advance_on_demand-in-loop-left_place.new in
-    let left_same = closed_same p.left left_now.reader c.go_alike.new.left left_now.self c.in_ok-advance_on_demand.field-0 c.value_of-left_value.result
-    c.value_of-left_value.ensures l.closed in
-    let right_same = closed_same p.right right_now.reader c.go_alike.new.right right_now.self c.in-Ok.found c.value_of-right_value.result
-    c.value_of-right_value.ensures r.closed in
+    let w = c.value_of-right_value.result in
+    let left_same = closed_same p.left left_now.reader c.go_alike.new.left left_now.self left_found v c.value_of-left_value.ensures l.closed in
+    let right_same = closed_same p.right right_now.reader c.go_alike.new.right right_now.self c.in-Ok.found w c.value_of-right_value.ensures r.closed in
     let less = works_less g.I.Items g.J.Items c.go_alike.new.left left_now.self c.go_alike.new.right right_now.self _ _ i.open_still l.spends left_same
     r.spends right_same in
     let left_work = ap (λ (x : Standing _). work_of g.I.Items x) stays.1 in
