@@ -3,7 +3,7 @@ use Rattle.std.proofs.Common.{◌≡◌, ◌⊎◌, inl, inr, ℕ, ◌+◌, ◌<
 use Rattle.std.proofs.lemmas.List.{length-map}
 use Rattle.ion_model.specs.declared.value.Value.{Value}
 use Rattle.ion_symtab.specs.Heard.{Heard, AnsweredEnd}
-use Rattle.ion_symtab.specs.Trace.{Trace, IsFront, Grows, plain}
+use Rattle.ion_symtab.specs.Trace.{IsFront, Grows, plain}
 use Rattle.ion_symtab.specs.declared.catalog.Catalog.{Catalog}
 use Rattle.ion_symtab.specs.declared.limits.Limits.{Limits}
 use Rattle.ion_symtab.specs.declared.inlet.Inlet.{Ghosts as Inlet}
@@ -12,7 +12,7 @@ use Rattle.ion_streams.specs.Formats.{Format, format_of}
 use Rattle.ion_streams.specs.InTurn.{LastAskedFor, IsInTurn, unasked, behind_end, behind_values}
 use Rattle.ion_streams.specs.Outcomes.{AtOneEnd}
 use Rattle.ion_streams.specs.reading.Alongside.{StandingPast}
-use Rattle.ion_streams.specs.reading.Read.{left_of, between, IsReady, GaveSoFar, HandedOn, Sought, Reads}
+use Rattle.ion_streams.specs.reading.Read.{left_of, IsReady, GaveSoFar, HandedOn, Sought, Reads}
 use Rattle.ion_streams.specs.reading.Standing.{IfOpen, IfClosed, Stood, StoodEach}
 use Rattle.ion_streams.specs.declared.source.Source.{Source}
 use Rattle.ion_streams.specs.declared.source.Standing.{Standing}

@@ -1,4 +1,4 @@
-use Rattle.std.proofs.Common.{rules, ◌⊎◌, ◌++◌, [], ◌∷◌, Some, inl, inr, arith, refl, ap, sym, subst, option_to_list}
+use Rattle.std.proofs.Common.{rules, ◌++◌, [], ◌∷◌, Some, inl, inr, arith, refl, ap, sym, subst, option_to_list}
 use Rattle.std.proofs.lemmas.Result.{err_from_is_err_and}
 use Rattle.ion_streams.specs.declared.source.Standing.{Standing}
 use Rattle.ion_streams.specs.reading.Courses.{count_of}
@@ -7,7 +7,6 @@ use Rattle.ion_streams.proofs.Alongside.{past_open, past_closed, past_ready, pas
 use Rattle.ion_streams.proofs.Courses.{Meets, meets_begun, meets_more, left_refused, closed_verdict, count_met, works_less, true_case, false_case}
 use Rattle.ion_streams.proofs.Passes.{closed_same, none_of}
 use Rattle.ion_streams.proofs.SideBySide.{both_still, left_goes, right_goes}
-use Rattle.ion_streams.proofs.Steps.{on_err}
 use Rattle.ion_streams.proofs.Turns.{turn_begun, turn_past, left_failed, right_on, in_turn, stood_end, so_far_end}
 use Rattle.ion_streams.proofs.Unfailed.{heard_past, heard_alone, heard_since, stands_heard}
 use Rattle.ion_streams.proofs.comparison.compare_places.Goals.{else-not-is_open-via-then-not-is_open+else-not-is_open-2, else-not-is_open-via-else-not-is_open}
