@@ -15,6 +15,8 @@ mod model;
 #[cfg(test)]
 mod scanner;
 #[cfg(test)]
+mod tapes;
+#[cfg(test)]
 mod tokens;
 #[cfg(test)]
 mod values;
