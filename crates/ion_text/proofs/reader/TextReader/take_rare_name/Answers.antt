@@ -14,7 +14,7 @@ pub take_key-requires-clause-token : goal.take_key-requires-clause-token
 take_key-requires-clause-token c = record {
   kept = octets_in c.token.new.self;
   content = content c.in-Ok.body;
-  found = c.in-Some.ensures;
+  found = c.in-Some.ensures.found;
   says = c.in-Ok.ensures.says;
   names = subst (λ v. IfSome v (λ s. Names (content c.in-Ok.body) s)) c.in-Some-2.is c.in_ok-name.ensures.name;
 }
