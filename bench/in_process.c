@@ -22,8 +22,8 @@ static void told(const char *name, double from, unsigned long statuses) {
 int main(int words, char **word) {
     count = words > 1 ? atol(word[1]) : 100000;
     const pureefjord_options usual = PUREEFJORD_USUAL;
-    const pureefjord_options blank = {OCTETS(" "), 1 << 24, 64};
-    const pureefjord_options one = {OCTETS("$ion_shared_symbol_table::{name:\"t\",version:1,symbols:[\"a\"]}"), 1 << 24, 64};
+    const pureefjord_options blank = {OCTETS(" "), 1 << 24, 64, 0, 0};
+    const pureefjord_options one = {OCTETS("$ion_shared_symbol_table::{name:\"t\",version:1,symbols:[\"a\"]}"), 1 << 24, 64, 0, 0};
     const pureefjord_pair pair = {OCTETS("{name: \"a\", tags: [1, 2]}"), OCTETS("{tags: [1, 3], name: \"a\"}")};
     pureefjord_answer answer;
     uint8_t buffer[256];

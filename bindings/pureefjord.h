@@ -7,7 +7,8 @@
  *   - No pointer is NULL, also where a length is 0: "" serves.
  *   - Octets (input, left, right, catalog) and options can be read for their length, and nothing writes to them during the call.
  *   - What is written (buffer, answer, answers) can be written for its length, and overlaps nothing else that is handed in.
- *   - 128 KiB of stack are left. No call comes from a signal handler, nor from the child of a fork of a process with threads.
+ *   - 256 KiB of stack are left, whatever the depth. No call comes from a signal handler, nor from the child of a fork of a process
+ *     with threads.
  *   - malloc, realloc and free are those of one allocator, with blocks aligned as C wants them.
  * In return: nothing is kept between calls and nothing is shared, so any number of threads may call at once; nothing has to be
  * freed; no call fails but by its status, none aborts, writes to a file or calls back.
@@ -44,12 +45,12 @@ enum {
     PUREEFJORD_CATALOG = 4
 };
 
-/* Why there is no answer. Memory alone happens to octets in memory, but for documents beyond the bounds of the last two. */
+/* Why there is no answer. Memory alone happens to octets in memory, but for documents beyond the bounds of two others. */
 enum {
     PUREEFJORD_FAULT_MEMORY = 1,         /* malloc gave none */
     PUREEFJORD_FAULT_READ = 2,           /* never of octets in memory */
     PUREEFJORD_FAULT_WRITE = 3,          /* never of octets in memory */
-    PUREEFJORD_FAULT_TOO_MANY_READS = 4, /* more than 2^32 reads of 4 KiB */
+    PUREEFJORD_FAULT_TOO_MANY_READS = 4, /* 2^32 reads of 4 KiB were not enough; never of fewer than 2^32 octets */
     PUREEFJORD_FAULT_TOO_LARGE = 5,      /* to binary: a symbol would need an id above 2^31-1 */
     PUREEFJORD_FAULT_OPEN = 6            /* never of octets in memory */
 };
@@ -89,16 +90,20 @@ typedef struct {
     uint32_t reason; /* refused: why; a fault: which; else 0 */
 } pureefjord_answer;
 
-/* What a call is given beside its documents. */
+/* What a call is given beside its documents. pureefjord_to_binary finds the ids of symbols by a hash that begins with the seed. No
+ * answer depends on it, but texts that are chosen to collide under a seed that is known make that call slow: its time grows with the
+ * square of their number. So a program that converts documents of strangers draws a seed, as by getentropy, and tells it nobody. */
 typedef struct {
     const uint8_t *catalog; /* a document of the shared symbol tables that the input may import */
     size_t catalog_length;  /* 0: none */
     uint64_t item;          /* the greatest number of octets of a top-level value, 1 to 2^30 */
     uint32_t depth;         /* the greatest depth, 1 to 128 */
+    uint64_t seed_low;      /* the seed: two numbers that are drawn at random, */
+    uint64_t seed_high;     /* or 0 and 0 where documents are trusted */
 } pureefjord_options;
 
-/* pureefjord_options options = PUREEFJORD_USUAL: no catalog, and the limits that the command usually has. */
-#define PUREEFJORD_USUAL {(const uint8_t *)"", 0, (uint64_t)1 << 24, 64}
+/* pureefjord_options options = PUREEFJORD_USUAL: no catalog, the limits that the command usually has, and the seed 0. */
+#define PUREEFJORD_USUAL {(const uint8_t *)"", 0, (uint64_t)1 << 24, 64, 0, 0}
 
 /* Two documents. */
 typedef struct {
@@ -122,7 +127,7 @@ uint32_t pureefjord_compare(const uint8_t *left, size_t left_length, const uint8
     const pureefjord_options *options, uint8_t *buffer, size_t buffer_length, pureefjord_answer *answer);
 
 /* Compares as many of the pairs as there is room for answers, and returns how many; answers[i] is what pureefjord_compare tells
- * of pairs[i], with the length of the path, whose text isn't given. The catalog is read once for all. */
+ * of pairs[i], with the length of the path, whose text isn't given. Answers behind these stay. The catalog is read once for all. */
 size_t pureefjord_compare_each(const pureefjord_pair *pairs, size_t pairs_length,
     const pureefjord_options *options, pureefjord_answer *answers, size_t answers_length);
 
@@ -132,7 +137,8 @@ uint32_t pureefjord_to_text(const uint8_t *input, size_t input_length,
 uint32_t pureefjord_to_binary(const uint8_t *input, size_t input_length,
     const pureefjord_options *options, uint8_t *buffer, size_t buffer_length, pureefjord_answer *answer);
 
-/* The name of a reason into the buffer, whole or not at all; returns its length (14 at most), 0 for a number of none. */
+/* The name of a reason into the buffer, whole or not at all; returns its length (14 at most). For a number of none it returns 0 and
+ * leaves the buffer as it is. */
 size_t pureefjord_reason_name(uint32_t reason, uint8_t *buffer, size_t buffer_length);
 
 /* The version of the library that is linked, likewise; PUREEFJORD_VERSION is that of this header. */

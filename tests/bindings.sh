@@ -73,6 +73,14 @@ in_c() {
     fi
 }
 
+# Values as deep as may be, in no more stack than the header says.
+in_little_stack() {
+    # shellcheck disable=SC2086
+    tried 'the stack, built' "$cc" $warnings -std=c11 -O2 -I"$top/bindings" -pthread -o "$folder/stack" "$top/tests/bindings/stack.c" "$library"
+    tried 'the stack' "$folder/stack"
+    sed -n 's/ were used.*/ were used/p' "$folder/told"
+}
+
 # The header in C++, and the example over both objects.
 examples() {
     if has "${CXX:-g++}"; then
@@ -113,6 +121,7 @@ if [ ! -f "$top/crates/ion_c/out/libion_c.a" ]; then
 fi
 build
 in_c
+in_little_stack
 examples
 in_other_languages
 echo "$passed passed, $failed failed"

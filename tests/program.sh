@@ -97,5 +97,33 @@ expect 'to binary' 0 '' ''
 run convert short --to text < /dev/null;    expect 'to text' 0 '[5,true]' ''
 run convert short < /dev/null;              expect 'no target' 3 '' "$usage"
 
+# nested OPEN INNER CLOSE: a value of 128 levels.
+nested() {
+    level=0; while [ $level -lt 128 ]; do printf '%s' "$1"; level=$((level + 1)); done
+    printf '%s' "$2"
+    level=0; while [ $level -lt 128 ]; do printf '%s' "$3"; level=$((level + 1)); done
+}
+
+# Runs the program in 256 KiB of stack, with what the system puts there.
+run_in_little_stack() {
+    (ulimit -s 256 && exec "$program" "$@" --depth 128) > out 2> err < /dev/null
+    status=$?
+}
+
+nested 'x::{a:' "'''a''' '''b'''" ',b:1}' > deep
+nested 'x::{b:1,a:' '"ab"' '}' > turned
+nested 'x::[' '$4' ']' > deep_list
+run_in_little_stack check deep_list;        expect 'a deep list' 0 'accepted 1' ''
+run_in_little_stack show deep;              expect 'a deep value' 0 "1 struct depth 128 nodes 257
+accepted 1" ''
+run_in_little_stack compare deep turned;    expect 'deep values, turned around' 0 'equivalent 1' ''
+run_in_little_stack convert deep --to binary
+cp out deep_binary; : > out;                expect 'a deep value, to binary' 0 '' ''
+run_in_little_stack compare turned deep_binary
+                                            expect 'deep values of both encodings' 0 'equivalent 1' ''
+run_in_little_stack convert deep_binary --to text
+cp out deep_text; : > out;                  expect 'a deep value, to text' 0 '' ''
+run_in_little_stack compare deep_text deep; expect 'a deep text, written again' 0 'equivalent 1' ''
+
 echo "$passed passed, $failed failed"
 [ "$failed" = 0 ]

@@ -1,10 +1,11 @@
 //! Whole Amazon Ion 1.0 documents in memory, from Rust: what `pureefjord.h` declares, and a safe wrapper over it.
 //!
 //! Take this file up as a module, and link `libpureefjord.a` (docs/BINDINGS.md). The answers are those of the command
-//! `ion_cmd`, whose code is proved; of this file only tests speak.
+//! `ion_cmd`, whose code is proved; of this file only tests speak. A call needs 256 KiB of stack, whatever the depth.
 #![allow(dead_code)]
 
 use std::fmt;
+use std::hash::{BuildHasher, RandomState};
 
 /// The declarations of `pureefjord.h`, which says what callers owe.
 pub mod raw {
@@ -24,6 +25,8 @@ pub mod raw {
         pub catalog_length: usize,
         pub item: u64,
         pub depth: u32,
+        pub seed_low: u64,
+        pub seed_high: u64,
     }
 
     #[repr(C)]
@@ -149,7 +152,7 @@ pub fn to_text(input: &[u8], options: &Options<'_>) -> Result<Vec<u8>, Error> {
     written(raw::pureefjord_to_text, input, options)
 }
 
-/// A binary document of the same stream.
+/// A binary document of the same stream. Symbols are found by a hash whose seed is drawn at random.
 pub fn to_binary(input: &[u8], options: &Options<'_>) -> Result<Vec<u8>, Error> {
     written(raw::pureefjord_to_binary, input, options)
 }
@@ -195,12 +198,16 @@ fn with_room(room: usize, call: impl Fn(&mut [u8], &mut raw::Answer)) -> (raw::A
     (answer, buffer)
 }
 
+/// The same with a seed for the hash of `to_binary`, drawn at random.
 fn options_of(options: &Options<'_>) -> raw::Options {
+    let drawn = RandomState::new();
     raw::Options {
         catalog: options.catalog.as_ptr(),
         catalog_length: options.catalog.len(),
         item: options.item,
         depth: options.depth,
+        seed_low: drawn.hash_one(0),
+        seed_high: drawn.hash_one(1),
     }
 }
 

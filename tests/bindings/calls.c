@@ -52,10 +52,9 @@ static const char other[] = "{a:[{b:(c d::e 1.5 2020-01-01T \"other\" {{aGVsbG8=
 static const pureefjord_options usual = PUREEFJORD_USUAL;
 
 static void documents(void) {
-    const pureefjord_options shallow = {OCTETS(""), 1 << 24, 1};
+    const pureefjord_options shallow = {OCTETS(""), 1 << 24, 1, 0, 0};
     is("check", tells(pureefjord_check(short_binary, sizeof short_binary, &usual, &a), PUREEFJORD_ACCEPTED, 1, 0, 0, 0));
     is("nothing", tells(pureefjord_check(OCTETS(""), &usual, &a), PUREEFJORD_ACCEPTED, 0, 0, 0, 0));
-    is("NULL of length 0", tells(pureefjord_check(NULL, 0, &usual, &a), PUREEFJORD_ACCEPTED, 0, 0, 0, 0));
     is("a cut document", tells(pureefjord_check(short_binary, 7, &usual, &a), PUREEFJORD_REFUSED, 7, 0, PUREEFJORD_ONLY, PUREEFJORD_INCOMPLETE));
     is("a float", tells(pureefjord_check(OCTETS("1e0"), &usual, &a), PUREEFJORD_REFUSED, 3, 0, PUREEFJORD_ONLY, PUREEFJORD_FLOAT));
     is("too deep", tells(pureefjord_check(OCTETS("[[1]]"), &shallow, &a), PUREEFJORD_REFUSED, 2, 0, PUREEFJORD_ONLY, PUREEFJORD_DEPTH));
@@ -65,7 +64,7 @@ static void limits(void) {
     static const struct { uint64_t item; uint32_t depth, status; } rows[] = {
         {1, 1, 0}, {0, 1, 3}, {1, 0, 3}, {(uint64_t)1 << 30, 128, 0}, {((uint64_t)1 << 30) + 1, 128, 3}, {1, 129, 3}, {UINT64_MAX, UINT32_MAX, 3}};
     for (size_t i = 0; i < sizeof rows / sizeof *rows; i++) {
-        const pureefjord_options asked = {OCTETS(""), rows[i].item, rows[i].depth};
+        const pureefjord_options asked = {OCTETS(""), rows[i].item, rows[i].depth, 0, 0};
         uint32_t status = pureefjord_check(OCTETS("1"), &asked, &a);
         is("limits", tells(status, rows[i].status, rows[i].status ? 0 : 1, 0, 0, 0));
     }
@@ -79,17 +78,16 @@ static void verdicts(void) {
     is("one has ended", tells(pureefjord_compare(OCTETS("1 2"), OCTETS("1"), &usual, b, sizeof b, &a), PUREEFJORD_DIFFERENT, 2, 0, 0, 0));
     is("right refused", tells(pureefjord_compare(OCTETS("1"), OCTETS("]"), &usual, b, sizeof b, &a), PUREEFJORD_REFUSED, 1, 0, PUREEFJORD_RIGHT, PUREEFJORD_UNEXPECTED));
     is("left refused first", tells(pureefjord_compare(OCTETS("1e0"), OCTETS("]"), &usual, b, sizeof b, &a), PUREEFJORD_REFUSED, 3, 0, PUREEFJORD_LEFT, PUREEFJORD_FLOAT));
-    is("no room at NULL", tells(pureefjord_compare(OCTETS("[1]"), OCTETS("[2]"), &usual, NULL, 0, &a), PUREEFJORD_DIFFERENT, 1, 3, 0, 0));
+    is("no room", tells(pureefjord_compare(OCTETS("[1]"), OCTETS("[2]"), &usual, b, 0, &a), PUREEFJORD_DIFFERENT, 1, 3, 0, 0));
 }
 
 static void catalogs(void) {
-    const pureefjord_options with_tables = {OCTETS(tables), 1 << 24, 64}, with_five = {OCTETS("5"), 1 << 24, 64}, with_null = {NULL, 0, 1 << 24, 64};
+    const pureefjord_options with_tables = {OCTETS(tables), 1 << 24, 64, 0, 0}, with_five = {OCTETS("5"), 1 << 24, 64, 0, 0};
     uint8_t b[64];
     pureefjord_check(OCTETS(uses), &usual, &a);
     is("an import that is missing", a.status == PUREEFJORD_REFUSED && a.reason == PUREEFJORD_MISSING_IMPORT);
     is("an import", tells(pureefjord_check(OCTETS(uses), &with_tables, &a), PUREEFJORD_ACCEPTED, 1, 0, 0, 0));
     is("its text", tells(pureefjord_compare(OCTETS(uses), OCTETS("a"), &with_tables, b, sizeof b, &a), PUREEFJORD_ACCEPTED, 1, 0, 0, 0));
-    is("a catalog at NULL", tells(pureefjord_check(OCTETS("1"), &with_null, &a), PUREEFJORD_ACCEPTED, 1, 0, 0, 0));
     is("no catalog", tells(pureefjord_compare(OCTETS("]"), OCTETS("]"), &with_five, b, sizeof b, &a), PUREEFJORD_REFUSED, 1, 0, PUREEFJORD_CATALOG, PUREEFJORD_BAD_TABLE));
 }
 
@@ -99,6 +97,18 @@ static void texts(void) {
     is("to binary", tells(pureefjord_to_binary(OCTETS("[5, true]"), &usual, b, sizeof b, &a), PUREEFJORD_ACCEPTED, 1, sizeof short_binary, 0, 0) && !memcmp(b, short_binary, sizeof short_binary));
     is("before a refusal", tells(pureefjord_to_text(OCTETS("1 2 ]"), &usual, b, sizeof b, &a), PUREEFJORD_REFUSED, 5, 4, PUREEFJORD_ONLY, PUREEFJORD_UNEXPECTED) && holds(b, "1\n2\n"));
     is("show", tells(pureefjord_show(OCTETS("[5, true] 1"), &usual, b, sizeof b, &a), PUREEFJORD_ACCEPTED, 2, 56, 0, 0) && holds(b, "1 list depth 1 nodes 3\n2 int depth 0 nodes 1\naccepted 2\n"));
+}
+
+/* Under whatever seed the same document is written. */
+static void seeds(void) {
+    uint8_t wanted[512], b[512];
+    pureefjord_to_binary(OCTETS(deep), &usual, wanted, sizeof wanted, &a);
+    for (uint64_t seed = 1; seed; seed <<= 7) {
+        const pureefjord_options seeded = {OCTETS(""), 1 << 24, 64, seed, ~seed};
+        uint64_t length = a.length;
+        uint32_t status = pureefjord_to_binary(OCTETS(deep), &seeded, b, sizeof b, &a);
+        is("a seed", tells(status, PUREEFJORD_ACCEPTED, 3, length, 0, 0) && !memcmp(b, wanted, length));
+    }
 }
 
 /* Of a text of 9 octets: a buffer of any size has it whole at its front, or is as it was. */
@@ -124,7 +134,8 @@ static void names(void) {
         size_t length = pureefjord_reason_name(number, b, sizeof b);
         is("a reason's name", length == strlen(wanted[number]) && !memcmp(b, wanted[number], length));
     }
-    is("no reason", pureefjord_reason_name(UINT32_MAX, b, sizeof b) == 0);
+    memset(b, 7, sizeof b);
+    is("no reason", pureefjord_reason_name(UINT32_MAX, b, sizeof b) == 0 && b[0] == 7 && !memcmp(b, b + 1, sizeof b - 1));
     is("a name without room", pureefjord_reason_name(1, b, 0) == 6);
     size_t length = pureefjord_version(b, sizeof b);
     is("the version", length == strlen(PUREEFJORD_VERSION) && !memcmp(b, PUREEFJORD_VERSION, length));
@@ -133,7 +144,7 @@ static void names(void) {
 static void pairs(void) {
     const pureefjord_pair rows[] = {{OCTETS("1"), OCTETS("1 ")}, {OCTETS("{a:1}"), OCTETS("{a:2}")}, {OCTETS("1"), OCTETS("]")}, {OCTETS(""), OCTETS("")}};
     pureefjord_answer found[5];
-    const pureefjord_options none = {OCTETS(""), 0, 64}, with_five = {OCTETS("5"), 1 << 24, 64};
+    const pureefjord_options none = {OCTETS(""), 0, 64, 0, 0}, with_five = {OCTETS("5"), 1 << 24, 64, 0, 0};
     memset(found, 9, sizeof found);
     is("as many as there is room for", pureefjord_compare_each(rows, 4, &usual, found, 2) == 2 && found[2].status == 0x09090909);
     is("all pairs", pureefjord_compare_each(rows, 4, &usual, found, 5) == 4 && found[4].status == 0x09090909);
@@ -166,7 +177,7 @@ static void refused_blocks(const char *name, uint32_t (*call)(void)) {
     printf("%s: %ld blocks\n", name, count - 1);
 }
 
-static const pureefjord_options starved = {OCTETS(tables), 1 << 24, 64};
+static const pureefjord_options starved = {OCTETS(tables), 1 << 24, 64, 0, 0};
 static uint32_t call_check(void) { return pureefjord_check(OCTETS(deep), &starved, &a); }
 static uint32_t call_show(void) { return pureefjord_show(OCTETS(deep), &starved, wide, sizeof wide, &a); }
 static uint32_t call_text(void) { return pureefjord_to_text(OCTETS(deep), &starved, wide, sizeof wide, &a); }
@@ -188,20 +199,16 @@ static void *in_thread(void *unused) {
     return (void *)wrong;
 }
 
-/* Four threads at once, each with the 128 KiB of stack that a call may use. */
+/* Four threads at once. */
 static void threads(void) {
     pthread_t ids[4];
-    pthread_attr_t small;
-    pthread_attr_init(&small);
-    pthread_attr_setstacksize(&small, 128 * 1024 + 16384);
     for (int i = 0; i < 4; i++)
-        pthread_create(&ids[i], &small, in_thread, NULL);
+        pthread_create(&ids[i], NULL, in_thread, NULL);
     for (int i = 0; i < 4; i++) {
         void *wrong;
         pthread_join(ids[i], &wrong);
         is("a thread", wrong == NULL);
     }
-    pthread_attr_destroy(&small);
 }
 
 int main(void) {
@@ -210,6 +217,7 @@ int main(void) {
     verdicts();
     catalogs();
     texts();
+    seeds();
     buffers();
     names();
     pairs();

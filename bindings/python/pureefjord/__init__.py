@@ -1,10 +1,14 @@
 """Whole Amazon Ion 1.0 documents in memory, text or binary: check, show, compare, convert.
 
 The answers are those of the command `ion_cmd`, whose code is proved; of this module only tests speak. A document is bytes,
-a bytearray, a memoryview, an mmap, or the path of a file (`pathlib.Path`). Nothing is copied of it.
+a bytearray, a memoryview, an mmap, or the path of a file (`pathlib.Path`). Nothing is copied of it, and Python's lock is let go of
+for the call: no other thread may write to a bytearray, a memoryview, an mmap or a mapped file before the call returns, nor another
+process to the file. What a call would answer of octets that change isn't said.
 
     >>> compare(b"{a: [1, 2]}", b"{a: [1, 3]}")
     Different(index=1, path='a [2]')
+
+A call needs 256 KiB of stack, whatever the depth; a thread has more, unless `threading.stack_size` said less.
 
 Each call also takes `catalog`, a document of the shared symbol tables that its documents may import, `depth`, how deep values
 may go (1 to 128), and `item`, how many octets a top-level value may have (1 to 2**30).
@@ -127,7 +131,10 @@ def to_text(document: Document, *, catalog: Document = b"", depth: int = _DEPTH,
 
 
 def to_binary(document: Document, *, catalog: Document = b"", depth: int = _DEPTH, item: int = _ITEM) -> bytes:
-    """A binary document of the same stream, each length in the fewest octets. Raises what `check` does."""
+    """A binary document of the same stream, each length in the fewest octets. Raises what `check` does.
+
+    It finds symbols by a hash whose seed this process drew at random, so no document can be made to be slow by it.
+    """
     return _written("to_binary", document, catalog, depth, item)
 
 

@@ -5,6 +5,7 @@ import ctypes
 import mmap
 import os
 import pathlib
+import secrets
 from typing import Any, Callable, List, NamedTuple, Sequence, Tuple, Union
 
 Document = Union[bytes, bytearray, memoryview, mmap.mmap, "os.PathLike[str]", "os.PathLike[bytes]"]
@@ -29,6 +30,8 @@ class _Options(ctypes.Structure):
         ("catalog_length", ctypes.c_size_t),
         ("item", ctypes.c_uint64),
         ("depth", ctypes.c_uint32),
+        ("seed_low", ctypes.c_uint64),
+        ("seed_high", ctypes.c_uint64),
     ]
 
 
@@ -96,6 +99,7 @@ def _short(call: Callable[..., int], *words: int) -> str:
 
 
 VERSION = _short(_library.pureefjord_version)
+_SEED = (secrets.randbits(64), secrets.randbits(64))  # of the hash of `to_binary`: texts can't be chosen to collide under it
 REASONS = tuple(_short(_library.pureefjord_reason_name, number) for number in range(23))
 
 
@@ -166,7 +170,7 @@ class Told(NamedTuple):
 def _options(catalog: _Lent, depth: int, item: int) -> _Options:
     if not (1 <= depth <= 128 and 1 <= item <= 1 << 30):
         raise ValueError("depth is 1 to 128, and item 1 to 2**30")
-    return _Options(catalog.place, catalog.length, item, depth)
+    return _Options(catalog.place, catalog.length, item, depth, *_SEED)
 
 
 def call(name: str, documents: Sequence[Document], catalog: Document, depth: int, item: int, room: int) -> Told:

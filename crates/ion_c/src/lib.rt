@@ -10,8 +10,9 @@
 mod answer;
 mod buffers;
 mod pairs;
+mod seeded;
 
-ghost use Rattle.std.specs.Prelude.{◌≡◌, ◌<◌, ◌≤◌, ℕ, List, length, min, slice_get, Option};
+ghost use Rattle.std.specs.Prelude.{◌≡◌, ◌<◌, ◌≤◌, ℕ, List, length, drop, min, slice_get, codes, Option};
 ghost use Rattle.ion_atoms.specs.Reasons.{reason_number, reason_name};
 ghost use Rattle.ion_atoms.specs.declared.refusal.Reason.{Reason as AnyReason};
 ghost use Rattle.ion_symtab.specs.declared.target.Target.TheVariants.{Text, Binary};
@@ -24,9 +25,10 @@ ghost use Rattle.ion_c.specs.declared.pairs.Pair.{Pair as APair};
 use crate::answer::tell;
 use crate::buffers::lay;
 use crate::pairs::compare_each;
+use crate::seeded::SeededHasher;
 pub use answer::Answer;
 use ion_docs::Target;
-use ion_memory::{checked, compared, converted, reason_of_number, shown};
+use ion_memory::{Outcome, checked, compared, converted_with_hasher, reason_of_number, shown};
 pub use pairs::Pair;
 use std::alloc::Global;
 
@@ -40,6 +42,11 @@ pub struct Options<'a> {
     pub item: u64,
     /// The greatest depth, 1 to 128.
     pub depth: u32,
+    /// The seed of the hash by which `pureefjord_to_binary` finds the ids of symbols, in two words
+    /// of 64 bits. Texts that are chosen to collide under a seed that is known make that slow, so
+    /// it is drawn at random where documents aren't trusted. No answer depends on it.
+    pub seed_low: u64,
+    pub seed_high: u64,
 }
 
 /// How many values a document has, or its refusal.
@@ -116,6 +123,7 @@ pub extern "C" fn pureefjord_compare_each(
     ensures each { (i : ℕ) (pair : APair) (answer : AnAnswer) → i < result →
         slice_get pairs.now i ≡ Option.Some pair → slice_get answers.new i ≡ Option.Some answer →
         IsAnsweredPair options.now.catalog.now options.now.depth options.now.item pair answer }
+    ensures others { drop result answers.new ≡ drop result answers.old }
 {
     let (catalog, depth, item) = (options.catalog, options.depth, options.item);
     compare_each(alloc, pairs, catalog, depth, item, answers)
@@ -136,8 +144,7 @@ pub extern "C" fn pureefjord_to_text(
         × Tells e text answer.new × (result ≡ answer.new.status)
         × (buffer.new ≡ laid text buffer.old) }
 {
-    let (catalog, depth, item) = (options.catalog, options.depth, options.item);
-    let outcome = converted(alloc, input, Target::Text, catalog, depth, item);
+    let outcome = converted_by(alloc, input, Target::Text, options);
     lay(outcome.text.as_slice(), buffer);
     tell(&outcome, answer)
 }
@@ -157,10 +164,19 @@ pub extern "C" fn pureefjord_to_binary(
         × Tells e text answer.new × (result ≡ answer.new.status)
         × (buffer.new ≡ laid text buffer.old) }
 {
-    let (catalog, depth, item) = (options.catalog, options.depth, options.item);
-    let outcome = converted(alloc, input, Target::Binary, catalog, depth, item);
+    let outcome = converted_by(alloc, input, Target::Binary, options);
     lay(outcome.text.as_slice(), buffer);
     tell(&outcome, answer)
+}
+
+/// A document of the same stream, with the hasher of the seed that is asked for.
+fn converted_by(alloc: Global, input: &[u8], target: Target, options: &Options<'_>) -> Outcome
+    ensures { IsOutcome options.now.catalog.now options.now.depth options.now.item
+        (IsConverted target input.now) result.ending result.text.items }
+{
+    let hasher = SeededHasher::new(options.seed_low, options.seed_high);
+    let (catalog, depth, item) = (options.catalog, options.depth, options.item);
+    converted_with_hasher(alloc, hasher, input, target, catalog, depth, item)
 }
 
 /// The name of the reason of this number into the buffer, whole or not at all, and how long it is;
@@ -171,6 +187,7 @@ pub extern "C" fn pureefjord_reason_name(number: u32, buffer: &mut [u8]) -> usiz
         × (reason_number reason ≡ number)
         × (buffer.new ≡ laid (reason_name reason) buffer.old)
         × (result ≡ length (reason_name reason)) }
+    ensures none { (1 ≤ number → number ≤ 22 → ⊥) → (result ≡ 0) × (buffer.new ≡ buffer.old) }
 {
     match reason_of_number(number) {
         Some(reason) => {
@@ -185,7 +202,7 @@ pub extern "C" fn pureefjord_reason_name(number: u32, buffer: &mut [u8]) -> usiz
 /// The version of this library into the buffer, whole or not at all, and how long it is.
 #[unsafe(no_mangle)]
 pub extern "C" fn pureefjord_version(buffer: &mut [u8]) -> usize
-    ensures { (text : List ℕ) × (buffer.new ≡ laid text buffer.old) × (result ≡ length text) }
+    ensures { (buffer.new ≡ laid (codes "0.1.0") buffer.old) × (result ≡ 5) }
 {
     let version = VERSION.as_bytes();
     lay(version, buffer);

@@ -1,5 +1,5 @@
 //! Many comparisons in one call.
-ghost use Rattle.std.specs.Prelude.{◌≡◌, ◌<◌, ℕ, min, length, slice_get, Option};
+ghost use Rattle.std.specs.Prelude.{◌≡◌, ◌<◌, ℕ, drop, min, length, slice_get, Option};
 ghost use Rattle.ion_c.specs.Telling.{IsAnsweredPair};
 ghost use Rattle.ion_c.specs.declared.answer.Answer.{Answer as AnAnswer};
 ghost use Rattle.ion_c.specs.declared.pairs.Pair.{Pair as APair};
@@ -32,6 +32,7 @@ pub fn compare_each(
     ensures each { (i : ℕ) (pair : APair) (answer : AnAnswer) → i < result →
         slice_get pairs.now i ≡ Option.Some pair → slice_get answers.new i ≡ Option.Some answer →
         IsAnsweredPair catalog.now depth item pair answer }
+    ensures others { drop result answers.new ≡ drop result answers.old }
 {
     let setting = set_up(alloc, catalog, depth, item);
     let count = pairs.len().min(answers.len());
