@@ -114,7 +114,7 @@ nested 'x::{a:' "'''a''' '''b'''" ',b:1}' > deep
 nested 'x::{b:1,a:' '"ab"' '}' > turned
 nested 'x::[' '$4' ']' > deep_list
 run_in_little_stack check deep_list;        expect 'a deep list' 0 'accepted 1' ''
-run_in_little_stack show deep;              expect 'a deep value' 0 "1 struct depth 128 nodes 257
+run_in_little_stack show deep;              expect 'a deep value' 0 "1 struct depth 128 nodes 641
 accepted 1" ''
 run_in_little_stack compare deep turned;    expect 'deep values, turned around' 0 'equivalent 1' ''
 run_in_little_stack convert deep --to binary
