@@ -7,7 +7,7 @@
 #include <cstring>
 #include <fstream>
 #include <iostream>
-#include <sstream>
+#include <optional>
 #include <string>
 
 #include <rapidjson/error/en.h>
@@ -18,14 +18,14 @@
 #include <simdjson.h>
 
 static std::string octets_of(const char* path) {
-    std::ifstream file(path, std::ios::binary);
-    std::ostringstream octets;
-    octets << file.rdbuf();
-    if (!file) {
+    std::ifstream file(path, std::ios::binary | std::ios::ate);
+    std::string octets(file ? static_cast<std::size_t>(file.tellg()) : 0, '\0');
+    file.seekg(0);
+    if (!file.read(octets.data(), static_cast<std::streamsize>(octets.size()))) {
         std::cerr << "can't read " << path << "\n";
         std::exit(1);
     }
-    return octets.str();
+    return octets;
 }
 
 static bool is_blank(const std::string& text, std::size_t from) {
@@ -51,7 +51,8 @@ static std::size_t tell_all(const std::string& text, Handler& handler, Behind be
     return count;
 }
 
-static std::size_t by_rapidjson(const std::string& text, bool writes) {
+static std::size_t by_rapidjson(const char* path, bool writes) {
+    const std::string text = octets_of(path);
     if (!writes) {
         rapidjson::BaseReaderHandler<> nothing;
         return tell_all(text, nothing, [] {});
@@ -67,27 +68,42 @@ static std::size_t by_rapidjson(const std::string& text, bool writes) {
     return count;
 }
 
-static std::size_t by_simdjson(const std::string& text, bool writes) {
+// Goes over the values, each of which fits the window. None where one doesn't.
+static std::optional<std::size_t> within(const simdjson::padded_string& text, std::size_t window, bool writes) {
     simdjson::dom::parser parser;
     simdjson::dom::document_stream values;
-    simdjson::padded_string padded(text);
-    // the greatest value has to fit the window
-    if (auto error = parser.parse_many(padded, padded.size()).get(values)) {
+    auto error = parser.parse_many(text, window).get(values);
+    std::size_t count = 0;
+    if (!error) {
+        for (auto value : values) {
+            error = value.error();
+            if (error) {
+                break;
+            }
+            if (writes) {
+                std::cout << simdjson::minify(value.value()) << '\n';
+            }
+            count += 1;
+        }
+    }
+    if (error == simdjson::CAPACITY && count == 0) {
+        return std::nullopt;
+    }
+    if (error) {
         std::cerr << error << "\n";
         std::exit(1);
     }
-    std::size_t count = 0;
-    for (auto value : values) {
-        if (value.error()) {
-            std::cerr << value.error() << "\n";
-            std::exit(1);
-        }
-        if (writes) {
-            std::cout << simdjson::minify(value.value()) << '\n';
-        }
-        count += 1;
-    }
     return count;
+}
+
+static std::size_t by_simdjson(const char* path, bool writes) {
+    simdjson::padded_string text;
+    if (auto error = simdjson::padded_string::load(path).get(text)) {
+        std::cerr << error << "\n";
+        std::exit(1);
+    }
+    const auto usual = within(text, simdjson::dom::DEFAULT_BATCH_SIZE, writes);
+    return usual ? *usual : within(text, text.size(), writes).value();
 }
 
 int main(int count, char** words) {
@@ -96,10 +112,9 @@ int main(int count, char** words) {
         return 3;
     }
     std::ios::sync_with_stdio(false);
-    const std::string text = octets_of(words[3]);
     const bool writes = std::strcmp(words[2], "write") == 0;
     const bool is_simd = std::strcmp(words[1], "simdjson") == 0;
-    const std::size_t values = is_simd ? by_simdjson(text, writes) : by_rapidjson(text, writes);
+    const std::size_t values = is_simd ? by_simdjson(words[3], writes) : by_rapidjson(words[3], writes);
     if (!writes) {
         std::cout << "accepted " << values << "\n";
     }
