@@ -1,10 +1,11 @@
 #!/usr/bin/env python3
-"""Times a built ion_cmd on documents that are made to cost much: hostile.py PROGRAM [PART [CASE..]].
+"""Times a built ion_cmd on documents that are made to cost much: hostile.py PROGRAM [PART [CASE..]]; hostile.py LIBRARY.so [PART].
 
 Each case is measured at a quarter, a half and the whole of its size: processor time, and the peak of memory, also as a multiple of
 the octets read. A cost that grows with the octets doubles from column to column; one that grows with their square takes four times
 as long. PART (usually 1) is a factor on all sizes. A run is stopped after 120 seconds, and has no more memory than the limit that
-is printed (as by `ulimit -v`). The octets are the same at each call.
+is printed (as by `ulimit -v`). The octets are the same at each call. Of a shared library (`bindings/build.sh`) the colliding symbols are
+converted in process, by the Python package, which draws a seed; the interpreter's own time and memory are part of it.
 """
 import os
 import random
@@ -372,7 +373,7 @@ def written(document, size, path):
 
 def measured(program, words, folder, limit):
     """The processor time and the peak of memory of a run, and how it ended where that isn't well."""
-    words = [os.path.join(folder, word) if word in "AB" else word for word in words.split()]
+    words = [os.path.join(folder, word) if word in "AB" else word for word in words]
 
     def limited():
         resource.setrlimit(resource.RLIMIT_AS, (limit, limit))
@@ -389,11 +390,24 @@ def measured(program, words, folder, limit):
     return used.ru_utime + used.ru_stime, used.ru_maxrss * 1024, told
 
 
+IN_PROCESS = "import pathlib, sys, pureefjord; pureefjord.to_binary(pathlib.Path(sys.argv[1]), item=1 << 30)"
+
+
+def cases(program):
+    """Those of the program; of a library, the one whose time rests on a seed, and with which words it is run."""
+    if not program.endswith(".so"):
+        return CASES, program, lambda words: words.split()
+    os.environ["PUREEFJORD_LIBRARY"] = program
+    os.environ["PYTHONPATH"] = os.path.join(os.path.dirname(os.path.abspath(__file__)), "..", "bindings", "python")
+    in_process = ("colliding symbols, to binary in process", "A", [colliding], MILLION, LARGE)
+    return [in_process], sys.executable, lambda words: ["-c", IN_PROCESS, *words.split()]
+
+
 def main():
-    program = os.path.abspath(sys.argv[1])
     part = float(sys.argv[2]) if len(sys.argv) > 2 else 1
     wanted = sys.argv[3:]
-    for name, words, documents, size, limit in CASES:
+    tried, program, said = cases(os.path.abspath(sys.argv[1]))
+    for name, words, documents, size, limit in tried:
         if wanted and name not in wanted:
             continue
         columns = []
@@ -402,7 +416,7 @@ def main():
                 octets = 0
                 for letter, document in zip("AB", documents):
                     octets += written(document, int(size * part / share), os.path.join(folder, letter))
-                seconds, peak, told = measured(program, words, folder, limit)
+                seconds, peak, told = measured(program, said(words), folder, limit)
                 columns.append(f"{octets / 1e6:7.1f} MB {seconds:7.2f} s {peak / MIB:7.1f} MiB {peak / octets:6.1f}x" + (f" {told}" if told else ""))
         print(f"{name} (below {limit / MIB:.0f} MiB): " + " | ".join(columns), flush=True)
 

@@ -1,5 +1,5 @@
 /* Microseconds of each call in process on tiny documents: in_process [COUNT], usually 100000. Built as docs/BINDINGS.md says:
- * cc -O2 -Ibindings bench/in_process.c bindings/out/libpureefjord.a -o in_process */
+ * cc -O2 -Ibindings bench/in_process.c bindings/out/lib/libpureefjord.a -o in_process */
 #include "pureefjord.h"
 #include <stdio.h>
 #include <stdlib.h>

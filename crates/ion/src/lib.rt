@@ -8,8 +8,9 @@ mod documents;
 pub use documents::values;
 pub use ion_binary::BinaryWriter;
 pub use ion_docs::{
-    DocReader, PathText, Side, Target, Verdict, check, compare, convert, convert_with_hasher,
-    in_memory, laws, load_catalog, path_text, read_all, read_document, show, spelling_of_path,
+    DocReader, InMemory, PathText, Side, Target, Verdict, check, compare, convert,
+    convert_with_hasher, in_memory, laws, load_catalog, path_text, read_all, read_document, show,
+    spelling_of_path,
 };
 pub use ion_lines::{Position, position_of};
 pub use ion_model::{

@@ -9,8 +9,8 @@ use crate::value::{Field, Payload, Value};
 use ion_atoms::{Decimal, Reason, Timestamp, Whole};
 use std::alloc::Global;
 
-/// What a value holds. Each call answers `None` where the value is of another kind, or a null; none
-/// takes memory but `fields_named` (Ion 1.0, "The Ion Data Model").
+/// What a value holds. Each call answers `None`, and `fields_named` no values, where the value is of
+/// another kind, or a null; none takes memory but `fields_named` (Ion 1.0, "The Ion Data Model").
 impl Value {
     /// The bool.
     pub fn as_bool(&self) -> Option<bool>

@@ -20,7 +20,7 @@ pub fn symbol_of(recent: &mut RecentSymbols, text: Option<&str>) -> Result<Symbo
     }
 }
 
-/// The value of such a part.
+/// The value of such a part, whose octets are copied. The only refusal is `Memory`.
 pub fn payload_of(
     alloc: Global,
     recent: &mut RecentSymbols,
