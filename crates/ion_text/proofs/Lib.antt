@@ -30,7 +30,15 @@ pub mod Alikes
 pub mod Reordered
 pub mod Visited
 mod Transcribed
+mod TextTold
 pub mod Built
 mod Wrote
 pub mod Calls
 pub mod QuotedRuns
+pub mod Filters
+pub mod Holding
+pub mod Taking
+pub mod Ended
+pub mod Opened
+pub mod Strides
+pub mod LastTokens

@@ -399,7 +399,7 @@ module _ (g : Catalog) (l : Limits) (start : ℕ) (c : List Slot) (ss : Symbols)
         (segment_joined g l r old end refl (omega arith) before octets f.kept n found f.more f.says (omega arith)))
 
 -- behind a long string in an open container the octet shows that it is whole
-settled_on : (g : Catalog) (l : Limits) (start : ℕ) (c : List Slot) (ss : Symbols) (fs : List Frame) (p : Place) (before : Rest) (octets : List ℕ)
+pub settled_on : (g : Catalog) (l : Limits) (start : ℕ) (c : List Slot) (ss : Symbols) (fs : List Frame) (p : Place) (before : Rest) (octets : List ℕ)
     (count : ℕ) (after : Rest) (text : List ℕ) (x : LongThere p before octets count after text) → is_top fs ≡ false → place_in fs nows.Ready ≡ p
     → before.used + length octets ≤ l.item + start → (end : ℕ) (q : Reading)
     → ended (under g l) (spot_at end start c) fs (annotated ss (payloads.Str text)) ≡ goes q

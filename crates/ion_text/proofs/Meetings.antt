@@ -1,6 +1,7 @@
 -- What the scanner answers, and what comes of the octets.
-use Rattle.std.proofs.Common.{◌≡◌, ℕ, ◌+◌, true, false, Option, Some, None, Result, Ok, Err, refl, sym, ap, ◌∙◌, subst, arith}
+use Rattle.std.proofs.Common.{◌≡◌, ◌≢◌, ℕ, ◌+◌, true, false, Option, Some, None, Result, Ok, Err, refl, sym, ap, ◌∙◌, subst, arith}
 use Rattle.ion_atoms.specs.declared.refusal.Reason.{Reason}
+use Rattle.ion_atoms.specs.declared.refusal.Reason.TheVariants.{Memory}
 use Rattle.ion_atoms.specs.declared.refusal.Refusal.{Refusal}
 use Rattle.ion_model.specs.declared.value.Value.{Value}
 use Rattle.ion_symtab.specs.declared.limits.Limits.{Limits}
@@ -44,14 +45,14 @@ token_so x t h =
     ∙ ap (λ n. record { start = t.start; end = n; said = content t.body }) (sym h.end)
 
 module _ (g : Catalog) (l : Limits) (r : Reading) where
-  on_given : (again : State → Effect) (x : Lexeme) (t : Found) (s now : Known) → now ≡ s → IsToken x t → on_scan g l again r (Given x s)
+  pub on_given : (again : State → Effect) (x : Lexeme) (t : Found) (s now : Known) → now ≡ s → IsToken x t → on_scan g l again r (Given x s)
       ≡ behind_given l now (turn g l r (token_in t))
   on_given again x t s now e h =
       ap (λ y. on_said y (λ c. behind_given l s (turn g l r (token_of x c)))) (said_so x t h)
       ∙ (ap (λ k. behind_given l s (turn g l r k)) (token_so x t h)
       ∙ ap (λ k. behind_given l k (turn g l r (token_in t))) (sym e))
 
-  on_left : (again : State → Effect) (x : Lexeme) (t : Found) (s now : Known) → now ≡ s → IsToken x t → on_scan g l again r (Left x s)
+  pub on_left : (again : State → Effect) (x : Lexeme) (t : Found) (s now : Known) → now ≡ s → IsToken x t → on_scan g l again r (Left x s)
       ≡ behind_left again now (turn g l r (token_in t))
   on_left again x t s now e h =
       ap (λ y. on_said y (λ c. behind_left again s (turn g l r (token_of x c)))) (said_so x t h)
@@ -62,25 +63,34 @@ module _ (g : Catalog) (l : Limits) (r : Reading) where
       ≡ fails e
   refused_said again x e f h = ap (λ y. on_said y f) h
 
+  -- what came of octets is refused for this, behind those that decided; unless memory ran out
+  abbrev pub IsRefused : Outcome → Refusal → Type 0
+  IsRefused x refusal = refusal.reason ≢ Memory → (refusal.offset ≡ decided x)
+      × ((again : State → Effect) → on_scan g l again r x ≡ fails refusal.reason)
+
   -- the scanner refused
-  pub refused_meets : (before : ℕ) (x : Outcome) (refusal : Refusal) (now : Known) (new : TextReader) → Answers before x (Err refusal) now
-      → MeetsWith g l r x (Err refusal) new
-  refused_meets before (Next s) refusal now new a = λ other. absurd (a other)
-  refused_meets before (Given x s) refusal now new a = λ other.
+  pub scan_refused : (before : ℕ) (x : Outcome) (refusal : Refusal) (now : Known) → Answers before x (Err refusal) now → IsRefused x refusal
+  scan_refused before (Next s) refusal now a = λ other. absurd (a other)
+  scan_refused before (Given x s) refusal now a = λ other.
       let b = a other in (
         b.offset,
         λ again. refused_said again x refusal.reason (λ c. behind_given l s (turn g l r (token_of x c)))
             (one_body x.kind x.octets (said x.kind x.octets) (Err refusal.reason) (says x.kind x.octets) b.says),
       )
-  refused_meets before (Left x s) refusal now new a = λ other.
+  scan_refused before (Left x s) refusal now a = λ other.
       let b = a other in (
         b.offset,
         λ again. refused_said again x refusal.reason (λ c. behind_left again s (turn g l r (token_of x c)))
             (one_body x.kind x.octets (said x.kind x.octets) (Err refusal.reason) (says x.kind x.octets) b.says),
       )
-  refused_meets before (Refused n e) refusal now new a = λ other.
+  scan_refused before (Refused n e) refusal now a = λ other.
       let b = a other in
       (ap (λ (q : Refusal). q.offset) b, λ again. ap (λ (q : Refusal). fails q.reason) (sym b))
+
+  -- so is the reader's
+  pub refused_meets : (before : ℕ) (x : Outcome) (refusal : Refusal) (now : Known) (new : TextReader) → Answers before x (Err refusal) now
+      → MeetsWith g l r x (Err refusal) new
+  refused_meets before x refusal now new a = scan_refused before x refusal now a
 
   -- what the scanner answered, where it gave no token
   pub record NoToken (x : Outcome) (now : Known) : Type 0 where
@@ -104,34 +114,39 @@ module _ (g : Catalog) (l : Limits) (r : Reading) where
       }
 
   -- where the scanner gave no token and the reader has a reason to refuse, this is answered
-  pub next_refused : (before : ℕ) (x : Outcome) (scan : Stepped) (now : Known) (refusal : Refusal) (reason : Reason) (new : TextReader)
+  pub blank_refused : (before : ℕ) (x : Outcome) (scan : Stepped) (now : Known) (refusal : Refusal) (reason : Reason)
       → Answers before x (Ok scan) now → scan.token ≡ None → noticed l r now ≡ fails reason
-      → refusal ≡ record { offset = now.used + 0; reason = reason } → MeetsWith g l r x (Err refusal) new
-  next_refused before x scan now refusal reason new a e did same =
+      → refusal ≡ record { offset = now.used + 0; reason = reason } → IsRefused x refusal
+  blank_refused before x scan now refusal reason a e did same =
       let h = (no_token before x scan now a e).is in
       let at = ap (λ (q : Refusal). q.offset) same in
       let here : refusal.offset ≡ now.used = omega arith in
       λ other. (here ∙ sym (ap decided h), λ again. ap (λ y. on_scan g l again r y) h ∙ (did ∙ ap (λ (q : Refusal). fails q.reason) (sym same)))
 
+  pub next_refused : (before : ℕ) (x : Outcome) (scan : Stepped) (now : Known) (refusal : Refusal) (reason : Reason) (new : TextReader)
+      → Answers before x (Ok scan) now → scan.token ≡ None → noticed l r now ≡ fails reason
+      → refusal ≡ record { offset = now.used + 0; reason = reason } → MeetsWith g l r x (Err refusal) new
+  next_refused before x scan now refusal reason new a e did same = blank_refused before x scan now refusal reason a e did same
+
   -- what it answered, where it gave one
-  record GivenToken (x : Outcome) (t : Found) (now : Known) : Type 0 where
-    lexeme : Lexeme
-    is : x ≡ Given lexeme now
-    token : IsToken lexeme t
+  pub record GivenToken (x : Outcome) (t : Found) (now : Known) : Type 0 where
+    pub lexeme : Lexeme
+    pub is : x ≡ Given lexeme now
+    pub token : IsToken lexeme t
 
-  record LeftToken (x : Outcome) (t : Found) (now : Known) : Type 0 where
-    lexeme : Lexeme
-    is : x ≡ Left lexeme now
-    token : IsToken lexeme t
+  pub record LeftToken (x : Outcome) (t : Found) (now : Known) : Type 0 where
+    pub lexeme : Lexeme
+    pub is : x ≡ Left lexeme now
+    pub token : IsToken lexeme t
 
-  given_token : (before : ℕ) (x : Outcome) (scan : Stepped) (t : Found) (now : Known) → Answers before x (Ok scan) now → scan.token ≡ Some t → scan.left ≡ false
+  pub given_token : (before : ℕ) (x : Outcome) (scan : Stepped) (t : Found) (now : Known) → Answers before x (Ok scan) now → scan.token ≡ Some t → scan.left ≡ false
       → GivenToken x t now
   given_token before (Next s) scan t now a e f = let n = a.1 in absurd cc
   given_token before (Given x s) scan t now a e f = record { lexeme = x; is = ap (λ k. Given x k) (sym a.0.known); token = subst (λ o. GivesToken x o) e a.1 }
   given_token before (Left x s) scan t now a e f = let n = a.2 in absurd cc
   given_token before (Refused n y) scan t now a e f = absurd a
 
-  left_token : (before : ℕ) (x : Outcome) (scan : Stepped) (t : Found) (now : Known) → Answers before x (Ok scan) now → scan.token ≡ Some t → scan.left ≡ true
+  pub left_token : (before : ℕ) (x : Outcome) (scan : Stepped) (t : Found) (now : Known) → Answers before x (Ok scan) now → scan.token ≡ Some t → scan.left ≡ true
       → LeftToken x t now
   left_token before (Next s) scan t now a e f = let n = a.1 in absurd cc
   left_token before (Given x s) scan t now a e f = let n = a.2 in absurd cc
@@ -152,11 +167,11 @@ module _ (g : Catalog) (l : Limits) (r : Reading) where
       }
 
   -- where the token that the last octet ended is refused, this is answered at that octet
-  pub given_refused : (before : ℕ) (x : Outcome) (scan : Stepped) (t : Found) (now : Known) (refusal : Refusal) (reason : Reason) (used : ℕ) (new : TextReader)
+  pub ended_refused : (before : ℕ) (x : Outcome) (scan : Stepped) (t : Found) (now : Known) (refusal : Refusal) (reason : Reason) (used : ℕ)
       → Answers before x (Ok scan) now → scan.token ≡ Some t → scan.left ≡ false
-      → DidMeet (λ _. behind_given l now (turn g l r (token_in t))) (Err reason) new → used ≡ now.used → refusal ≡ record { offset = used + 0; reason = reason }
-      → MeetsWith g l r x (Err refusal) new
-  given_refused before x scan t now refusal reason used new a e f did at same =
+      → (reason ≢ Memory → (again : State → Effect) → behind_given l now (turn g l r (token_in t)) ≡ fails reason) → used ≡ now.used → refusal ≡ record { offset = used + 0; reason = reason }
+      → IsRefused x refusal
+  ended_refused before x scan t now refusal reason used a e f did at same =
       let h = given_token before x scan t now a e f in
       let offset = ap (λ (q : Refusal). q.offset) same in
       let here : refusal.offset ≡ now.used = omega arith in
@@ -166,6 +181,12 @@ module _ (g : Catalog) (l : Limits) (r : Reading) where
         λ again. ap (λ y. on_scan g l again r y) h.is
             ∙ (on_given again h.lexeme t now now refl h.token ∙ (did (λ m. other (cause ∙ m)) again ∙ ap fails (sym cause))),
       )
+
+  pub given_refused : (before : ℕ) (x : Outcome) (scan : Stepped) (t : Found) (now : Known) (refusal : Refusal) (reason : Reason) (used : ℕ) (new : TextReader)
+      → Answers before x (Ok scan) now → scan.token ≡ Some t → scan.left ≡ false
+      → DidMeet (λ _. behind_given l now (turn g l r (token_in t))) (Err reason) new → used ≡ now.used → refusal ≡ record { offset = used + 0; reason = reason }
+      → MeetsWith g l r x (Err refusal) new
+  given_refused before x scan t now refusal reason used new a e f did at same = ended_refused before x scan t now refusal reason used a e f did at same
 
   -- where the last octet showed the end of a token, what the method did with it is what came of the octets
   pub left_meets : (before : ℕ) (x : Outcome) (scan : Stepped) (t : Found) (now : Known) (m : Met) (new : TextReader) → Answers before x (Ok scan) now
@@ -182,11 +203,11 @@ module _ (g : Catalog) (l : Limits) (r : Reading) where
       }
 
   -- where the token before the last octet is refused, this is answered at the octet that showed its end
-  pub left_refused : (before : ℕ) (x : Outcome) (scan : Stepped) (t : Found) (now : Known) (refusal : Refusal) (reason : Reason) (used : ℕ) (new : TextReader)
+  pub before_refused : (before : ℕ) (x : Outcome) (scan : Stepped) (t : Found) (now : Known) (refusal : Refusal) (reason : Reason) (used : ℕ)
       → Answers before x (Ok scan) now → scan.token ≡ Some t → scan.left ≡ true
-      → DidMeet (λ again. behind_left again now (turn g l r (token_in t))) (Err reason) new → used ≡ now.used
-      → refusal ≡ record { offset = used + 1; reason = reason } → MeetsWith g l r x (Err refusal) new
-  left_refused before x scan t now refusal reason used new a e f did at same =
+      → (reason ≢ Memory → (again : State → Effect) → behind_left again now (turn g l r (token_in t)) ≡ fails reason) → used ≡ now.used
+      → refusal ≡ record { offset = used + 1; reason = reason } → IsRefused x refusal
+  before_refused before x scan t now refusal reason used a e f did at same =
       let h = left_token before x scan t now a e f in
       let offset = ap (λ (q : Refusal). q.offset) same in
       let here : refusal.offset ≡ now.used + 1 = omega arith in
@@ -196,3 +217,9 @@ module _ (g : Catalog) (l : Limits) (r : Reading) where
         λ again. ap (λ y. on_scan g l again r y) h.is
             ∙ (on_left again h.lexeme t now now refl h.token ∙ (did (λ m. other (cause ∙ m)) again ∙ ap fails (sym cause))),
       )
+
+  pub left_refused : (before : ℕ) (x : Outcome) (scan : Stepped) (t : Found) (now : Known) (refusal : Refusal) (reason : Reason) (used : ℕ) (new : TextReader)
+      → Answers before x (Ok scan) now → scan.token ≡ Some t → scan.left ≡ true
+      → DidMeet (λ again. behind_left again now (turn g l r (token_in t))) (Err reason) new → used ≡ now.used
+      → refusal ≡ record { offset = used + 1; reason = reason } → MeetsWith g l r x (Err refusal) new
+  left_refused before x scan t now refusal reason used new a e f did at same = before_refused before x scan t now refusal reason used a e f did at same

@@ -176,7 +176,7 @@ inner f [] more = absurd (omega (arith, more))
 inner f (x ∷ fs) more = refl
 
 -- what stands around it goes on
-close_stays : (setting : Setting) (spot : Spot) (q : Reading) (bracket : Bracket) (fs : List Frame) → 1 < length fs → closed bracket setting spot fs ≡ goes q
+pub close_stays : (setting : Setting) (spot : Spot) (q : Reading) (bracket : Bracket) (fs : List Frame) → 1 < length fs → closed bracket setting spot fs ≡ goes q
     → StaysIn spot.start q
 close_stays setting spot q bracket fs = by bracket fs (closes_or_not bracket fs)
   where

@@ -31,7 +31,7 @@ take_same e f (Ok taken.Leaves) r h d = told_same e f leaves r.given (state_of r
 take_same e f (Err reason) r h d = λ other. h ∙ d other
 
 -- memory that runs out answers for every other reason
-least : (e : Reason) → lesser e reasons.Memory ≡ reasons.Memory
+pub least : (e : Reason) → lesser e reasons.Memory ≡ reasons.Memory
 least reasons.Memory = refl
 least reasons.Incomplete = refl
 least reasons.TooLarge = refl
@@ -133,14 +133,14 @@ module _ (g : Catalog) (l : Limits) (o : ℕ) where
       ∙ ap (on_settled g l again m.scan x) e
 
 -- what is done by a reader of the same setting
-same_scan : (g h : Catalog) (l k : Limits) (n : ℕ) (o : ℕ) (p : Place) (s t : Known) (r : Reading) → h ≡ g → k ≡ l → t ≡ s →
+pub same_scan : (g h : Catalog) (l k : Limits) (n : ℕ) (o : ℕ) (p : Place) (s t : Known) (r : Reading) → h ≡ g → k ≡ l → t ≡ s →
     on_scan g l (λ m. takes g l n m o) r (feed p s o) ≡ on_scan h k (λ m. takes h k n m o) r (feed p t o)
 same_scan g h l k n o p s t r e f i =
     ap (λ x. on_scan x l (λ m. takes x l n m o) r (feed p s o)) (sym e)
     ∙ (ap (λ x. on_scan h x (λ m. takes h x n m o) r (feed p s o)) (sym f)
     ∙ ap (λ x. on_scan h k (λ m. takes h k n m o) r (feed p x o)) (sym i))
 
-same_takes : (g h : Catalog) (l k : Limits) (n : ℕ) (o : ℕ) (m : State) → h ≡ g → k ≡ l → takes g l n m o ≡ takes h k n m o
+pub same_takes : (g h : Catalog) (l k : Limits) (n : ℕ) (o : ℕ) (m : State) → h ≡ g → k ≡ l → takes g l n m o ≡ takes h k n m o
 same_takes g h l k n o m e f = ap (λ x. takes x l n m o) (sym e) ∙ ap (λ x. takes h x n m o) (sym f)
 
 module _ (g : Catalog) (l : Limits) (n o : ℕ) where
@@ -191,13 +191,18 @@ module _ (g : Catalog) (l : Limits) (n o : ℕ) where
 
   module _ (m : State) (p : Place) (here : p ≡ place m.reading) (some : 0 < n) where
     -- what waits goes on
+    pub goes_on_takes : unsettled m.scan m.reading (feed p m.scan o) ≡ true
+        → takes g l n m o ≡ on_scan g l (λ k. takes g l (n - 1) k o) m.reading (feed p m.scan o)
+    goes_on_takes w =
+        takes_more g l o n m some
+        ∙ (ap (λ q. on_octet g l (λ k. takes g l (n - 1) k o) m (feed q m.scan o)) (sym here)
+        ∙ octet_goes_on g l o (λ k. takes g l (n - 1) k o) m (feed p m.scan o) w)
+
+    -- so does the reader
     pub goes_on_did : (result : Result Taken Reason) (new : TextReader) → unsettled m.scan m.reading (feed p m.scan o) ≡ true
         → DidTake (on_scan g l (λ k. takes g l (n - 1) k o) m.reading (feed p m.scan o)) result new → DidTake (takes g l n m o) result new
     goes_on_did result new w d =
-        take_same (takes g l n m o) (on_scan g l (λ k. takes g l (n - 1) k o) m.reading (feed p m.scan o)) result new
-        (takes_more g l o n m some
-        ∙ (ap (λ q. on_octet g l (λ k. takes g l (n - 1) k o) m (feed q m.scan o)) (sym here)
-        ∙ octet_goes_on g l o (λ k. takes g l (n - 1) k o) m (feed p m.scan o) w)) d
+        take_same (takes g l n m o) (on_scan g l (λ k. takes g l (n - 1) k o) m.reading (feed p m.scan o)) result new (goes_on_takes w) d
 
     -- it is settled
     pub settles : (t : Turn) → unsettled m.scan m.reading (feed p m.scan o) ≡ false → settle g l m.reading ≡ t

@@ -178,7 +178,7 @@ module _ (g : Catalog) (l : Limits) (start : ℕ) (c : List Slot) (ss : Symbols)
   abbrev behind_open : Rest → Bracket → Reading
   behind_open rest bracket = at (begin rest.used) c (opened bracket ss ∷ []) [] (first_now bracket)
 
-  top_open : (rest : Rest) (octets : List ℕ) (bracket : Bracket) → 0 < l.depth → 1 < length octets → OpensAt octets bracket
+  pub top_open : (rest : Rest) (octets : List ℕ) (bracket : Bracket) → 0 < l.depth → 1 < length octets → OpensAt octets bracket
       → rest.used + length octets ≤ l.item + begin rest.used
       → Passes g l (rested rest start c [] ss nows.Ready) octets 1
       (rested (past_token places.Top rest (kinds.Mark (open_mark bracket)) 1) (begin rest.used) c (opened bracket ss ∷ []) [] (first_now bracket))
@@ -308,7 +308,7 @@ noted_notices l start c ss x s idle few =
     reach (y ∷ ss) = ap (λ b. longest_top start s.used nows.Ready (y ∷ (ss ++ x ∷ [])) b (is_long_begun b)) none
 
 -- a blank, wherever a value may come
-any_blank : (g : Catalog) (l : Limits) (start : ℕ) (c : List Slot) (fs : List Frame) (ss : Symbols) (rest behind : Rest) (piece : List ℕ) (n : ℕ)
+pub any_blank : (g : Catalog) (l : Limits) (start : ℕ) (c : List Slot) (fs : List Frame) (ss : Symbols) (rest behind : Rest) (piece : List ℕ) (n : ℕ)
     → rest.used + n ≤ l.item + begun_at start rest.used fs ss → RestsBehind piece n rest behind
     → Passes g l (rested rest start c fs ss nows.Ready) piece n (rested behind start c fs ss nows.Ready)
 any_blank g l start c [] ss rest behind piece n room h = top_blank g l start c ss rest behind piece n room h
@@ -320,7 +320,7 @@ any_blank g l start c (f ∷ fs) ss rest behind piece n room h =
 -- an annotation, wherever a value may come
 module _ (octets : List ℕ) (token : FoundToken) (f : FoundNote octets token) (m : ℕ) (within : token.count + m + 2 < length octets)
     (passed : IsPassed (drop token.count octets) m) (one : get_or octets (token.count + m) 0 ≡ 58) (two : get_or octets (token.count + m + 1) 0 ≡ 58) where
-  note_leads : (g : Catalog) (l : Limits) (start : ℕ) (c : List Slot) (fs : List Frame) (ss : Symbols) (rest : Rest)
+  pub note_leads : (g : Catalog) (l : Limits) (start : ℕ) (c : List Slot) (fs : List Frame) (ss : Symbols) (rest : Rest)
       → rest.used + length octets ≤ l.item + begun_at start rest.used fs ss
       → Passes g l (rested rest start c fs ss nows.Ready) octets (token.count + m + 2)
       (rested (behind_note (place_in fs nows.Ready) rest token m) (begun_at start rest.used fs ss) c fs (ss ++ f.name ∷ []) nows.Ready)

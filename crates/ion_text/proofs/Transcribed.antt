@@ -6,6 +6,7 @@ use Rattle.std.proofs.lemmas.List.{flat_map_more, map-append}
 use Rattle.ion_model.specs.declared.value.Value.{Value}
 use Rattle.ion_model.specs.declared.value.Field.{Field}
 use Rattle.ion_model.specs.declared.value.Payload.{Payload}
+use Rattle.ion_model.specs.declared.value.Payload.TheVariants as payloads
 use Rattle.ion_model.specs.declared.value.Payload.TheViews as views
 use Rattle.ion_model.specs.Kept as kepts
 use Rattle.ion_model.specs.Kept.{AreTexts, IsKept, KeptPayload, KeptItems, KeptFields}
@@ -251,10 +252,15 @@ part_added a b p begun k e o before between = record {
   between = between;
 }
 
-number_level : (n : Number) → number_text n ≡ layer_text (views.out-Payload (number_payload n))
+-- the text of a number as a level
+pub number_level : (n : Number) → number_text n ≡ layer_text (views.out-Payload (number_payload n))
 number_level (numbers.Int z) = ap layer_text (sym (views.outs-Int z))
 number_level (numbers.Decimal d) = ap layer_text (sym (views.outs-Decimal d))
 number_level (numbers.Timestamp t) = ap layer_text (sym (views.outs-Timestamp t))
+
+-- the text of a symbol of unknown text as a level
+pub unknown_level : symbol_text None ≡ layer_text (views.out-Payload (payloads.Symbol None))
+unknown_level = ap layer_text (sym (views.outs-Symbol None))
 
 -- a number's text behind the front is a whole item that was added
 pub number_added : (a b : Transcription) (n : Number) (begun : List ℕ) → KeptPayload (number_payload n) → begun ≡ front a → b.out.items ≡ begun ++ number_text n

@@ -5,5 +5,6 @@ pub mod Calls
 pub mod Writing
 pub mod Carrying
 pub mod machine
+pub mod walk
 pub mod visiting
 pub mod laws

@@ -2,4 +2,5 @@
 pub mod Parts
 pub mod Walks
 pub mod Transcribing
+pub mod TextOut
 pub mod Building

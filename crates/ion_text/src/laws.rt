@@ -7,7 +7,7 @@ ghost use Rattle.ion_atoms.specs.declared.refusal.Reason.{Reason};
 ghost use Rattle.ion_atoms.specs.declared.refusal.Reason.TheVariants.{ItemTooLong};
 ghost use Rattle.ion_atoms.specs.Reasons.{reason_number};
 ghost use Rattle.ion_atoms.specs.declared.refusal.Refusal.{Refusal};
-ghost use Rattle.ion_model.specs.Kept.{AreKept};
+ghost use Rattle.ion_model.specs.Kept.{AreKept, IsKept};
 ghost use Rattle.ion_model.specs.Measures.{nodes};
 ghost use Rattle.ion_symtab.specs.declared.limits.Limits.{Limits};
 ghost use Rattle.ion_symtab.specs.Slots.{Slot};
@@ -25,6 +25,8 @@ ghost use Rattle.ion_text.specs.laws.writing.Rows.{worked};
 ghost use Rattle.ion_text.specs.Calls.{WritesEach};
 ghost use Rattle.ion_symtab.specs.Took.{Took};
 ghost use Rattle.ion_text.specs.machine.Run.{trace};
+ghost use Rattle.ion_text.specs.visiting.TextOut.{Writes, Written, lines, no_text, with_item};
+ghost use Rattle.ion_visiting.specs.Events.{Event, Led, events_of, stream_events};
 
 use ion_symtab::Outlet;
 
@@ -160,11 +162,11 @@ pub fn first_refused()
 /// shows it (`end`). Octets begin with such as the table names up to one octet at most, and for one
 /// reason (`one_octet`). That octet is refused for it, or for a reason with a smaller number that
 /// has no row here, unless an octet before it was refused since the item became too long
-/// (`refuses`). Where all are such as the end shows, it refuses for that reason, or one that has no
-/// row here refuses there or before (`ends`). The end shows one
-/// reason (`one_end`), and none where octets begin with such as the table names (`no_octet`). No
-/// document begins with octets of a row (`no_document`), and none is octets of which the end shows
-/// one (`none_ends`).
+/// (`refuses`). Where all are such as the end shows, it refuses for that very reason, with all
+/// octets counted, unless one of them was refused since the item became too long (`ends`). The end
+/// shows one reason (`one_end`), and none where octets begin with such as the table names
+/// (`no_octet`). No document begins with octets of a row (`no_document`), and none is octets of
+/// which the end shows one (`none_ends`).
 pub fn deciding()
     ensures octet { (g : List Table) (l : Limits) (u : List ℕ) (r : Refusal) →
         (trace g l u).refused ≡ Some r → HasRow r.reason → Decides g l (take r.offset u) r.reason }
@@ -182,7 +184,8 @@ pub fn deciding()
         × (HasRow r.reason → (r.offset ≡ k) × (r.reason ≡ e)) }
     ensures ends { (g : List Table) (l : Limits) (u : List ℕ) (e : Reason) →
         EndDecides g l u e → (r : Refusal) × ((trace g l u).ends ≡ Err r) ×
-        (HasRow r.reason → (r.offset ≡ length u) × (r.reason ≡ e)) }
+        (((r.offset ≡ length u) × (r.reason ≡ e))
+        ⊎ (((trace g l u).refused ≡ Some r) × (r.reason ≡ ItemTooLong))) }
     ensures one_end { (g : List Table) (l : Limits) (u : List ℕ) (e f : Reason) →
         EndDecides g l u e → EndDecides g l u f → e ≡ f }
     ensures no_octet { (g : List Table) (l : Limits) (u : List ℕ) (k : ℕ) (e f : Reason) →
@@ -213,4 +216,18 @@ pub fn wider_limits()
 pub fn written<W: Outlet>()
     ensures { (s : List Value) (old new : W) → WritesEach W.Outlet old s new →
         Took W.took W.written old new (text_of s) }
+{}
+
+/// What a visitor that writes text has written once it was told a value is the value's text, behind
+/// what it wrote before and what stands between items there; the types keep the value (`value`).
+/// Told values that ended, from nothing, it has written their document, all of it whole lines
+/// (`values`). While it is told one more, the lines are those of the values before (`begun`).
+pub fn text_told()
+    ensures value { (v : Value) (a b : Written) → Led Writes (events_of v) a b
+        → (b ≡ with_item a (value_text v)) × IsKept v }
+    ensures values { (s : List Value) (b : Written) → Led Writes (stream_events s) no_text b
+        → (b.octets ≡ text_of s) × (lines b ≡ text_of s) × AreKept s }
+    ensures begun { (s : List Value) (v : Value) (es more : List Event) (b : Written) →
+        events_of v ≡ es ++ more → Led Writes (stream_events s ++ es) no_text b
+        → lines b ≡ text_of s }
 {}

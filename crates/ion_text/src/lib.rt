@@ -10,8 +10,10 @@ mod scalar;
 mod spelled;
 mod spelling;
 mod state;
+mod text_out;
 mod transcription;
 mod visitor;
+mod walk;
 mod words;
 mod writer;
 
@@ -19,4 +21,5 @@ pub use display::{SymbolText, spelling_of};
 pub use reader::TextReader;
 pub use scalar::symbol_text;
 pub use spelled::text_of;
+pub use text_out::TextOut;
 pub use writer::TextWriter;

@@ -166,7 +166,7 @@ pub(crate) fn transcribe_visited<V: Visitable>(
 }
 
 /// What opens a list, an s-expression or a struct.
-fn open_octet(bracket: Bracket) -> u8
+pub(crate) fn open_octet(bracket: Bracket) -> u8
     ensures { result ≡ open_octet bracket }
 {
     match bracket {
@@ -177,7 +177,7 @@ fn open_octet(bracket: Bracket) -> u8
 }
 
 /// What closes it.
-fn bracket_close(bracket: Bracket) -> u8
+pub(crate) fn bracket_close(bracket: Bracket) -> u8
     ensures { result ≡ bracket_close bracket }
 {
     match bracket {
@@ -188,7 +188,7 @@ fn bracket_close(bracket: Bracket) -> u8
 }
 
 /// What stands between its items.
-fn octet_between(bracket: Bracket) -> u8
+pub(crate) fn octet_between(bracket: Bracket) -> u8
     ensures { result ≡ octet_between bracket }
 {
     match bracket {
@@ -198,7 +198,7 @@ fn octet_between(bracket: Bracket) -> u8
 }
 
 /// Appends a value of one token, which is no number.
-fn put_part(alloc: Global, said: &Part<'_>, out: &mut Vec<u8>) -> Result<(), Fault>
+pub(crate) fn put_part(alloc: Global, said: &Part<'_>, out: &mut Vec<u8>) -> Result<(), Fault>
     ensures ok { let level = out-Payload (payload_of said.now) in
         OnOk result (out.new.items ≡ out.old.items ++ layer_text level) }
     ensures kept { KeptPayload (payload_of said.now) }

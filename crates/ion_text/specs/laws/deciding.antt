@@ -10,7 +10,6 @@ pub mod Fronts
 pub mod Comings
 pub mod Tokens
 pub mod Waiting
-pub mod Ends
 pub mod Agree
 pub mod OneOctet
 pub mod Lines
@@ -19,4 +18,6 @@ pub mod Heading
 pub mod Reaching
 pub mod Finding
 pub mod Stopped
+pub mod LineEnds
+pub mod EndStopped
 pub mod Rows

@@ -34,11 +34,11 @@ impl Tally {
 
 /// An annotation at the front of octets, behind which `::` stands.
 #[derive(Clone, Copy)]
-pub(super) struct Note<'a> {
-    token: FoundToken,
+pub(crate) struct Note<'a> {
+    pub token: FoundToken,
     pub text: &'a str,
     /// How many octets of a blank stand before the `::`.
-    between: usize,
+    pub between: usize,
 }
 
 // The word there, if it is an annotation where `::` follows. One that begins with `$` may be a
@@ -93,7 +93,7 @@ fn symbol_note(octets: &[u8]) -> Option<(FoundToken, &str)>
 }
 
 /// The annotation there.
-pub(super) fn note_at(octets: &[u8]) -> Option<Note<'_>>
+pub(crate) fn note_at(octets: &[u8]) -> Option<Note<'_>>
     ensures { IfSome result (λ note. NoteThere octets.now note) }
 {
     let (token, text) = symbol_note(octets)?;

@@ -24,7 +24,7 @@ use ion_visiting::Part;
 
 /// A token that is a value without others in it.
 #[derive(Clone, Copy)]
-pub(super) struct Scalar {
+pub(crate) struct Scalar {
     pub token: FoundToken,
     pub kind: Kind,
     /// Whether it would be an annotation if `::` followed.
@@ -124,7 +124,7 @@ fn null_at(octets: &[u8]) -> Option<(Scalar, Part<'_>)>
 }
 
 /// The short string there.
-pub(super) fn string_at(octets: &[u8]) -> Option<(Scalar, Part<'_>)>
+pub(crate) fn string_at(octets: &[u8]) -> Option<(Scalar, Part<'_>)>
     ensures found { IfSome result (λ found. (here : Place) (rest : Rest) →
         FoundPart here rest octets.now found.0 (payload_of found.1)) }
     ensures waits { IfSome result (λ found. found.0.waits ≡ false) }
@@ -164,7 +164,7 @@ pub(super) fn number_kind(number: Number) -> Kind
 
 /// The number there, whose end the octet behind it shows.
 #[inline(always)]
-pub(super) fn number_at(octets: &[u8]) -> Option<(FoundToken, Number)>
+pub(crate) fn number_at(octets: &[u8]) -> Option<(FoundToken, Number)>
     ensures found { IfSome result (λ found. (here : Place) (rest : Rest) → is_name here ≡ false →
         FoundNumber here rest octets.now found.0 found.1) }
     ensures says { IfSome result (λ found. said TokenKind.Number (take found.0.count octets.now)
@@ -225,7 +225,7 @@ pub(super) fn lob_part(token: FoundToken, octets: &[u8]) -> Option<(Scalar, Part
 }
 
 /// The operator there, where an s-expression is open.
-pub(super) fn operator_at(here: Place, octets: &[u8]) -> Option<(Scalar, Part<'_>)>
+pub(crate) fn operator_at(here: Place, octets: &[u8]) -> Option<(Scalar, Part<'_>)>
     ensures found { IfSome result (λ found. (rest : Rest) →
         FoundPart here rest octets.now found.0 (payload_of found.1)) }
     ensures waits { IfSome result (λ found. found.0.waits ≡ false) }
@@ -254,7 +254,7 @@ pub(super) fn operator_at(here: Place, octets: &[u8]) -> Option<(Scalar, Part<'_
 }
 
 /// The word, the quoted symbol or the typed null there, as a value.
-pub(super) fn symbol_at(octets: &[u8]) -> Option<(Scalar, Part<'_>)>
+pub(crate) fn symbol_at(octets: &[u8]) -> Option<(Scalar, Part<'_>)>
     ensures { IfSome result (λ found. (here : Place) (rest : Rest) →
         FoundSymbol here rest octets.now found.0 (payload_of found.1)) }
 {
@@ -279,12 +279,12 @@ pub(super) fn plain_at(octets: &[u8]) -> Option<(Scalar, Part<'_>)>
 }
 
 /// Whether a number may begin there.
-pub(super) fn begins_number(octets: &[u8]) -> bool {
+pub(crate) fn begins_number(octets: &[u8]) -> bool {
     matches!(octets.first(), Some(b'-' | b'0'..=b'9'))
 }
 
 /// Whether a symbol may begin there that is an annotation if `::` follows.
-pub(super) fn begins_symbol(octets: &[u8]) -> bool {
+pub(crate) fn begins_symbol(octets: &[u8]) -> bool {
     matches!(octets.first(), Some(b'a'..=b'z' | b'A'..=b'Z' | b'_' | b'\''))
 }
 
@@ -324,7 +324,7 @@ fn word_name(octets: &[u8]) -> Option<(FoundToken, &str)>
 
 /// The field's name there, if it is a word or its characters stand as they are.
 #[inline(always)]
-pub(super) fn plain_name(octets: &[u8]) -> Option<(FoundToken, &str)>
+pub(crate) fn plain_name(octets: &[u8]) -> Option<(FoundToken, &str)>
     ensures { IfSome result (λ found. (here : Place) (rest : Rest) →
         BeginsName here rest octets.now found.0 (Some found.1.now)) }
 {

@@ -173,7 +173,7 @@ pub(super) fn join_segments(
 /// The long string of one segment there, if its characters stand as they are: how many octets it has
 /// with the blank behind it, where a scanner rests behind them, and what it says.
 #[inline(always)]
-pub(super) fn one_segment(here: Place, rest: Rest, octets: &[u8]) -> Option<(usize, Rest, &str)>
+pub(crate) fn one_segment(here: Place, rest: Rest, octets: &[u8]) -> Option<(usize, Rest, &str)>
     requires room { rest.used + length octets.now < 2 ^ 63 }
     ensures { IfSome result (λ found.
         LongThere here rest octets.now found.0 found.1 found.2.now) }

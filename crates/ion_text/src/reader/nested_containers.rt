@@ -17,7 +17,7 @@ use ion_tokens::{Mark, Place, Rest, TokenKind};
 use ion_visiting::Bracket;
 
 // What the front of octets opens. Behind `{` an octet shows that it begins no lob.
-pub(super) fn bracket_at(octets: &[u8]) -> Option<Bracket>
+pub(crate) fn bracket_at(octets: &[u8]) -> Option<Bracket>
     requires more { 1 < length octets.now }
     ensures { IfSome result (λ bracket. OpensAt octets.now bracket) }
 {
@@ -31,7 +31,7 @@ pub(super) fn bracket_at(octets: &[u8]) -> Option<Bracket>
 
 // The mark that opens such a container.
 #[inline]
-pub(super) fn open_mark(bracket: Bracket) -> Mark
+pub(crate) fn open_mark(bracket: Bracket) -> Mark
     ensures { result ≡ open_mark bracket }
 {
     match bracket {
@@ -43,7 +43,7 @@ pub(super) fn open_mark(bracket: Bracket) -> Mark
 
 // The mark that closes it.
 #[inline]
-pub(super) fn close_mark(bracket: Bracket) -> Mark
+pub(crate) fn close_mark(bracket: Bracket) -> Mark
     ensures { result ≡ close_mark bracket }
 {
     match bracket {

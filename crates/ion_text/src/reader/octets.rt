@@ -14,7 +14,7 @@ use ion_model::{Reason, Refusal};
 use ion_tokens::{Foresight, Form, Place, Scan, Token};
 
 /// The reason of the smaller number.
-fn lesser(first: Reason, second: Reason) -> Reason
+pub(crate) fn lesser(first: Reason, second: Reason) -> Reason
     ensures { result ≡ lesser first second }
 {
     if second.number() < first.number() {
@@ -25,14 +25,14 @@ fn lesser(first: Reason, second: Reason) -> Reason
 }
 
 /// Whether what is seen of an octet may go on a symbol.
-fn goes_on_symbol(foresight: Foresight) -> bool
+pub(crate) fn goes_on_symbol(foresight: Foresight) -> bool
     ensures { result ≡ goes_on_symbol foresight }
 {
     matches!(foresight, Foresight::Blank | Foresight::Colons)
 }
 
 /// Whether it may go on a long string, for whose segment `''` counts or not.
-fn goes_on_long(quotes: bool, foresight: Foresight) -> bool
+pub(crate) fn goes_on_long(quotes: bool, foresight: Foresight) -> bool
     ensures { result ≡ goes_on_long quotes foresight }
 {
     match foresight {
@@ -43,7 +43,7 @@ fn goes_on_long(quotes: bool, foresight: Foresight) -> bool
 }
 
 /// The reason for which an octet is refused that was refused already, and comes again.
-pub(super) fn worse(reason: Reason, again: Result<Taken, Reason>) -> Reason
+pub(crate) fn worse(reason: Reason, again: Result<Taken, Reason>) -> Reason
     ensures { result ≡ worse reason again }
 {
     match again {

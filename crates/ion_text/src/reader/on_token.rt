@@ -316,7 +316,7 @@ impl TextReader<'_> {
 }
 
 // One text behind the other, without a copy of the first.
-fn joined(text: Text, more: &Text) -> Result<Text, Reason>
+pub(crate) fn joined(text: Text, more: &Text) -> Result<Text, Reason>
     ensures { MatchResult result (λ t. t ≡ text ++ more.now) (λ r. r ≡ reasons.Memory) }
 {
     let mut all = text.into_string();

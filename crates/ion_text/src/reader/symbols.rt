@@ -25,7 +25,7 @@ pub(super) fn ends_symbol(octet: u8) -> bool
 
 // How many octets of a blank stand behind a symbol of so many, if the octet behind them shows that
 // no `::` follows.
-pub(super) fn behind_symbol(octets: &[u8], count: usize) -> Option<usize>
+pub(crate) fn behind_symbol(octets: &[u8], count: usize) -> Option<usize>
     ensures passed { IfSome result (λ between. IsPassed (drop count octets.now) between) }
     ensures within { IfSome result (λ between. count + between < length octets.now) }
     ensures ends { IfSome result (λ between.
@@ -44,7 +44,7 @@ pub(super) fn behind_symbol(octets: &[u8], count: usize) -> Option<usize>
 
 // How many octets of a blank stand behind a field's name of so many, if one colon alone stands
 // behind them.
-pub(super) fn behind_name(octets: &[u8], count: usize) -> Option<usize>
+pub(crate) fn behind_name(octets: &[u8], count: usize) -> Option<usize>
     ensures passed { IfSome result (λ between. IsPassed (drop count octets.now) between) }
     ensures within { IfSome result (λ between. count + between + 1 < length octets.now) }
     ensures colon { IfSome result (λ between. get_or octets.now (count + between) 0 ≡ 58) }
@@ -63,7 +63,7 @@ pub(super) fn behind_name(octets: &[u8], count: usize) -> Option<usize>
 
 // How many octets of a blank stand behind an annotation of so many, if `::` and one octet more
 // stand behind them.
-pub(super) fn behind_annotation(octets: &[u8], count: usize) -> Option<usize>
+pub(crate) fn behind_annotation(octets: &[u8], count: usize) -> Option<usize>
     ensures passed { IfSome result (λ between. IsPassed (drop count octets.now) between) }
     ensures within { IfSome result (λ between. count + between + 2 < length octets.now) }
     ensures one { IfSome result (λ between. get_or octets.now (count + between) 0 ≡ 58) }

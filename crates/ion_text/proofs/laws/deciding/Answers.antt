@@ -1,4 +1,5 @@
 use Rattle.ion_text.specs.laws.deciding.AtEnd.{end_deciding}
+use Rattle.ion_text.specs.laws.deciding.EndStopped.{end_refuses}
 use Rattle.ion_text.specs.laws.deciding.Octets as octets
 use Rattle.ion_text.specs.laws.deciding.OneEnd.{one_end, no_octet}
 use Rattle.ion_text.specs.laws.deciding.OneOctet.{one_octet}
@@ -11,9 +12,9 @@ returns c = record {
   end = end_deciding;
   one_octet = one_octet;
   refuses = rows.refuses;
-  ends = rows.end_refuses;
+  ends = end_refuses;
   one_end = one_end;
   no_octet = no_octet;
   no_document = rows.no_document;
-  none_ends = λ g l u e s d. rows.end_never g l u e d s;
+  none_ends = rows.none_ends;
 }

@@ -1,5 +1,6 @@
 -- The end shows one row of the table, and where it shows one no octet before does.
 use Rattle.std.proofs.Common.{◌≡◌, ℕ, false, List, [], ◌∷◌, ◌++◌, take, drop, sym, ap, ◌∙◌, subst, append_assoc, append-nil, arith, inl, inr, codes}
+use Rattle.std.proofs.lemmas.Bool.{or_left}
 use Rattle.std.proofs.lemmas.List.{length-append, take-append-drop}
 use Rattle.ion_atoms.specs.declared.refusal.Reason.{Reason}
 use Rattle.ion_atoms.specs.declared.refusal.Reason.TheVariants.{KeywordAsName}
@@ -9,35 +10,41 @@ use Rattle.ion_symtab.specs.Slots.{Slot}
 use Rattle.ion_tokens.specs.declared.mode.Mark.TheVariants as marks
 use Rattle.ion_tokens.specs.declared.mode.TokenKind.TheVariants as kinds
 use Rattle.ion_tokens.specs.Ascii.{line_feed}
-use Rattle.ion_tokens.specs.Bodies.{Content, Id}
+use Rattle.ion_tokens.specs.Bodies.{Content, Word, Id, TypedNull}
 use Rattle.ion_tokens.specs.Lexed.{Placed, BeginsLexed, LexesTo}
-use Rattle.ion_text.specs.Grammar.{BlankThen}
-use Rattle.ion_text.specs.Deciding.{Decides, EndDecides, Are, AwaitsColons, Comes, Container, InStruct, no_symbol, keyword_as_name, keyword_as_annotation, other_version, null_table, too_deep, struct_too_deep, bad_table}
+use Rattle.ion_text.specs.Grammar.{BlankThen, is_keyword, is_version}
+use Rattle.ion_text.specs.Deciding.{Decides, EndDecides, Are, AwaitsColons, Comes, Container, InStruct, IsKeyword, no_symbol, keyword_as_name, keyword_as_annotation, other_version, null_table, too_deep, struct_too_deep, bad_table}
 use Rattle.ion_text.specs.machine.TokenLists.{stopped, reads}
 use Rattle.ion_text.specs.laws.showing.tokens.Cuts.{parted}
 use Rattle.ion_text.specs.laws.showing.tokens.Once.{begins_lexed}
 use Rattle.ion_text.specs.laws.deciding.Agree.{agreed}
 use Rattle.ion_text.specs.laws.deciding.Fronts.{origin, Either, HasEnded}
 use Rattle.ion_text.specs.laws.deciding.Lines.{line, lexes_line}
-use Rattle.ion_text.specs.laws.deciding.OneOctet.{Seen, refused, unfollowed, seen, keyword_bare, bare_behind, left_same, colons_on, pends_beyond, pends_once, none_later, read_on, met}
-use Rattle.ion_text.specs.laws.deciding.Shows.{IsBare, BareSaid, said_bare}
+use Rattle.ion_text.specs.laws.deciding.OneOctet.{Seen, refused, unfollowed, seen, bare_behind, left_same, colons_on, pends_beyond, pends_once, none_later, read_on, met}
+use Rattle.ion_text.specs.laws.deciding.Shows.{IsBare, EndSaid, NoLetters, end_bare, no_letters, said_bare}
 use Rattle.ion_text.specs.laws.deciding.Tokens.{Stops, bare_plain, ended_by_rest, id_stops, keyword_stops}
 use Rattle.ion_text.specs.laws.deciding.Waiting.{Pends, pend, colons_next, colons_shown, version_pends, null_pends}
 
 -- the last token is a word that is refused, or waits for `::`, which doesn't follow
 pub data SeenEnd (g : Catalog) (l : Limits) (u : List ℕ) (e : Reason) : Type 0 where
-  by_word : (ts : List Placed) (t : Placed) → (s : Stops g l ts t e) → Are u (s.front ++ t ∷ []) [] → IsBare t.lexeme.kind → SeenEnd g l u e
+  by_word : (ts : List Placed) (t : Placed) → (s : Stops g l ts t e) → Are u (s.front ++ t ∷ []) [] → IsBare t.lexeme.kind → NoLetters t.lexeme
+      → SeenEnd g l u e
   by_waiting : (ts : List Placed) → Pends g l ts e → AwaitsColons u ts → SeenEnd g l u e
+
+keyword_ends : (said : Content) → IsKeyword said → EndSaid said
+keyword_ends (Word w) k = or_left (is_keyword w) (is_version w) k
+keyword_ends (TypedNull k) i = tt
+keyword_ends _ k = absurd k
 
 module _ (g : Catalog) (l : Limits) where
   word_seen : (u : List ℕ) (ts : List Placed) (c : List Slot) (ks : List Container) (said : Content) (e : Reason) → Are u ts [] → (h : Comes g l c ks said ts)
-      → BareSaid said → Stops g l ts h.token e → SeenEnd g l u e
-  word_seen u ts c ks said e are h bare s = by_word ts h.token s (subst (λ y. Are u y []) s.is are)
-      (said_bare h.token.lexeme.kind h.token.lexeme.octets said h.says.body bare)
+      → EndSaid said → Stops g l ts h.token e → SeenEnd g l u e
+  word_seen u ts c ks said e are h ends s = by_word ts h.token s (subst (λ y. Are u y []) s.is are)
+      (said_bare h.token.lexeme.kind h.token.lexeme.octets said h.says.body (end_bare said ends)) (no_letters h.token.lexeme said h.says.body ends)
 
   pub end_seen : (u : List ℕ) (e : Reason) → EndDecides g l u e → SeenEnd g l u e
   end_seen u _ (no_symbol ts c ks id e shown h fails) = word_seen u ts c ks (Id id) e shown h tt (id_stops g l ts c ks id e h fails)
-  end_seen u _ (keyword_as_name ts c ks said shown h k) = word_seen u ts c (InStruct ∷ ks) said KeywordAsName shown h (keyword_bare said k)
+  end_seen u _ (keyword_as_name ts c ks said shown h k) = word_seen u ts c (InStruct ∷ ks) said KeywordAsName shown h (keyword_ends said k)
       (keyword_stops g l ts c ks said h k)
   end_seen u _ (keyword_as_annotation ts colons c ks said shown h takes k says) = absurd shown
   end_seen u _ (other_version ts c w shown h none version other) = by_waiting ts (version_pends g l ts c w h none version other) shown
@@ -46,15 +53,20 @@ module _ (g : Catalog) (l : Limits) where
   end_seen u _ (struct_too_deep ts c ks shown h takes deep) = absurd shown
   end_seen u _ (bad_table ts c ss ms e shown h table fails) = absurd shown
 
-  -- a line's end shows the word
+  -- before a line's end the word has ended
+  pub word_ended : (u : List ℕ) (front : List Placed) (t : Placed) → Are u (front ++ t ∷ []) [] → IsBare t.lexeme.kind
+      → (Are (u ++ line) (front ++ t ∷ []) line) × HasEnded g l (u ++ line) t
+  word_ended u front t (c, i, a) bare =
+      let are : Are (u ++ line) (front ++ t ∷ []) line = (c, i, lexes_line (front ++ t ∷ []) false 0 u c i [] a) in
+      (are, ended_by_rest g l (u ++ line) front t line_feed [] (bare_plain t.lexeme.kind bare) are)
+
+  -- a line's end shows it
   word_line : (u : List ℕ) (ts : List Placed) (t : Placed) (e : Reason) (s : Stops g l ts t e) → Are u (s.front ++ t ∷ []) [] → IsBare t.lexeme.kind
       → Seen g l (u ++ line) e
-  word_line u ts t e s (c, i, a) bare =
-      let are : Are (u ++ line) (s.front ++ t ∷ []) line = (c, i, lexes_line (s.front ++ t ∷ []) false 0 u c i [] a) in
-      refused ts t line s are (ended_by_rest g l (u ++ line) s.front t line_feed [] (bare_plain t.lexeme.kind bare) are) (sym (bare_behind t.lexeme.kind bare))
+  word_line u ts t e s are bare = let h = word_ended u s.front t are bare in refused ts t line s h.0 h.1 (sym (bare_behind t.lexeme.kind bare))
 
   -- what waits has ended
-  waits_ended : (u : List ℕ) (ts : List Placed) (e : Reason) (p : Pends g l ts e) (a : AwaitsColons u ts)
+  pub waits_ended : (u : List ℕ) (ts : List Placed) (e : Reason) (p : Pends g l ts e) (a : AwaitsColons u ts)
       → (Are (u ++ line) (p.front ++ p.token ∷ []) (a.rest ++ line)) × HasEnded g l (u ++ line) p.token
   waits_ended u ts e p a =
       let are : Are (u ++ line) (p.front ++ p.token ∷ []) (a.rest ++ line) = (
@@ -63,7 +75,7 @@ module _ (g : Catalog) (l : Limits) where
         lexes_line (p.front ++ p.token ∷ []) false 0 u a.are.0 a.are.1 a.rest
             (subst (λ z. LexesTo false 0 u z a.are.0 a.are.1 a.rest) p.is a.are.2),
       ) in
-      (are, ended_by_rest g l (u ++ line) p.front p.token line_feed a.rest p.plain are)
+      (are, ended_by_rest g l (u ++ line) p.front p.token line_feed a.rest (bare_plain p.token.lexeme.kind p.bare) are)
 
   -- `::` doesn't stand behind it
   none_behind : (u : List ℕ) (ts : List Placed) → AwaitsColons u ts → (x : Placed) (xs ws : List Placed) (rest : List ℕ) → Are u ws rest → ws ≡ ts ++ x ∷ xs
@@ -75,16 +87,13 @@ module _ (g : Catalog) (l : Limits) where
 
   word_waits : (u : List ℕ) (ts ws : List Placed) (t : Placed) (e f : Reason) (s : Stops g l ts t e) → Are u (s.front ++ t ∷ []) [] → IsBare t.lexeme.kind
       → (p : Pends g l ws f) → AwaitsColons u ws → ⊥
-  word_waits u ts ws t e f s are bare p a = by (agreed g l (u ++ line) [] s.front p.front t p.token ended s.came p.came
-      (begins_lexed (s.front ++ t ∷ []) false 0 (u ++ line) there.0 there.1 line there.2)
+  word_waits u ts ws t e f s are bare p a = by (agreed g l (u ++ line) [] s.front p.front t p.token here.1 s.came p.came
+      (begins_lexed (s.front ++ t ∷ []) false 0 (u ++ line) here.0.0 here.0.1 line here.0.2)
       (subst (λ z. BeginsLexed false 0 z (p.front ++ p.token ∷ [])) (sym (append-nil (u ++ line)))
       (begins_lexed (p.front ++ p.token ∷ []) false 0 (u ++ line) other.0 other.1 (a.rest ++ line) other.2)))
     where
-      there : Are (u ++ line) (s.front ++ t ∷ []) line
-      there = (are.0, are.1, lexes_line (s.front ++ t ∷ []) false 0 u are.0 are.1 [] are.2)
-
-      ended : HasEnded g l (u ++ line) t
-      ended = ended_by_rest g l (u ++ line) s.front t line_feed [] (bare_plain t.lexeme.kind bare) there
+      here : (Are (u ++ line) (s.front ++ t ∷ []) line) × HasEnded g l (u ++ line) t
+      here = word_ended u s.front t are bare
 
       other : Are (u ++ line) (p.front ++ p.token ∷ []) (a.rest ++ line)
       other = (waits_ended u ws f p a).0
@@ -128,11 +137,11 @@ module _ (g : Catalog) (l : Limits) where
       by (inr (x ∷ xs, i)) = absurd (earlier x xs (p.is ∙ (i ∙ ap (λ z. z ++ x ∷ xs) (sym q.is))))
 
   ends_met : (u : List ℕ) (e f : Reason) → SeenEnd g l u e → SeenEnd g l u f → e ≡ f
-  ends_met u e f (by_word ts t s are bare) (by_word ws w s' are' bare') =
+  ends_met u e f (by_word ts t s are bare n) (by_word ws w s' are' bare' n') =
       (met g l (u ++ line) [] e f (word_line u ts t e s are bare)
       (subst (λ z. Seen g l z f) (sym (append-nil (u ++ line))) (word_line u ws w f s' are' bare'))).1
-  ends_met u e f (by_word ts t s are bare) (by_waiting ws p a) = absurd (word_waits u ts ws t e f s are bare p a)
-  ends_met u e f (by_waiting ws p a) (by_word ts t s are bare) = absurd (word_waits u ts ws t f e s are bare p a)
+  ends_met u e f (by_word ts t s are bare n) (by_waiting ws p a) = absurd (word_waits u ts ws t e f s are bare p a)
+  ends_met u e f (by_waiting ws p a) (by_word ts t s are bare n) = absurd (word_waits u ts ws t f e s are bare p a)
   ends_met u e f (by_waiting ts p a) (by_waiting ws q b) = both_wait u ts ws e f p a q b
 
   -- The end shows one row.
@@ -183,7 +192,7 @@ module _ (g : Catalog) (l : Limits) where
       there = subst (λ z. Are u z (none.rest ++ none.o ∷ [])) q.is none.are
 
       ended : HasEnded g l u q.token
-      ended = ended_by_rest g l u q.front q.token none.o none.rest q.plain there
+      ended = ended_by_rest g l u q.front q.token none.o none.rest (bare_plain q.token.lexeme.kind q.bare) there
 
       same : ws ≡ ts → ⊥
       same i =
@@ -209,7 +218,7 @@ module _ (g : Catalog) (l : Limits) where
       by (inr (x ∷ xs, i)) = earlier x xs (q.is ∙ (i ∙ ap (λ z. z ++ x ∷ xs) (sym p.is)))
 
   octet_ends : (u v : List ℕ) (e f : Reason) → Seen g l u f → SeenEnd g l (u ++ v) e → ⊥
-  octet_ends u v e f h (by_word ts t s are bare) =
+  octet_ends u v e f h (by_word ts t s are bare n) =
       let m = met g l u (v ++ line) f e h (subst (λ z. Seen g l z e) (append_assoc u v line) (word_line (u ++ v) ts t e s are bare)) in
       omega (arith, m.0, length-append v line)
   octet_ends u v e f h (by_waiting ts p a) = octet_waits u v e f h ts p a

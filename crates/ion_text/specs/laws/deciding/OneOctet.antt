@@ -28,7 +28,7 @@ use Rattle.ion_text.specs.laws.deciding.Agree.{agreed}
 use Rattle.ion_text.specs.laws.deciding.AtEnd.{last_ends}
 use Rattle.ion_text.specs.laws.deciding.Fronts.{origin, Came, Either, HasEnded, split}
 use Rattle.ion_text.specs.laws.deciding.Shows.{IsBare, BareSaid, said_bare}
-use Rattle.ion_text.specs.laws.deciding.Tokens.{Refusing, one_refusing, Why, by_itself, as_colons, why_once, Stops, ended_by_rest, bare_ended, mark_ended, id_stops, keyword_stops, keyword_note_stops, open_stops, table_stops}
+use Rattle.ion_text.specs.laws.deciding.Tokens.{Refusing, one_refusing, Why, by_itself, as_colons, why_once, Stops, bare_plain, ended_by_rest, bare_ended, mark_ended, id_stops, keyword_stops, keyword_note_stops, open_stops, table_stops}
 use Rattle.ion_text.specs.laws.deciding.Waiting.{Pends, pend, settling_stops, colons_next, colons_shown, version_pends, null_pends}
 use Rattle.ion_visiting.specs.declared.bracket.Bracket.TheVariants as brackets
 
@@ -267,7 +267,7 @@ module _ (g : Catalog) (l : Limits) where
 
     -- what waits for `::` has ended where an octet shows that it doesn't follow
     pub waited_ended : (ts : List Placed) (e : Reason) (p : Pends g l ts e) → NoColons u ts → HasEnded g l u p.token
-    waited_ended ts e p n = ended_by_rest g l u p.front p.token n.o n.rest p.plain (subst (λ z. Are u z (n.rest ++ n.o ∷ [])) p.is n.are)
+    waited_ended ts e p n = ended_by_rest g l u p.front p.token n.o n.rest (bare_plain p.token.lexeme.kind p.bare) (subst (λ z. Are u z (n.rest ++ n.o ∷ [])) p.is n.are)
 
     -- where two rows decide and the one's octets begin with the other's, they are the same, for one reason
     pub met : (e f : Reason) → Seen g l u e → Seen g l (u ++ v) f → AtOneOctet e f

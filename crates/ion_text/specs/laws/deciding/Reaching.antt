@@ -1,6 +1,6 @@
 -- Octets that are tokens up to one that is refused, or up to where something waits, lead the reader of octets there, unless an item becomes
 -- too long.
-use Rattle.std.proofs.Common.{◌≡◌, ℕ, ◌+◌, ◌≤◌, nat_le, nat_lt, List, [], ◌∷◌, length, Bool, true, false, ◌&&◌, ◌||◌, not, Result, Ok, Err, Some, refl, ap, sym, ◌∙◌, subst, arith, if◌then◌else◌, ◌⊎◌, inl, inr}
+use Rattle.std.proofs.Common.{◌≡◌, ℕ, ◌+◌, ◌<◌, ◌≤◌, nat_le, nat_lt, List, [], ◌∷◌, length, Bool, true, false, ◌&&◌, ◌||◌, not, Result, Ok, Err, Some, refl, ap, sym, ◌∙◌, subst, arith, if◌then◌else◌, ◌⊎◌, inl, inr}
 use Rattle.std.proofs.lemmas.Bool.{cond-false}
 use Rattle.std.proofs.lemmas.Bool.Decides.{nat_tests}
 use Rattle.ion_model.specs.declared.value.Value.{Value}
@@ -43,6 +43,7 @@ use Rattle.ion_text.specs.laws.reading.complete.Quiet.{CalmNow, EndedIn, calm_no
 use Rattle.ion_text.specs.laws.reading.complete.Segments.{NotRefused}
 use Rattle.ion_text.specs.laws.reading.complete.Tokens.{given_agrees, left_agrees, left_colons, left_two, next_agrees, quoting_left, segment_agree}
 use Rattle.ion_text.specs.laws.deciding.Heading.{IsLast, TurnsTo, Heads, Turned, settled_heads}
+use Rattle.ion_text.specs.laws.deciding.Shows.{IsBare}
 
 -- 1. What the scanner meets.
 
@@ -53,7 +54,7 @@ module _ (ByOctet ByEnd : Type 0) (Rest : Known → List ℕ → Type 0) where
     rests : (s : Known) (os : List ℕ) → Rest s os → Sees s os []
     last_given : (s : Known) (o : ℕ) (t : Placed) (s' : Known) → ByOctet → feed t.place s o ≡ Given t.lexeme s' → Sees s (o ∷ []) (t ∷ [])
     last_left : (s : Known) (o : ℕ) (t : Placed) (s' : Known) → ByOctet → feed t.place s o ≡ Left t.lexeme s' → Sees s (o ∷ []) (t ∷ [])
-    last_ends : (s : Known) (t : Placed) → ByEnd → at_end t.place s ≡ Ok (Some t.lexeme) → Sees s [] (t ∷ [])
+    last_ends : (s : Known) (t : Placed) → ByEnd → IsBare t.lexeme.kind → at_end t.place s ≡ Ok (Some t.lexeme) → Sees s [] (t ∷ [])
     sees_on : (s : Known) (o : ℕ) (os : List ℕ) (t : Placed) (ts : List Placed) (s' : Known) → feed t.place s o ≡ Next s' → Sees s' os (t ∷ ts)
         → Sees s (o ∷ os) (t ∷ ts)
     sees_given : (s : Known) (o : ℕ) (os : List ℕ) (t : Placed) (ts : List Placed) (s' : Known) → feed t.place s o ≡ Given t.lexeme s' → Sees s' os ts
@@ -64,10 +65,21 @@ module _ (ByOctet ByEnd : Type 0) (Rest : Known → List ℕ → Type 0) where
   sees_next : (s : Known) (os : List ℕ) (t : Placed) (ts : List Placed) → Sees s os (t ∷ ts) → MeetsNext s t
   sees_next _ _ _ _ (last_given s o t s' b e) = next_given s o t s' e
   sees_next _ _ _ _ (last_left s o t s' b e) = next_left s o t s' e
-  sees_next _ _ _ _ (last_ends s t b e) = ends_next s t e
+  sees_next _ _ _ _ (last_ends s t b bare e) = ends_next s t e
   sees_next _ _ _ _ (sees_on s o os t ts s' e m) = next_on s o t s' e (sees_next s' os t ts m)
   sees_next _ _ _ _ (sees_given s o os t ts s' e m) = next_given s o t s' e
   sees_next _ _ _ _ (sees_left s o os t ts s' e m) = next_left s o t s' e
+
+-- where the end shows no token, and what was asked for isn't so behind the last octet, there are octets
+module _ (ByOctet : Type 0) (Rest : Known → List ℕ → Type 0) (some : (s : Known) (os : List ℕ) → Rest s os → 0 < length os) where
+  pub sees_some : (s : Known) (os : List ℕ) (ts : List Placed) → Sees ByOctet ⊥ Rest s os ts → 0 < length os
+  sees_some _ _ _ (rests s os w) = some s os w
+  sees_some _ _ _ (last_ends s t b bare e) = absurd b
+  sees_some _ _ _ (last_given s o t s' b e) = omega arith
+  sees_some _ _ _ (last_left s o t s' b e) = omega arith
+  sees_some _ _ _ (sees_on s o os t ts s' e m) = omega arith
+  sees_some _ _ _ (sees_given s o os t ts s' e m) = omega arith
+  sees_some _ _ _ (sees_left s o os t ts s' e m) = omega arith
 
 -- 2. Reasons.
 
@@ -125,7 +137,7 @@ module _ (g : Catalog) (l : Limits) where
         by (late y k) a b d = d.0
 
     -- behind an element or a name no token has begun but a mark of one octet
-    not_shut : (r : Reading) (t : Placed) (ts : List Placed) (h : Heads g l e Done Refused r (t ∷ ts)) (s : Known) → MeetsNext s t → is_sane s.mode ≡ true
+    pub not_shut : (r : Reading) (t : Placed) (ts : List Placed) (h : Heads g l e Done Refused r (t ∷ ts)) (s : Known) → MeetsNext s t → is_sane s.mode ≡ true
         → is_idle s.mode ≡ false → shut r.now ≡ true → ⊥
     not_shut r t ts h s m sane i q =
         by (shut_said g l t.lexeme.start t.lexeme.end r.start r.context r.frames r.notes h.1 r.now q)
@@ -156,8 +168,8 @@ module _ (g : Catalog) (l : Limits) where
       → Good (Err (record { offset = to; reason = reasons.ItemTooLong })))
       (last : ByOctet → (f : Reason) → reason_number f ≤ reason_number e → Good (Err (record { offset = total; reason = f })))
       (none : ByOctet → (r : Reading) → Done r → ⊥) (apart : Refused → (s : Known) (os : List ℕ) → Rest s os → ⊥)
-      (word : ByEnd → (s : Known) (t : Placed) (r : Reading) → at_end t.place s ≡ Ok (Some t.lexeme) → s.used ≡ total → Exact s → TopCalm s r
-      → Heads g l e Done Refused r (t ∷ []) → Good (Ok (with_scan s r)))
+      (word : ByEnd → (s : Known) (t : Placed) (r : Reading) → IsBare t.lexeme.kind → at_end t.place s ≡ Ok (Some t.lexeme) → s.used ≡ total
+      → is_sane s.mode ≡ true → TopCalm s r → Heads g l e Done Refused r (t ∷ []) → Good (Ok (with_scan s r)))
       (rest : (to : ℕ) (s : Known) (os : List ℕ) (r : Reading) → Rest s os → to + length os ≡ total → s.used ≡ to → TopCalm s r → Done r
       → Good (run g l to (with_scan s r) os).now) where
     abbrev S : Known → List ℕ → List Placed → Type 0
@@ -460,7 +472,7 @@ module _ (g : Catalog) (l : Limits) where
     pub reached : (s : Known) (os : List ℕ) (ts : List Placed) → S s os ts → is_sane s.mode ≡ true → Fine s → Exact s → Operators ts → (to : ℕ)
         → to + length os ≡ total → s.used ≡ to → (r : Reading) → TopCalm s r → H r ts → Good (run g l to (with_scan s r) os).now
     reached _ _ _ (rests s os w) sane fine ex ops to all at r calm h = rest to s os r w all at calm h
-    reached _ _ _ (last_ends s t b i) sane fine ex ops to all at r calm h = word b s t r i (omega (arith, all, at)) ex calm h
+    reached _ _ _ (last_ends s t b bare i) sane fine ex ops to all at r calm h = word b s t r bare i (omega (arith, all, at)) sane calm h
     reached _ _ _ (last_given s o t s' b i) sane fine ex ops to all at r calm h =
         let here = λ (k : Reading) (d : H k (t ∷ [])). ap (λ p. feed p s o) (sym d.0) ∙ i in
         let f = finely_as (place r) s o (Given t.lexeme s') fine (here r h) in

@@ -1,5 +1,5 @@
 -- What octets show of a token that ends with the last of them, or before it.
-use Rattle.std.proofs.Common.{◌≡◌, ℕ, ◌+◌, List, [], ◌∷◌, ◌++◌, length, Bool, true, false, Ok, refl, sym, ap, ◌∙◌, subst, append-nil, length-append, arith, ◌⊎◌, inl, inr, codes}
+use Rattle.std.proofs.Common.{◌≡◌, ℕ, zero, suc, ◌+◌, List, [], ◌∷◌, ◌++◌, length, take, Bool, true, false, ◌||◌, Ok, refl, sym, ap, ◌∙◌, subst, append-nil, length-append, arith, ◌⊎◌, inl, inr, codes}
 use Rattle.ion_tokens.specs.declared.mode.Mark.{Mark}
 use Rattle.ion_tokens.specs.declared.mode.Mark.TheVariants as marks
 use Rattle.ion_tokens.specs.declared.mode.Mode.TheVariants as modes
@@ -19,7 +19,7 @@ use Rattle.ion_tokens.proofs.sound.Holds.{IsTold, InMode, Sound}
 use Rattle.ion_tokens.proofs.complete.Moves.{at}
 use Rattle.ion_tokens.proofs.runs.Scans.{placed}
 use Rattle.ion_tokens.proofs.sound.Sounds.{feed_sound}
-use Rattle.ion_text.specs.Grammar.{BlankThen}
+use Rattle.ion_text.specs.Grammar.{BlankThen, is_keyword, is_version}
 use Rattle.ion_text.specs.Deciding.{Are, AwaitsColons, NoColons, Sight, by_octet}
 use Rattle.ion_text.specs.laws.reading.sound.Admits.{at_end_fine}
 use Rattle.ion_text.specs.laws.reading.complete.Going.{mark_kind}
@@ -91,6 +91,37 @@ said_bare kinds.LongString octets c b h = absurd (other_bare c (Long octets) b.0
 said_bare kinds.Clob octets c b h = absurd (other_bare c (Clob octets) (let e : c ≡ Clob octets = cc in e) (λ x. x) h)
 said_bare kinds.Blob octets c b h = absurd (other_bare c (Blob octets) (let e : c ≡ Blob octets = cc in e) (λ x. x) h)
 said_bare (kinds.Mark m) octets c b h = mark_bare m (subst BareSaid (let e : c ≡ Mark' m = cc in e) h)
+
+-- what says a keyword, a version, an id or a typed null, of which alone the end decides
+abbrev pub EndSaid : Content → Type 0
+EndSaid (Word w) = (is_keyword w || is_version w) ≡ true
+EndSaid (Id id) = Unit {0}
+EndSaid (TypedNull k) = Unit {0}
+EndSaid _ = ⊥
+
+pub end_bare : (c : Content) → EndSaid c → BareSaid c
+end_bare (Word w) h = tt
+end_bare (Id id) h = tt
+end_bare (TypedNull k) h = tt
+end_bare _ h = absurd h
+
+-- the token isn't the word that letters of `inf` behind a sign are
+abbrev pub NoLetters : Lexeme → Type 0
+NoLetters x = (n : ℕ) → x.kind ≡ kinds.Word → x.octets ≡ take n (codes "inf") → ⊥
+
+pub no_letters : (x : Lexeme) (c : Content) → IsBody x.kind x.octets (Ok c) → EndSaid c → NoLetters x
+no_letters x c b h n kind letters =
+    go n (subst (λ y. IsBody kinds.Word y (Ok c)) letters (subst (λ k. IsBody k x.octets (Ok c)) kind b))
+  where
+    other : (w : List ℕ) → c ≡ Word w → (is_keyword w || is_version w) ≡ false → ⊥
+    other w e f = never (is_keyword w || is_version w) f (subst EndSaid e h)
+
+    go : (n : ℕ) → IsBody kinds.Word (take n (codes "inf")) (Ok c) → ⊥
+    go zero b = other [] b.0 refl
+    go (suc zero) b = other (codes "i") b.0 refl
+    go (suc (suc zero)) b = other (codes "in") b.0 refl
+    go (suc (suc (suc zero))) b = other (codes "inf") b.0 refl
+    go (suc (suc (suc (suc n)))) b = other (codes "inf") b.0 refl
 
 -- `::` would have been told
 colons_told : (p : Place) (k : ℕ) (since : List ℕ) (s : Known) → is_idle s.mode ≡ true → run p since (at modes.Blank [] true k k) ≡ Next s

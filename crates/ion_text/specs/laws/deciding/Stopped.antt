@@ -42,7 +42,7 @@ use Rattle.ion_text.specs.laws.deciding.Finding.{EndsThere, IsLeft, ends_there, 
 use Rattle.ion_text.specs.laws.deciding.Fronts.{origin, HasEnded}
 use Rattle.ion_text.specs.laws.deciding.Heading.{Never, refused_heads, waiting_heads}
 use Rattle.ion_text.specs.laws.deciding.OneOctet.{Seen, refused, unfollowed, behind_kind, seen, waited_ended}
-use Rattle.ion_text.specs.laws.deciding.Reaching.{Sees, rests, last_given, last_left, last_ends as ends_last, sees_on, sees_given, sees_left, reached, worse_less}
+use Rattle.ion_text.specs.laws.deciding.Reaching.{Sees, rests, last_given, last_left, sees_given, sees_left, sees_some, reached, worse_less}
 use Rattle.ion_text.specs.laws.deciding.Shows.{IsBare, last_flag}
 use Rattle.ion_text.specs.laws.deciding.Tokens.{Refusing, Stops}
 use Rattle.ion_text.specs.laws.deciding.Waiting.{Pends, pend}
@@ -84,17 +84,8 @@ abbrev pub Stopped : ℕ → Reason → Result State Refusal → Type 0
 Stopped total e now = (r : Refusal) × (now ≡ Err r) × StopsFor total e r
 
 -- nothing is left
-abbrev Nothing' : Known → List ℕ → Type 0
+abbrev pub Nothing' : Known → List ℕ → Type 0
 Nothing' s os = ⊥
-
-sees_some : (s : Known) (os : List ℕ) (ts : List Placed) → Sees (Unit {0}) ⊥ Nothing' s os ts → 0 < length os
-sees_some _ _ _ (rests s os w) = absurd w
-sees_some _ _ _ (ends_last s t b e) = absurd b
-sees_some _ _ _ (last_given s o t s' b e) = omega arith
-sees_some _ _ _ (last_left s o t s' b e) = omega arith
-sees_some _ _ _ (sees_on s o os t ts s' e m) = omega arith
-sees_some _ _ _ (sees_given s o os t ts s' e m) = omega arith
-sees_some _ _ _ (sees_left s o os t ts s' e m) = omega arith
 
 zero_behind : (k : TokenKind) → (IsBare k → ⊥) → behind_kind k ≡ 0
 zero_behind kinds.Word n = absurd (n tt)
@@ -118,8 +109,8 @@ module _ (g : Catalog) (l : Limits) (u : List ℕ) (e : Reason) (row : HasRow e)
       → length left ≡ behind_kind t.lexeme.kind → Stopped (length u) e (run g l 0 begun u).now
   refused_stopped ts t left s (c, i, lexes) ended size =
       reached g l e row (Never g l e) (Unit {0}) (Unit {0}) ⊥ Nothing' (length u) (Stopped (length u) e)
-      (λ to k os us m all. too_long (length u) to e (omega (arith, all, sees_some k os us m)))
-      (λ b f h. (record { offset = length u; reason = f }, refl, inr (refl, h))) (λ b r d. d) (λ h k os w. w) (λ b k x r a used ex calm d. absurd b)
+      (λ to k os us m all. too_long (length u) to e (omega (arith, all, sees_some (Unit {0}) Nothing' (λ s os w. absurd w) k os us m)))
+      (λ b f h. (record { offset = length u; reason = f }, refl, inr (refl, h))) (λ b r d. d) (λ h k os w. w) (λ b k x r bare a used sane calm d. absurd b)
       (λ to k os r w all used calm d. absurd w) initial u (s.front ++ t ∷ [])
       (tokens_seen g l u t ended c i left (Unit {0}) ⊥ Nothing' given leaves s.front lexes) refl (record { enough = omega arith }) (record { is = tt })
       (lexes_operators (λ x y z. (x ≡ c) × (y ≡ i) × (z ≡ left)) (s.front ++ t ∷ []) false 0 u lexes) 0 (omega arith) refl (origin g l) (λ top. tt)
@@ -155,35 +146,63 @@ unfollowed_some : (s : Known) (os : List ℕ) → Unfollowed s os → 0 < length
 unfollowed_some _ _ (shows s o w) = omega arith
 unfollowed_some _ _ (may s o os s' f i m) = omega arith
 
-sees_unfollowed : (s : Known) (os : List ℕ) (ts : List Placed) → Sees ⊥ ⊥ Unfollowed s os ts → 0 < length os
-sees_unfollowed _ _ _ (rests s os w) = unfollowed_some s os w
-sees_unfollowed _ _ _ (ends_last s t b e) = absurd b
-sees_unfollowed _ _ _ (last_given s o t s' b e) = omega arith
-sees_unfollowed _ _ _ (last_left s o t s' b e) = omega arith
-sees_unfollowed _ _ _ (sees_on s o os t ts s' e m) = omega arith
-sees_unfollowed _ _ _ (sees_given s o os t ts s' e m) = omega arith
-sees_unfollowed _ _ _ (sees_left s o os t ts s' e m) = omega arith
-
 run_sane : (p : Place) (xs : List ℕ) (s t : Known) → is_sane s.mode ≡ true → scan p xs s ≡ Next t → is_sane t.mode ≡ true
 run_sane p [] s t h e = subst (λ (x : Known). is_sane x.mode ≡ true) (next_is s t e) h
 run_sane p (x ∷ xs) s t h e = let f = followed (feed p s x) (λ k. scan p xs k) t e in run_sane p xs f.0 t (follows_as p s x (Next f.0) h f.1).0 f.2
 
+-- the scanner has come to this over octets behind a token at the top level that may be a symbol, and that ended there
+pub record Stands (k : ℕ) (s : Known) (since : List ℕ) : Type 0 where
+  pub holds : Holds places.Top true k s since
+  pub ran : scan places.Top since (at modes.Blank [] true k k) ≡ Next s
+  pub sane : is_sane s.mode ≡ true
+
+pub stands_left : (colon : Bool) (k : ℕ) (octets : List ℕ) (s : Known) (rest : List ℕ) → colon ≡ true → (w : IsLeft colon k octets s rest)
+    → Stands k s w.ahead
+stands_left colon k octets s rest flag w = record {
+  holds = subst (λ x. RunSound places.Top true k [] w.ahead x) ran
+      (run_sound places.Top true k w.ahead [] (at modes.Blank [] true k k) (blank_behind places.Top true k));
+  ran = ran;
+  sane = run_sane places.Top w.ahead (at modes.Blank [] true k k) s refl ran;
+}
+  where
+    ran : scan places.Top w.ahead (at modes.Blank [] true k k) ≡ Next s
+    ran = subst (λ c. scan places.Top w.ahead (at modes.Blank [] c k k) ≡ Next s) flag (w.reached places.Top)
+
+pub stands_on : (k : ℕ) (s : Known) (since : List ℕ) (x : ℕ) (t : Known) → Stands k s since → feed places.Top s x ≡ Next t → Stands k t (since ++ x ∷ [])
+stands_on k s since x t h f = record {
+  holds = subst (λ y. Sound places.Top true k since x y) f (feed_sound places.Top true k s since x h.holds);
+  ran = run_behind places.Top since (x ∷ []) (at modes.Blank [] true k k) s h.ran ∙ ap (λ y. follow y (λ m. Next m)) f;
+  sane = (follows_as places.Top s x (Next t) h.sane f).0;
+}
+
+-- an octet is used, and no token has begun behind it, where `::` may follow it, and doesn't
+pub waits_on : (k : ℕ) (s : Known) (since : List ℕ) (x : ℕ) (ys zs : List ℕ) → Stands k s since → BlankThen (codes "::") (since ++ x ∷ zs)
+    → (BlankThen (codes "::") (since ++ x ∷ ys) → ⊥) → (t : Known) × (feed places.Top s x ≡ Next t) × (is_idle t.mode ≡ true)
+waits_on k s since x ys zs h before none = go (feed places.Top s x) refl
+  where
+    waits : symbol_waits (feed places.Top s x) ≡ false → ⊥
+    waits w = octet_colons places.Top k since s x h.sane h.ran (symbol_colons (feed places.Top s x) w) zs before
+
+    go : (y : Outcome) → feed places.Top s x ≡ y → (t : Known) × (feed places.Top s x ≡ Next t) × (is_idle t.mode ≡ true)
+    go (Next t) f = idle (is_idle t.mode) refl
+      where
+        idle : (b : Bool) → is_idle t.mode ≡ b → (n : Known) × (feed places.Top s x ≡ Next n) × (is_idle n.mode ≡ true)
+        idle true i = (t, f, i)
+        idle false i = absurd (waits (ap symbol_waits f ∙ i))
+    go (Given y t) f = told (symbol_waits (Given y t)) refl
+      where
+        told : (b : Bool) → symbol_waits (Given y t) ≡ b → (n : Known) × (feed places.Top s x ≡ Next n) × (is_idle n.mode ≡ true)
+        told true i = absurd (none ((given_colons places.Top true k s since x h.holds y t f i).1 ys))
+        told false i = absurd (waits (ap symbol_waits f ∙ i))
+    go (Left y t) f = absurd (waits (ap symbol_waits f))
+    go (Refused n y) f = absurd (waits (ap symbol_waits f))
+
 module _ (u : List ℕ) (ts : List Placed) (none : NoColons u ts) (k : ℕ) where
-  -- the octets behind the tokens
-  abbrev behind : List ℕ
-  behind = none.rest ++ none.o ∷ []
-
-  abbrev start : Known
-  start = at modes.Blank [] true k k
-
-  open_octets : (ys since : List ℕ) (s : Known) → behind ≡ since ++ ys → (ys ≡ [] → ⊥) → Holds places.Top true k s since → scan places.Top since start ≡ Next s
-      → is_sane s.mode ≡ true → Unfollowed s ys
-  open_octets [] since s cut some h ran sane = absurd (some refl)
-  open_octets (x ∷ ys) since s cut some h ran sane =
+  open_octets : (ys since : List ℕ) (s : Known) → none.rest ++ none.o ∷ [] ≡ since ++ ys → (ys ≡ [] → ⊥) → Stands k s since → Unfollowed s ys
+  open_octets [] since s cut some h = absurd (some refl)
+  open_octets (x ∷ ys) since s cut some h =
       by (last_parted none.rest none.o since (x ∷ ys) cut)
-      (λ t f i w. open_octets ys (since ++ x ∷ []) t (cut ∙ sym (append_assoc since (x ∷ []) ys)) w
-      (subst (λ y. Sound places.Top true k since x y) f (feed_sound places.Top true k s since x h))
-      (run_behind places.Top since (x ∷ []) start s ran ∙ ap (λ y. follow y (λ m. Next m)) f) (follows_as places.Top s x (Next t) sane f).0)
+      (λ t f w. open_octets ys (since ++ x ∷ []) t (cut ∙ sym (append_assoc since (x ∷ []) ys)) w (stands_on k s since x t h f))
     where
       never : (more : List ℕ) → BlankThen (codes "::") ((since ++ x ∷ ys) ++ more) → ⊥
       never more b = none.after more (subst (BlankThen (codes "::")) (ap (λ y. y ++ more) (sym cut) ∙ append_assoc none.rest (none.o ∷ []) more) b)
@@ -191,10 +210,10 @@ module _ (u : List ℕ) (ts : List Placed) (none : NoColons u ts) (k : ℕ) wher
       -- `::` doesn't end with the octet
       given : (y : _) (t : Known) → feed places.Top s x ≡ Given y t → symbol_waits (Given y t) ≡ true → ⊥
       given y t f c = never [] (subst (BlankThen (codes "::")) (sym (append-nil (since ++ x ∷ ys)))
-          ((given_colons places.Top true k s since x h y t f c).1 ys))
+          ((given_colons places.Top true k s since x h.holds y t f c).1 ys))
 
       by : ((x ∷ ys ≡ []) × (since ≡ none.rest ++ none.o ∷ [])) ⊎ ((front : List ℕ) × (x ∷ ys ≡ front ++ none.o ∷ []) × (none.rest ≡ since ++ front))
-          → ((t : Known) → feed places.Top s x ≡ Next t → is_idle t.mode ≡ true → (ys ≡ [] → ⊥) → Unfollowed t ys) → Unfollowed s (x ∷ ys)
+          → ((t : Known) → feed places.Top s x ≡ Next t → (ys ≡ [] → ⊥) → Unfollowed t ys) → Unfollowed s (x ∷ ys)
       by (inl (e, f)) more = absurd cc
       by (inr ([], e, f)) more =
           let only : ys ≡ [] = cc in
@@ -206,7 +225,7 @@ module _ (u : List ℕ) (ts : List Placed) (none : NoColons u ts) (k : ℕ) wher
               idle : (b : Bool) → is_idle t.mode ≡ b → b ≡ false
               idle false i = refl
               idle true i =
-                  let here = subst (λ y. Sound places.Top true k since x y) f (feed_sound places.Top true k s since x h) in
+                  let here = subst (λ y. Sound places.Top true k since x y) f (feed_sound places.Top true k s since x h.holds) in
                   let close = colons_close k t.kept t.start t.used (since ++ x ∷ []) t.mode i here.mode in
                   absurd (never close.octets (subst (λ y. BlankThen (codes "::") ((since ++ x ∷ y) ++ close.octets)) (sym only) close.shows))
           go (Given y t) f only = told (symbol_waits (Given y t)) refl
@@ -216,7 +235,7 @@ module _ (u : List ℕ) (ts : List Placed) (none : NoColons u ts) (k : ℕ) wher
               told true i = absurd (given y t f i)
           go (Left y t) f only = refl
           go (Refused n y) f only = refl
-      by (inr (z ∷ zs, e, f)) more = go (feed places.Top s x) refl
+      by (inr (z ∷ zs, e, f)) more = may s x ys on.0 on.1 on.2 (more on.0 on.1 some')
         where
           others : ys ≡ zs ++ none.o ∷ []
           others = cc
@@ -228,23 +247,18 @@ module _ (u : List ℕ) (ts : List Placed) (none : NoColons u ts) (k : ℕ) wher
           some' : ys ≡ [] → ⊥
           some' n = omega (arith, ap length (sym others ∙ n), length-append zs (none.o ∷ []))
 
-          waits : symbol_waits (feed places.Top s x) ≡ false → ⊥
-          waits w = octet_colons places.Top k since s x sane ran (symbol_colons (feed places.Top s x) w) (zs ++ none.before.0)
-              (subst (BlankThen (codes "::")) same none.before.1)
+          on : (t : Known) × (feed places.Top s x ≡ Next t) × (is_idle t.mode ≡ true)
+          on = waits_on k s since x ys (zs ++ none.before.0) h (subst (BlankThen (codes "::")) same none.before.1)
+              (λ b. never [] (subst (BlankThen (codes "::")) (sym (append-nil (since ++ x ∷ ys))) b))
 
-          go : (y : Outcome) → feed places.Top s x ≡ y → Unfollowed s (x ∷ ys)
-          go (Next t) f = idle (is_idle t.mode) refl
-            where
-              idle : (b : Bool) → is_idle t.mode ≡ b → Unfollowed s (x ∷ ys)
-              idle true i = may s x ys t f i (more t f i some')
-              idle false i = absurd (waits (ap symbol_waits f ∙ i))
-          go (Given y t) f = told (symbol_waits (Given y t)) refl
-            where
-              told : (b : Bool) → symbol_waits (Given y t) ≡ b → Unfollowed s (x ∷ ys)
-              told true i = absurd (given y t f i)
-              told false i = absurd (waits (ap symbol_waits f ∙ i))
-          go (Left y t) f = absurd (waits (ap symbol_waits f))
-          go (Refused n y) f = absurd (waits (ap symbol_waits f))
+-- an octet behind what waits is used
+pub waits_uses : (g : Catalog) (l : Limits) (ts : List Placed) (e : Reason) (p : Pends g l ts e) (s : Known) (o : ℕ) (s' : Known)
+    → feed places.Top s o ≡ Next s' → is_idle s'.mode ≡ true → eats g l (with_scan s (pend g l ts e p)) o ≡ noticed l (pend g l ts e p) s'
+waits_uses g l ts e p s o s' f i =
+    let P = pend g l ts e p in
+    let again = λ (k : State). takes g l 2 k o in
+    ap (λ y. if symbol_waits y || false then on_scan g l again P y else on_settled g l again s y (settle g l P)) f
+    ∙ ap (λ b. if b || false then noticed l P s' else on_settled g l again s (Next s') (settle g l P)) i
 
 module _ (g : Catalog) (l : Limits) (u : List ℕ) (e : Reason) (row : HasRow e) (ts : List Placed) (p : Pends g l ts e) (none : NoColons u ts) where
   abbrev P : Reading
@@ -257,13 +271,8 @@ module _ (g : Catalog) (l : Limits) (u : List ℕ) (e : Reason) (row : HasRow e)
   flag = sym (last_flag p.front p.token false 0 u none.are.0 none.are.1 (none.rest ++ none.o ∷ []) lexes) ∙ p.colon
 
   from : (s : Known) (rest : List ℕ) → IsLeft none.are.0 none.are.1 (none.rest ++ none.o ∷ []) s rest → (rest ≡ [] → ⊥) → Unfollowed s rest
-  from s rest w some =
-      let ran : scan places.Top w.ahead (at modes.Blank [] true none.are.1 none.are.1) ≡ Next s =
-      subst (λ c. scan places.Top w.ahead (at modes.Blank [] c none.are.1 none.are.1) ≡ Next s) flag (w.reached places.Top) in
-      open_octets u ts none none.are.1 rest w.ahead s w.cut some
-      (subst (λ x. RunSound places.Top true none.are.1 [] w.ahead x) ran
-      (run_sound places.Top true none.are.1 w.ahead [] (at modes.Blank [] true none.are.1 none.are.1) (blank_behind places.Top true none.are.1)))
-      ran (run_sane places.Top w.ahead (at modes.Blank [] true none.are.1 none.are.1) s refl ran)
+  from s rest w some = open_octets u ts none none.are.1 rest w.ahead s w.cut some
+      (stands_left none.are.0 none.are.1 (none.rest ++ none.o ∷ []) s rest flag w)
 
   given : (k : Known) (o : ℕ) (n : Known) (rest : List ℕ) → feed p.token.place k o ≡ Given p.token.lexeme n
       → IsLeft none.are.0 none.are.1 (none.rest ++ none.o ∷ []) n rest → Sees ⊥ ⊥ Unfollowed k (o ∷ rest) (p.token ∷ [])
@@ -309,11 +318,7 @@ module _ (g : Catalog) (l : Limits) (u : List ℕ) (e : Reason) (row : HasRow e)
       subst (λ y. Stopped (length u) e (run_on to (λ n. eats g l n o) (λ n. run g l (to + 1) n []) y).now) (sym eff)
       (record { offset = to + 1; reason = q.0 }, refl, inr (omega (arith, all), q.2))
   rest_stopped _ _ (may s o os s' f i m) to all =
-      let again = λ (k : State). takes g l 2 k o in
-      let eff : eats g l (with_scan s P) o ≡ noticed l P s' =
-      ap (λ y. if symbol_waits y || false then on_scan g l again P y else on_settled g l again s y (settle g l P)) f
-      ∙ ap (λ b. if b || false then noticed l P s' else on_settled g l again s (Next s') (settle g l P)) i in
-      subst (λ y. Stopped (length u) e (run_on to (λ n. eats g l n o) (λ n. run g l (to + 1) n os) y).now) (sym eff)
+      subst (λ y. Stopped (length u) e (run_on to (λ n. eats g l n o) (λ n. run g l (to + 1) n os) y).now) (sym (waits_uses g l ts e p s o s' f i))
       (go (nat_le (reaches P.frames P s') l.item) (rest_stopped s' os m (to + 1) (omega (arith, all))))
     where
       go : (b : Bool) → Stopped (length u) e (run g l (to + 1) (with_scan s' P) os).now
@@ -325,8 +330,8 @@ module _ (g : Catalog) (l : Limits) (u : List ℕ) (e : Reason) (row : HasRow e)
   unfollowed_stopped : Stopped (length u) e (run g l 0 begun u).now
   unfollowed_stopped =
       reached g l e row (λ k. k ≡ P) ⊥ ⊥ ⊥ Unfollowed (length u) (Stopped (length u) e)
-      (λ to k os us m all. too_long (length u) to e (omega (arith, all, sees_unfollowed k os us m))) (λ b f h. absurd b) (λ b r d. absurd b)
-      (λ h k os w. absurd h) (λ b k x r a used ex calm d. absurd b)
+      (λ to k os us m all. too_long (length u) to e (omega (arith, all, sees_some ⊥ Unfollowed unfollowed_some k os us m))) (λ b f h. absurd b) (λ b r d. absurd b)
+      (λ h k os w. absurd h) (λ b k x r bare a used sane calm d. absurd b)
       (λ to k os r w all used calm d. subst (λ x. Stopped (length u) e (run g l to (with_scan k x) os).now) (sym d) (rest_stopped k os w to all))
       initial u (p.front ++ p.token ∷ [])
       (tokens_seen g l u p.token (waited_ended g l u [] ts e p none) none.are.0 none.are.1 (none.rest ++ none.o ∷ []) ⊥ ⊥ Unfollowed given leaves p.front

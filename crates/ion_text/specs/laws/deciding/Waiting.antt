@@ -1,6 +1,6 @@
 -- Rows of the table whose last token waits for `::` and is refused where none follows.
 use Rattle.std.proofs.Common.{◌≡◌, ◌≢◌, ℕ, Bool, true, false, ◌&&◌, List, [], ◌∷◌, ◌++◌, refl, sym, ap, ◌∙◌, subst, Ok, Err, Some, if◌then◌else◌, codes}
-use Rattle.std.proofs.lemmas.Bool.{cond-true}
+use Rattle.std.proofs.lemmas.Bool.{cond-true, or_right}
 use Rattle.std.specs.Str.{bytes_eq}
 use Rattle.std.proofs.lemmas.Slice.Eq.{bytes_eq-Decides}
 use Rattle.ion_model.specs.declared.value.Value.{Value}
@@ -29,7 +29,7 @@ use Rattle.ion_text.specs.declared.state.Held.{Held}
 use Rattle.ion_text.specs.declared.state.Held.TheVariants as helds
 use Rattle.ion_text.specs.declared.state.Frame.{Frame}
 use Rattle.ion_text.specs.declared.state.Now.TheVariants as nows
-use Rattle.ion_text.specs.Grammar.{Says, Annotations, Plain, one_token, long_string, is_list, is_sexp, is_struct, Means, means, IsScalar, is_null, is_typed_null, is_true, is_false, is_int, is_decimal, is_timestamp, is_symbol, is_operator, is_short, is_clob, is_blob, BlankThen, is_version, the_marker, ends_long, begins_as_long}
+use Rattle.ion_text.specs.Grammar.{Says, Annotations, Plain, one_token, long_string, is_list, is_sexp, is_struct, Means, means, IsScalar, is_null, is_typed_null, is_true, is_false, is_int, is_decimal, is_timestamp, is_symbol, is_operator, is_short, is_clob, is_blob, BlankThen, is_keyword, is_version, the_marker, ends_long, begins_as_long}
 use Rattle.ion_text.specs.Deciding.{Comes, Ends, none_open}
 use Rattle.ion_text.specs.machine.EachToken.{under, spot_at, Reading, goes, Symbols, at, place, settle, ended, turned, held_word, begun_at, on_ready}
 use Rattle.ion_text.specs.machine.Run.{token_of}
@@ -45,10 +45,10 @@ use Rattle.ion_text.specs.laws.showing.tokens.Cuts.{parted}
 use Rattle.ion_text.specs.laws.showing.shown.Opened.{blank_token, colons_token, symbol_colon}
 use Rattle.ion_text.specs.laws.showing.tokens.Walks.{walking_said, settled_reads, behind_read}
 use Rattle.ion_text.specs.laws.deciding.Openings.{containers, begins_so}
-use Rattle.ion_text.specs.laws.deciding.Shows.{BareSaid, said_bare, k}
+use Rattle.ion_text.specs.laws.deciding.Shows.{IsBare, EndSaid, NoLetters, end_bare, no_letters, said_bare, k}
 use Rattle.ion_text.specs.laws.deciding.Fronts.{origin, Came}
 use Rattle.ion_text.specs.laws.deciding.Comings.{JoinsNothing, before, cut, came, f}
-use Rattle.ion_text.specs.laws.deciding.Tokens.{Refusing, refusing_stops, refusing_is, bare_plain, word_apart, null_apart, read_to}
+use Rattle.ion_text.specs.laws.deciding.Tokens.{Refusing, refusing_stops, refusing_is, word_apart, null_apart, read_to}
 
 -- a word of the form of a marker is held as one
 version_held : (w : List ℕ) → is_version w ≡ true → w ≢ the_marker → held_word w ≡ helds.Version false (Some w)
@@ -83,7 +83,8 @@ pub record Pends (g : Catalog) (l : Limits) (ts : List Placed) (e : Reason) : Ty
   pub is : ts ≡ front ++ token ∷ []
   pub came : Came g l front token.place
   pub colon : colon_behind token ≡ true
-  pub plain : token.lexeme.kind ≡ kinds.Operator → ⊥
+  pub bare : IsBare token.lexeme.kind
+  pub letters : NoLetters token.lexeme
   pub start : ℕ
   pub end : ℕ
   pub context : List Slot
@@ -134,7 +135,7 @@ module _ (g : Catalog) (l : Limits) (ws : List Placed) (reason : Reason) (p : Pe
 
 module _ (g : Catalog) (l : Limits) where
   -- a token that is held
-  module _ (c : List Slot) (said : Content) (ts : List Placed) (h : Comes g l c [] said ts) (bare : BareSaid said) (symbol : symbol_said said ≡ true)
+  module _ (c : List Slot) (said : Content) (ts : List Placed) (h : Comes g l c [] said ts) (ends : EndSaid said) (symbol : symbol_said said ≡ true)
       (apart : JoinsNothing said) (word : Held)
       (waits : (start end : ℕ) → on_ready (under g l) (spot_at end start c) (f g l c [] said ts h).held h.symbols said
       ≡ goes (at start c (f g l c [] said ts h).held h.symbols (nows.Pending word end)))
@@ -153,7 +154,8 @@ module _ (g : Catalog) (l : Limits) where
           is = is;
           came = subst (Came g l front) (sym h.says.place) (came g l c [] said ts h tt);
           colon = symbol_colon h.token.place h.token.lexeme.kind h.token.lexeme.octets said h.says.body symbol;
-          plain = bare_plain h.token.lexeme.kind (said_bare h.token.lexeme.kind h.token.lexeme.octets said h.says.body bare);
+          bare = said_bare h.token.lexeme.kind h.token.lexeme.octets said h.says.body (end_bare said ends);
+          letters = no_letters h.token.lexeme said h.says.body ends;
           start = start;
           end = end;
           context = c;
@@ -169,7 +171,7 @@ module _ (g : Catalog) (l : Limits) where
   pub version_pends : (ts : List Placed) (c : List Slot) (w : List ℕ) → (h : Comes g l c [] (Word w) ts) → h.notes ≡ [] → is_version w ≡ true → w ≢ the_marker
       → Pends g l ts Version
   version_pends ts c w h bare version other =
-      held_pends c (Word w) ts h tt refl (word_apart w) (held_word w) (λ start end. refl)
+      held_pends c (Word w) ts h (or_right (is_keyword w) (is_version w) version) refl (word_apart w) (held_word w) (λ start end. refl)
       Version
       (λ start end. subst (λ ss. Refusing Version (settle g l (at start c [] ss (nows.Pending (held_word w) end))))
       (sym (no_notes c places.Top h.notes h.symbols h.noted (sym bare)))
@@ -217,7 +219,7 @@ module _ (g : Catalog) (l : Limits) where
 
       scalar : (notes : List Placed) (t : Placed) (said : Content) (rs : Symbols) (q : Payload) → Annotations c places.Top notes rs → Says places.Top t said
           → IsScalar c said q → q ≡ payloads.Null k → annotated rs q ≡ v → h.item ≡ notes ++ t ∷ [] → Pends g l ts e
-      scalar notes t _ rs _ a says is_null n is whole = held_pends c (Word (codes "null")) ts (comes notes t (Word (codes "null")) rs a says whole) tt refl
+      scalar notes t _ rs _ a says is_null n is whole = held_pends c (Word (codes "null")) ts (comes notes t (Word (codes "null")) rs a says whole) refl refl
           (word_apart (codes "null")) (helds.Null values.Null) (λ start end. refl) e (refused rs values.Null is)
       scalar notes t _ rs _ a says (is_typed_null kind) n is whole =
           held_pends c (TypedNull kind) ts (comes notes t (TypedNull kind) rs a says whole) tt refl (null_apart kind) (helds.Null kind) (λ start end. refl) e

@@ -1,0 +1,271 @@
+-- What a token does to a reader that holds no values: what stages, ends, opens and closes.
+use Rattle.std.proofs.Common.{◌≡◌, ◌≢◌, ℕ, ◌+◌, ◌-◌, ◌<◌, List, [], ◌∷◌, ◌++◌, map, reverse, length, Bool, true, false, Option, Some, None, Result, Ok, Err, refl, ap, sym, subst, ◌∙◌, arith}
+use Rattle.std.specs.Prelude.{if◌then◌else◌, nat_le}
+use Rattle.ion_atoms.specs.declared.refusal.Reason.{Reason}
+use Rattle.ion_atoms.specs.declared.refusal.Reason.TheVariants as reasons
+use Rattle.ion_model.specs.Kinds.{is_table}
+use Rattle.ion_symtab.specs.Next.{next}
+use Rattle.ion_model.specs.declared.value.Value.{Value}
+use Rattle.ion_model.specs.declared.value.Payload.{Payload}
+use Rattle.ion_model.specs.declared.value.Payload.TheVariants as payloads
+use Rattle.ion_model.specs.declared.value.Payload.TheViews.{out-Payload}
+use Rattle.ion_model.specs.Measures.{annotated, field_of}
+use Rattle.ion_visiting.specs.declared.bracket.Bracket.{Bracket}
+use Rattle.ion_visiting.specs.declared.bracket.Bracket.TheVariants as brackets
+use Rattle.ion_visiting.specs.Events.{Event, part, annotation, name, opens, closes, events_of, layer_events}
+use Rattle.ion_text.specs.declared.state.Frame.{Frame}
+use Rattle.ion_text.specs.declared.state.Frame.TheVariants as frames
+use Rattle.ion_text.specs.declared.state.Listing.TheVariants as listings
+use Rattle.ion_text.specs.declared.state.Now.{Now}
+use Rattle.ion_text.specs.declared.state.Now.TheVariants as nows
+use Rattle.ion_text.specs.declared.state.Effect.{Effect as Turned}
+use Rattle.ion_text.specs.declared.state.Effect.TheVariants.{Goes, Gives, Late}
+use Rattle.ion_text.specs.declared.walk.TextWalk.{TextWalk}
+use Rattle.ion_text.specs.declared.walk.tables.TableFilter.{TableFilter}
+use Rattle.ion_text.specs.machine.Run.{is_top}
+use Rattle.ion_text.specs.machine.EachToken.{Setting, Spot, Symbols, Turn, goes, gives, refuses, at, ended, fresh, turned, within, on_comma, named}
+use Rattle.ion_text.specs.declared.walk.tables.Table.TheVariants as tables
+use Rattle.ion_text.specs.walk.Tables.{WasTold, Hears, heard, heard_by, table_by, table_of}
+use Rattle.ion_text.proofs.Filters.{table_told}
+use Rattle.ion_text.specs.walk.Holds.{AreAround, AreOpen, Does, DoesAlone, Holds, IsShape, behind_value, bracket_of, brackets_of, calm, has_notes, is_inside, open_brackets, reading_of, setting_of, spot_of, told, told_in}
+use Rattle.ion_text.proofs.Holding.{part_told, item_told, field_told}
+use Rattle.ion_text.proofs.Taking.{does_behind}
+
+-- 1. Where nothing is told.
+
+-- a reader of another stage, whose containers and annotations are those of before
+abbrev pub staged : TextWalk → Now → TextWalk
+staged r s = record {
+  alloc = r.alloc;
+  catalog = r.catalog;
+  limits = r.limits;
+  scanner = r.scanner;
+  recent = r.recent;
+  start = r.start;
+  context = r.context;
+  frames = r.frames;
+  noted = r.noted;
+  stage = s;
+  filter = r.filter;
+  awaited = r.awaited;
+  failed = r.failed;
+}
+
+pub stages : (r new : TextWalk) (fs : List Frame) (ss : Symbols) (s : Now) → new ≡ staged r s → calm s ≡ calm r.stage → Holds r fs ss
+    → DoesAlone (told fs ss) (goes (at r.start r.context fs ss s)) (Ok Goes) new
+stages r new fs ss s is same h =
+    subst (λ n. DoesAlone (told fs ss) (goes (at r.start r.context fs ss s)) (Ok Goes) n) (sym is)
+    (fs, ss, refl, (subst (λ n. IsShape (open_brackets r) r.noted n fs ss) (sym same) h.0, h.1), refl)
+
+-- 2. Where a value ends.
+
+-- at the top level
+pub top_ends : (E : List Frame → Value → Turn) (bs : List Bracket) (f : TableFilter) (result : Result Turned Reason) (new : TextWalk)
+    → is_inside bs ≡ false → ((v : Value) → WasTold f (events_of v) → DoesAlone (events_of v) (E [] v) result new)
+    → (fs : List Frame) (v : Value) → bs ≡ brackets_of fs → AreAround fs → WasTold f (told_in fs ++ events_of v)
+    → DoesAlone (told_in fs ++ events_of v) (E fs v) result new
+top_ends E bs f result new none at_top [] v same around told = at_top v told
+top_ends E bs f result new none at_top (x ∷ fs) v same around told = let inside = ap is_inside same in absurd cc
+
+-- a reader behind a value in an open container
+abbrev pub behind_in : TextWalk → Now → TextWalk
+behind_in r s = record {
+  alloc = r.alloc;
+  catalog = r.catalog;
+  limits = r.limits;
+  scanner = r.scanner;
+  recent = r.recent;
+  start = r.start;
+  context = r.context;
+  frames = r.frames;
+  noted = false;
+  stage = s;
+  filter = r.filter;
+  awaited = r.awaited;
+  failed = r.failed;
+}
+
+module _ (r : TextWalk) (end : ℕ) where
+  abbrev Ends : List Frame → Value → TextWalk → Type 0
+  Ends fs v new = DoesAlone (told_in fs ++ events_of v) (ended (setting_of r) (spot_of r end) fs v) (Ok Goes) new
+
+  ends_at : (f : Frame) (fs : List Frame) (v : Value) → open_brackets r ≡ brackets_of (f ∷ fs) → AreAround (f ∷ fs)
+      → WasTold r.filter (told_in (f ∷ fs) ++ events_of v) → Ends (f ∷ fs) v (behind_in r (behind_value (brackets_of (f ∷ fs))))
+  ends_at (frames.Items listings.List ss vs) fs v same around was =
+      let e = item_told listings.List fs ss vs v in (
+        frames.Items listings.List ss (vs ++ v ∷ []) ∷ fs,
+        [],
+        refl,
+        (record { frames = same; notes = refl; open_there = around }, subst (λ es. WasTold r.filter es) (sym e) was),
+        ap heard e,
+      )
+  ends_at (frames.Items listings.Sexp ss vs) fs v same around was =
+      let e = item_told listings.Sexp fs ss vs v in (
+        frames.Items listings.Sexp ss (vs ++ v ∷ []) ∷ fs,
+        [],
+        refl,
+        (record { frames = same; notes = refl; open_there = around }, subst (λ es. WasTold r.filter es) (sym e) was),
+        ap heard e,
+      )
+  ends_at (frames.Named ss ms s) fs v same around was =
+      let e = field_told fs ss ms s v in (
+        frames.Fields ss (ms ++ field_of s v ∷ []) ∷ fs,
+        [],
+        refl,
+        (record { frames = same; notes = refl; open_there = around }, subst (λ es. WasTold r.filter es) (sym e) was),
+        ap heard e,
+      )
+  ends_at (frames.Fields ss ms) fs v same around was = absurd around
+
+  -- in an open container
+  pub inner_ends : (new : TextWalk) → is_inside (open_brackets r) ≡ true → new ≡ behind_in r (behind_value (open_brackets r))
+      → (fs : List Frame) (v : Value) → open_brackets r ≡ brackets_of fs → AreAround fs → WasTold r.filter (told_in fs ++ events_of v) → Ends fs v new
+  inner_ends new some is [] v same around was = let none = ap is_inside same in absurd cc
+  inner_ends new some is (f ∷ fs) v same around was =
+      subst (λ n. Ends (f ∷ fs) v n) (sym (is ∙ ap (λ bs. behind_in r (behind_value bs)) same)) (ends_at f fs v same around was)
+
+-- 3. Where a value of the top level ends.
+
+-- a reader of the top level that gave a value
+abbrev pub given : TextWalk → TableFilter → TextWalk
+given r f = record {
+  alloc = r.alloc;
+  catalog = r.catalog;
+  limits = r.limits;
+  scanner = r.scanner;
+  recent = r.recent;
+  start = 0;
+  context = r.context;
+  frames = r.frames;
+  noted = r.noted;
+  stage = r.stage;
+  filter = f;
+  awaited = r.awaited;
+  failed = r.failed;
+}
+
+not_table : (v : Value) (b : Bool) → b ≡ is_table v → None ≡ (if b then Some v else None) → is_table v ≡ false
+not_table v true e n = absurd cc
+not_table v false e n = sym e
+
+a_table : (v t : Value) (b : Bool) → b ≡ is_table v → Some t ≡ (if b then Some v else None) → (is_table v ≡ true) × (t ≡ v)
+a_table v t true e n = (sym e, ap (value_or t) n) where
+  value_or : Value → Option Value → Value
+  value_or d None = d
+  value_or d (Some x) = x
+a_table v t false e n = absurd cc
+
+module _ (setting : Setting) (spot : Spot) (f : TableFilter) (new : TextWalk) (o : Option Value)
+    (none : open_brackets new ≡ []) (noted : new.noted ≡ false) (stage : new.stage ≡ nows.Ready) (start : new.start ≡ 0)
+    (fits : nat_le spot.end (spot.start + setting.limits.item) ≡ true)
+    (told_end : (v : Value) → WasTold f (events_of v) → (o ≡ table_of v) × WasTold new.filter []) where
+  holds_none : (v : Value) → WasTold f (events_of v) → Holds new [] []
+  holds_none v h = (
+    record { frames = none; notes = noted; open_there = subst (λ n. AreOpen [] [] (calm n)) (sym stage) tt },
+    (told_end v h).1,
+  )
+
+  fresh_reading : fresh new.context ≡ reading_of new [] []
+  fresh_reading = ap (λ x. at x new.context [] [] nows.Ready) (sym start) ∙ ap (λ x. at new.start new.context [] [] x) (sym stage)
+
+  pub gives_out : new.context ≡ spot.context → o ≡ None → (v : Value) → WasTold f (events_of v)
+      → DoesAlone (events_of v) (ended setting spot [] v) (Ok Gives) new
+  gives_out context is v h =
+      let no = not_table v (is_table v) refl (sym is ∙ (told_end v h).0) in (
+        v,
+        ap (λ b. if b then turned setting.limits.item spot.start spot.end (next spot.context v setting.catalog)
+            else within setting.limits.item spot.start spot.end (gives v (fresh spot.context))) no
+            ∙ (ap (λ b. if b then gives v (fresh spot.context) else refuses reasons.ItemTooLong) fits
+            ∙ ap (gives v) (ap fresh (sym context) ∙ fresh_reading)),
+        holds_none v h,
+        sym (ap (λ t. heard_by t (events_of v)) (table_told v ∙ ap (λ b. if b then tables.Yes else tables.No) no)),
+      )
+
+  pub table_out : (t : Value) → (is_table t ≡ true → next spot.context t setting.catalog ≡ Ok new.context) → o ≡ Some t
+      → (v : Value) → WasTold f (events_of v) → DoesAlone (events_of v) (ended setting spot [] v) (Ok Goes) new
+  table_out t applied is v h =
+      let yes = a_table v t (is_table v) refl (sym is ∙ (told_end v h).0) in
+      let led : next spot.context v setting.catalog ≡ Ok new.context =
+      ap (λ x. next spot.context x setting.catalog) (sym yes.1) ∙ applied (ap is_table yes.1 ∙ yes.0) in (
+        [],
+        [],
+        ap (λ b. if b then turned setting.limits.item spot.start spot.end (next spot.context v setting.catalog)
+            else within setting.limits.item spot.start spot.end (gives v (fresh spot.context))) yes.0
+            ∙ (ap (turned setting.limits.item spot.start spot.end) led
+            ∙ (ap (λ b. if b then goes (fresh new.context) else refuses reasons.ItemTooLong) fits ∙ ap goes fresh_reading)),
+        holds_none v h,
+        sym (ap (λ t. heard_by t (events_of v)) (table_told v ∙ ap (λ b. if b then tables.Yes else tables.No) yes.0)),
+      )
+
+-- 4. A part is told, and with it a value ends.
+
+module _ {V : Type 0} (leads : V → Event → V → Type 0) where
+  pub whole_does : (E : List Frame → Value → Turn) (r : TextWalk) (p : Payload) (g : TableFilter) (result : Result Turned Reason) (new : TextWalk) (a b : V)
+      → r.stage ≡ nows.Ready → layer_events (out-Payload p) ≡ part p ∷ []
+      → ((es : List Event) → WasTold r.filter es → WasTold g (es ++ part p ∷ []) × Hears leads (heard es) (heard (es ++ part p ∷ [])) a b)
+      → ((fs : List Frame) (v : Value) → open_brackets r ≡ brackets_of fs → AreAround fs → WasTold g (told_in fs ++ events_of v)
+      → DoesAlone (told_in fs ++ events_of v) (E fs v) result new)
+      → (fs : List Frame) (ss : Symbols) → Holds r fs ss → Does leads (told fs ss) (E fs (annotated ss p)) result new a b
+  whole_does E r p g result new a b ready leaf tells ends fs ss h =
+      let i = tells (told fs ss) h.1 in
+      let e = part_told fs ss p leaf in
+      does_behind leads (told fs ss) (told_in fs ++ events_of (annotated ss p)) (E fs (annotated ss p)) result new a b
+      (subst (λ w. Hears leads (heard (told fs ss)) (heard w) a b) e i.1)
+      (ends fs (annotated ss p) h.0.frames (subst (λ n. AreOpen fs ss (calm n)) ready h.0.open_there) (subst (λ w. WasTold g w) e i.0))
+
+-- 5. What a token does, where this was expected.
+
+calm_twice : (now : Now) → calm (calm now) ≡ calm now
+calm_twice nows.Ready = refl
+calm_twice (nows.Pending h end) = refl
+calm_twice (nows.Long w end) = refl
+calm_twice nows.After = refl
+calm_twice nows.Name = refl
+calm_twice (nows.LongName w) = refl
+calm_twice (nows.Keyed s) = refl
+
+-- a reader in which nothing waits any more stands for what it stood for
+pub holds_calm : (r mid : TextWalk) → mid ≡ staged r (calm r.stage) → (fs : List Frame) (ss : Symbols) → Holds r fs ss → Holds mid fs ss
+holds_calm r mid is fs ss h = subst (λ w. Holds w fs ss) (sym is)
+    (subst (λ n. IsShape (open_brackets r) r.noted n fs ss) (sym (calm_twice r.stage)) h.0, h.1)
+
+-- behind an element or a field, and where a name may come, there are no annotations
+abbrev pub IsBare : Now → Type 0
+IsBare nows.After = Unit {0}
+IsBare nows.Name = Unit {0}
+IsBare _ = ⊥
+
+pub no_notes : (fs : List Frame) (ss : Symbols) (now : Now) → IsBare now → AreOpen fs ss now → ss ≡ []
+no_notes fs [] now b h = refl
+no_notes [] (s ∷ ss) nows.After b h = absurd h
+no_notes (frames.Items listings.List qs vs ∷ fs) (s ∷ ss) nows.After b h = absurd h
+no_notes (frames.Items listings.Sexp qs vs ∷ fs) (s ∷ ss) nows.After b h = absurd h
+no_notes (frames.Fields qs ms ∷ fs) (s ∷ ss) nows.After b h = absurd h
+no_notes (frames.Named qs ms n ∷ fs) (s ∷ ss) nows.After b h = absurd h
+no_notes [] (s ∷ ss) nows.Name b h = absurd h
+no_notes (frames.Items listings.List qs vs ∷ fs) (s ∷ ss) nows.Name b h = absurd h
+no_notes (frames.Items listings.Sexp qs vs ∷ fs) (s ∷ ss) nows.Name b h = absurd h
+no_notes (frames.Fields qs ms ∷ fs) (s ∷ ss) nows.Name b h = absurd h
+no_notes (frames.Named qs ms n ∷ fs) (s ∷ ss) nows.Name b h = absurd h
+no_notes fs (s ∷ ss) nows.Ready b h = absurd b
+no_notes fs (s ∷ ss) (nows.Pending k end) b h = absurd b
+no_notes fs (s ∷ ss) (nows.Long w end) b h = absurd b
+no_notes fs (s ∷ ss) (nows.LongName w) b h = absurd b
+no_notes fs (s ∷ ss) (nows.Keyed k) b h = absurd b
+
+-- what a method does where there are no annotations, it does for whatever the reader stood for
+pub bare_does : (P : List Frame → Symbols → Type 0) (r mid : TextWalk) → mid ≡ staged r (calm r.stage) → IsBare (calm r.stage)
+    → ((fs : List Frame) → Holds mid fs [] → P fs []) → (fs : List Frame) (ss : Symbols) → Holds r fs ss → P fs ss
+bare_does P r mid is bare does fs ss h =
+    let none = no_notes fs ss (calm r.stage) bare h.0.open_there in
+    subst (λ w. P fs w) (sym none) (does fs (subst (λ w. Holds mid fs w) none (holds_calm r mid is fs ss h)))
+
+-- no container is open, and no annotation was read
+
+pub top_alone : (fs : List Frame) → is_top fs ≡ true → fs ≡ []
+top_alone [] h = refl
+top_alone (f ∷ fs) h = absurd cc
+
+pub bare_alone : (ss : Symbols) → has_notes ss ≡ false → ss ≡ []
+bare_alone [] h = refl
+bare_alone (s ∷ ss) h = absurd cc

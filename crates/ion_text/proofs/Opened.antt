@@ -1,0 +1,340 @@
+-- What an annotation, a name, an open and a close do to a reader that holds no values.
+use Rattle.std.proofs.Common.{◌≡◌, ◌≢◌, ℕ, List, [], ◌∷◌, ◌++◌, map, reverse, length, Bool, true, false, Option, Some, None, Result, Ok, Err, refl, ap, sym, subst, ◌∙◌, arith}
+use Rattle.std.specs.Prelude.{if◌then◌else◌, nat_lt, ◌<◌, IsSome}
+use Rattle.std.specs.Option.{option_to_list}
+use Rattle.std.proofs.lemmas.List.{reverse-append}
+use Rattle.ion_atoms.specs.declared.refusal.Reason.{Reason}
+use Rattle.ion_atoms.specs.declared.refusal.Reason.TheVariants as reasons
+use Rattle.ion_model.specs.declared.value.Value.{Value}
+use Rattle.ion_model.specs.declared.value.Payload.TheVariants as payloads
+use Rattle.ion_model.specs.Measures.{annotated}
+use Rattle.ion_visiting.specs.declared.bracket.Bracket.{Bracket}
+use Rattle.ion_visiting.specs.declared.bracket.Bracket.TheVariants as brackets
+use Rattle.ion_visiting.specs.Events.{Event, annotation, name, opens, closes, events_of}
+use Rattle.ion_text.specs.declared.state.Frame.{Frame}
+use Rattle.ion_text.specs.declared.state.Frame.TheVariants as frames
+use Rattle.ion_text.specs.declared.state.Listing.TheVariants as listings
+use Rattle.ion_text.specs.declared.state.Now.{Now}
+use Rattle.ion_text.specs.declared.state.Now.TheVariants as nows
+use Rattle.ion_text.specs.declared.state.Effect.{Effect as Turned}
+use Rattle.ion_text.specs.declared.state.Effect.TheVariants.{Goes, Gives, Late}
+use Rattle.ion_text.specs.declared.walk.TextWalk.{TextWalk}
+use Rattle.ion_text.specs.declared.walk.tables.TableFilter.{TableFilter}
+use Rattle.ion_text.specs.machine.EachToken.{Setting, Spot, Reading, Symbols, Turn, first_now, goes, refuses, late, at, ended, opened, opening, deeper, beyond_depth, closed, on_comma, named, unexpected}
+use Rattle.ion_symtab.specs.Slots.{Slot}
+use Rattle.ion_text.specs.walk.Tables.{WasTold, Hears, Tells, heard, is_fields}
+use Rattle.ion_text.specs.walk.Holds.{AreAround, AreOpen, Does, DoesAlone, Enters, Holds, IsShape, MayClose, WentOn, bracket_of, brackets_of, behind_comma, calm, closes_in, has_notes, is_same, open_brackets, reading_of, setting_of, spot_of, told, told_in}
+use Rattle.ion_text.proofs.Holding.{note_told, open_told, list_told, sexp_told, fields_told, name_told}
+use Rattle.ion_text.proofs.Taking.{does_behind}
+use Rattle.ion_text.proofs.Ended.{staged}
+
+-- 1. An open.
+
+bracket_opened : (b : Bracket) (ss : Symbols) → bracket_of (opened b ss) ≡ b
+bracket_opened brackets.List ss = refl
+bracket_opened brackets.Sexp ss = refl
+bracket_opened brackets.Fields ss = refl
+
+opened_there : (b : Bracket) (fs : List Frame) (ss : Symbols) → AreAround fs → AreOpen (opened b ss ∷ fs) [] (calm (first_now b))
+opened_there brackets.List fs ss h = h
+opened_there brackets.Sexp fs ss h = h
+opened_there brackets.Fields fs ss h = h
+
+-- a bracket is pushed behind those that were open
+pushed : (items : List Bracket) (b : Bracket) (fs : List Frame) (ss : Symbols) → reverse items ≡ brackets_of fs
+    → reverse (items ++ b ∷ []) ≡ brackets_of (opened b ss ∷ fs)
+pushed items b fs ss e =
+    reverse-append items (b ∷ []) ∙ (ap (λ bs. b ∷ bs) e ∙ ap (λ x. x ∷ brackets_of fs) (sym (bracket_opened b ss)))
+
+pub entered : {V : Type 0} (leads : V → Event → V → Type 0) (r new : TextWalk) (b : Bracket) (a z : V) → r.stage ≡ nows.Ready
+    → new.frames.items ≡ r.frames.items ++ b ∷ [] → new.noted ≡ false → new.stage ≡ first_now b → new.start ≡ r.start → new.context ≡ r.context
+    → Tells leads (opens b) r.filter new.filter a z
+    → (fs : List Frame) (ss : Symbols) → Holds r fs ss → Enters leads b r new fs ss a z
+entered leads r new b a z ready items noted stage start context tells fs ss h = record {
+  went = record {
+    holds = (
+      record {
+        frames = ap (λ (w : List Bracket). reverse w) items ∙ pushed r.frames.items b fs ss h.0.frames;
+        notes = noted;
+        open_there = subst (λ n. AreOpen (opened b ss ∷ fs) [] (calm n)) (sym stage)
+            (opened_there b fs ss (subst (λ n. AreOpen fs ss (calm n)) ready h.0.open_there));
+      },
+      subst (λ es. WasTold new.filter es) (open_told b fs ss) (tells (told fs ss) h.1).0,
+    );
+    hears = subst (λ es. Hears leads (heard (told fs ss)) (heard es) a z) (open_told b fs ss) (tells (told fs ss) h.1).1;
+  };
+  reading =
+      ap (λ s. at s r.context (opened b ss ∷ fs) [] (first_now b)) (sym start)
+      ∙ (ap (λ c. at new.start c (opened b ss ∷ fs) [] (first_now b)) (sym context)
+      ∙ ap (λ n. at new.start new.context (opened b ss ∷ fs) [] n) (sym stage));
+}
+
+module _ (b : Bracket) (depth start : ℕ) (c : List Slot) (fs : List Frame) (ss : Symbols) where
+  -- the limit on depth admits it
+  pub opens_goes : nat_lt (length fs) depth ≡ true → opening b depth start c fs ss ≡ goes (at start c (opened b ss ∷ fs) [] (first_now b))
+  opens_goes admits = ap (λ x. if x then goes (at start c (opened b ss ∷ fs) [] (first_now b))
+      else beyond_depth b (at start c (opened b ss ∷ fs) [] (first_now b))) admits
+
+  -- or it doesn't
+  pub opens_beyond : nat_lt (length fs) depth ≡ false → opening b depth start c fs ss ≡ beyond_depth b (at start c (opened b ss ∷ fs) [] (first_now b))
+  opens_beyond admits = ap (λ x. if x then goes (at start c (opened b ss ∷ fs) [] (first_now b))
+      else beyond_depth b (at start c (opened b ss ∷ fs) [] (first_now b))) admits
+
+pub beyond_struct : (b : Bracket) (q : Reading) → is_fields b ≡ true → beyond_depth b q ≡ late reasons.Depth q
+beyond_struct brackets.Fields q h = refl
+beyond_struct brackets.List q h = absurd cc
+beyond_struct brackets.Sexp q h = absurd cc
+
+pub beyond_items : (b : Bracket) (q : Reading) → is_fields b ≡ false → beyond_depth b q ≡ refuses reasons.Depth
+beyond_items brackets.Fields q h = absurd cc
+beyond_items brackets.List q h = refl
+beyond_items brackets.Sexp q h = refl
+
+-- 2. An annotation.
+
+noted_some : (ss : Symbols) (s : _) → true ≡ has_notes (ss ++ s ∷ [])
+noted_some [] s = refl
+noted_some (t ∷ ss) s = refl
+
+pub notes_went : {V : Type 0} (leads : V → Event → V → Type 0) (r new : TextWalk) (s : _) (a z : V) → r.stage ≡ nows.Ready
+    → new.frames ≡ r.frames → new.noted ≡ true → new.stage ≡ r.stage
+    → ((es : List Event) → WasTold r.filter es
+    → WasTold new.filter (es ++ annotation s ∷ []) × Hears leads (heard es) (heard (es ++ annotation s ∷ [])) a z)
+    → (fs : List Frame) (ss : Symbols) → Holds r fs ss → WentOn leads (told fs ss) new fs (ss ++ s ∷ []) a z
+notes_went leads r new s a z ready same noted stage tells fs ss h =
+    let i = tells (told fs ss) h.1 in
+    let e = note_told fs ss s in
+    record {
+      holds = (
+        record {
+          frames = ap (λ f. reverse f.items) same ∙ h.0.frames;
+          notes = noted ∙ noted_some ss s;
+          open_there = subst (λ n. AreOpen fs (ss ++ s ∷ []) (calm n)) (sym (stage ∙ ready)) (subst (λ n. AreOpen fs ss (calm n)) ready h.0.open_there);
+        },
+        subst (λ es. WasTold new.filter es) e i.0,
+      );
+      hears = subst (λ es. Hears leads (heard (told fs ss)) (heard es) a z) e i.1;
+    }
+
+-- 3. The name of a field.
+
+pub names_does : {V : Type 0} (leads : V → Event → V → Type 0) (r new : TextWalk) (s : _) (a z : V) → r.stage ≡ nows.Name
+    → new.frames ≡ r.frames → new.noted ≡ r.noted → new.stage ≡ nows.Ready → new.start ≡ r.start → new.context ≡ r.context
+    → ((es : List Event) → WasTold r.filter es → WasTold new.filter (es ++ name s ∷ []) × Hears leads (heard es) (heard (es ++ name s ∷ [])) a z)
+    → (fs : List Frame) → Holds r fs [] → Does leads (told fs []) (named r.start r.context fs s) (Ok Goes) new a z
+names_does leads r new s a z stage same noted now start context tells fs h = by fs h (subst (λ n. AreOpen fs [] (calm n)) stage h.0.open_there)
+  where
+    by : (fs : List Frame) → Holds r fs [] → AreOpen fs [] nows.Name → Does leads (told fs []) (named r.start r.context fs s) (Ok Goes) new a z
+    by [] h o = absurd o
+    by (frames.Items listing ss vs ∷ fs) h o = absurd o
+    by (frames.Named ss ms t ∷ fs) h o = absurd o
+    by (frames.Fields ss ms ∷ fs) h o =
+        let i = tells (told (frames.Fields ss ms ∷ fs) []) h.1 in
+        let e = name_told fs ss ms s in (
+          frames.Named ss ms s ∷ fs,
+          [],
+          ap (λ x. goes (at x r.context (frames.Named ss ms s ∷ fs) [] nows.Ready)) (sym start)
+              ∙ (ap (λ x. goes (at new.start x (frames.Named ss ms s ∷ fs) [] nows.Ready)) (sym context)
+              ∙ ap (λ x. goes (at new.start new.context (frames.Named ss ms s ∷ fs) [] x)) (sym now)),
+          record {
+            holds = (
+              record {
+                frames = ap (λ f. reverse f.items) same ∙ h.0.frames;
+                notes = noted ∙ h.0.notes;
+                open_there = subst (λ n. AreOpen (frames.Named ss ms s ∷ fs) [] (calm n)) (sym now) o;
+              },
+              subst (λ es. WasTold new.filter es) e i.0,
+            );
+            hears = subst (λ es. Hears leads (heard (told (frames.Fields ss ms ∷ fs) [])) (heard es) a z) e i.1;
+          },
+        )
+
+-- 4. A close.
+
+-- a container of these brackets closes, where this may come next: the frames of the model are its frame and those around it
+module _ {V : Type 0} (leads : V → Event → V → Type 0) (setting : Setting) (spot : Spot) (r : TextWalk) (b : Bracket) (outer : List Bracket)
+    (g : TableFilter) (result : Result Turned Reason) (new : TextWalk) (a z : V)
+    (may : MayClose b (calm r.stage)) (open_there : open_brackets r ≡ b ∷ outer)
+    (tells : (es : List Event) → WasTold r.filter es → WasTold g (es ++ closes b ∷ []) × Hears leads (heard es) (heard (es ++ closes b ∷ [])) a z)
+    (ends : (fs : List Frame) (v : Value) → outer ≡ brackets_of fs → AreAround fs → WasTold g (told_in fs ++ events_of v)
+    → DoesAlone (told_in fs ++ events_of v) (ended setting spot fs v) result new) where
+  abbrev rest_of : List Bracket → List Bracket
+  rest_of [] = []
+  rest_of (x ∷ xs) = xs
+
+  abbrev first_of : List Bracket → Bracket
+  first_of [] = b
+  first_of (x ∷ xs) = x
+
+  whole : (fs before : List Frame) (v : Value) → WasTold r.filter (told before []) → outer ≡ brackets_of fs → AreAround fs
+      → told before [] ++ closes b ∷ [] ≡ told_in fs ++ events_of v → Does leads (told before []) (ended setting spot fs v) result new a z
+  whole fs before v was same around e =
+      let i = tells (told before []) was in
+      does_behind leads (told before []) (told_in fs ++ events_of v) (ended setting spot fs v) result new a z
+      (subst (λ es. Hears leads (heard (told before [])) (heard es) a z) e i.1) (ends fs v same around (subst (λ es. WasTold g es) e i.0))
+
+  -- nothing else may be open there
+  abbrev Around : List Frame → Now → Type 0
+  Around fs now = AreOpen fs [] now
+
+  by : (b' : Bracket) → b' ≡ b → (f : Frame) (fs : List Frame) (now : Now) → b ≡ bracket_of f → outer ≡ brackets_of fs → MayClose b' now
+      → AreOpen (f ∷ fs) [] now → WasTold r.filter (told (f ∷ fs) [])
+      → Does leads (told (f ∷ fs) []) (closed b' setting spot (f ∷ fs)) result new a z
+  by brackets.List e (frames.Items listings.List ss vs) fs now i same m o was =
+      whole fs (frames.Items listings.List ss vs ∷ fs) (annotated ss (payloads.List vs)) was same (items_around now o)
+      (subst (λ x. told (frames.Items listings.List ss vs ∷ fs) [] ++ closes x ∷ [] ≡ told_in fs ++ events_of (annotated ss (payloads.List vs))) e
+      (list_told fs ss vs))
+    where
+      items_around : (now : Now) → AreOpen (frames.Items listings.List ss vs ∷ fs) [] now → AreAround fs
+      items_around nows.Ready o = o
+      items_around nows.After o = o
+      items_around nows.Name o = absurd o
+      items_around (nows.Pending h end) o = absurd o
+      items_around (nows.Long w end) o = absurd o
+      items_around (nows.LongName w) o = absurd o
+      items_around (nows.Keyed s) o = absurd o
+  by brackets.Sexp e (frames.Items listings.Sexp ss vs) fs now i same m o was =
+      whole fs (frames.Items listings.Sexp ss vs ∷ fs) (annotated ss (payloads.Sexp vs)) was same (items_around now o)
+      (subst (λ x. told (frames.Items listings.Sexp ss vs ∷ fs) [] ++ closes x ∷ [] ≡ told_in fs ++ events_of (annotated ss (payloads.Sexp vs))) e
+      (sexp_told fs ss vs))
+    where
+      items_around : (now : Now) → AreOpen (frames.Items listings.Sexp ss vs ∷ fs) [] now → AreAround fs
+      items_around nows.Ready o = o
+      items_around nows.After o = absurd o
+      items_around nows.Name o = absurd o
+      items_around (nows.Pending h end) o = absurd o
+      items_around (nows.Long w end) o = absurd o
+      items_around (nows.LongName w) o = absurd o
+      items_around (nows.Keyed s) o = absurd o
+  by brackets.Fields e (frames.Fields ss ms) fs now i same m o was =
+      whole fs (frames.Fields ss ms ∷ fs) (annotated ss (payloads.Fields ms)) was same (fields_around now o)
+      (subst (λ x. told (frames.Fields ss ms ∷ fs) [] ++ closes x ∷ [] ≡ told_in fs ++ events_of (annotated ss (payloads.Fields ms))) e
+      (fields_told fs ss ms))
+    where
+      fields_around : (now : Now) → AreOpen (frames.Fields ss ms ∷ fs) [] now → AreAround fs
+      fields_around nows.Ready o = absurd o
+      fields_around nows.After o = o
+      fields_around nows.Name o = o
+      fields_around (nows.Pending h end) o = absurd o
+      fields_around (nows.Long w end) o = absurd o
+      fields_around (nows.LongName w) o = absurd o
+      fields_around (nows.Keyed s) o = absurd o
+  by brackets.Fields e (frames.Named ss ms s) fs now i same m o was = absurd (nowhere now m o)
+    where
+      nowhere : (now : Now) → MayClose brackets.Fields now → AreOpen (frames.Named ss ms s ∷ fs) [] now → ⊥
+      nowhere nows.Ready m o = m
+      nowhere nows.After m o = o
+      nowhere nows.Name m o = o
+      nowhere (nows.Pending h end) m o = o
+      nowhere (nows.Long w end) m o = o
+      nowhere (nows.LongName w) m o = o
+      nowhere (nows.Keyed s) m o = o
+  by brackets.List e (frames.Items listings.Sexp ss vs) fs now i same m o was = absurd cc
+  by brackets.List e (frames.Fields ss ms) fs now i same m o was = absurd cc
+  by brackets.List e (frames.Named ss ms s) fs now i same m o was = absurd cc
+  by brackets.Sexp e (frames.Items listings.List ss vs) fs now i same m o was = absurd cc
+  by brackets.Sexp e (frames.Fields ss ms) fs now i same m o was = absurd cc
+  by brackets.Sexp e (frames.Named ss ms s) fs now i same m o was = absurd cc
+  by brackets.Fields e (frames.Items listings.List ss vs) fs now i same m o was = absurd cc
+  by brackets.Fields e (frames.Items listings.Sexp ss vs) fs now i same m o was = absurd cc
+
+  pub closes_does : (fs : List Frame) → Holds r fs [] → Does leads (told fs []) (closed b setting spot fs) result new a z
+  closes_does [] h = let none = open_there in let e = h.0.frames in absurd cc
+  closes_does (f ∷ fs) h =
+      by b refl f fs (calm r.stage) (ap first_of (sym open_there ∙ h.0.frames)) (ap rest_of (sym open_there ∙ h.0.frames)) may h.0.open_there h.1
+
+-- nothing is open that could close so
+abbrev pub IsOther : Bracket → List Bracket → Type 0
+IsOther b [] = Unit {0}
+IsOther b (x ∷ xs) = x ≢ b
+
+pub closes_refused : (setting : Setting) (spot : Spot) (b : Bracket) (bs : List Bracket) (fs : List Frame) → bs ≡ brackets_of fs → IsOther b bs
+    → closed b setting spot fs ≡ unexpected
+closes_refused setting spot b bs fs e other = by b fs (subst (λ x. IsOther b x) e other)
+  where
+    by : (b : Bracket) (fs : List Frame) → IsOther b (brackets_of fs) → closed b setting spot fs ≡ unexpected
+    by brackets.List [] o = refl
+    by brackets.Sexp [] o = refl
+    by brackets.Fields [] o = refl
+    by brackets.List (frames.Items listings.List ss vs ∷ fs) o = absurd (o refl)
+    by brackets.List (frames.Items listings.Sexp ss vs ∷ fs) o = refl
+    by brackets.List (frames.Fields ss ms ∷ fs) o = refl
+    by brackets.List (frames.Named ss ms s ∷ fs) o = refl
+    by brackets.Sexp (frames.Items listings.List ss vs ∷ fs) o = refl
+    by brackets.Sexp (frames.Items listings.Sexp ss vs ∷ fs) o = absurd (o refl)
+    by brackets.Sexp (frames.Fields ss ms ∷ fs) o = refl
+    by brackets.Sexp (frames.Named ss ms s ∷ fs) o = refl
+    by brackets.Fields (frames.Items listings.List ss vs ∷ fs) o = refl
+    by brackets.Fields (frames.Items listings.Sexp ss vs ∷ fs) o = refl
+    by brackets.Fields (frames.Fields ss ms ∷ fs) o = absurd (o refl)
+    by brackets.Fields (frames.Named ss ms s ∷ fs) o = absurd (o refl)
+
+same_true : (b x : Bracket) → is_same b x ≡ true → b ≡ x
+same_true brackets.List brackets.List h = refl
+same_true brackets.Sexp brackets.Sexp h = refl
+same_true brackets.Fields brackets.Fields h = refl
+same_true brackets.List brackets.Sexp h = absurd cc
+same_true brackets.List brackets.Fields h = absurd cc
+same_true brackets.Sexp brackets.List h = absurd cc
+same_true brackets.Sexp brackets.Fields h = absurd cc
+same_true brackets.Fields brackets.List h = absurd cc
+same_true brackets.Fields brackets.Sexp h = absurd cc
+
+-- the innermost container that closes was the last in memory
+pub popped : (b : Bracket) (items rest : List Bracket) (o : Option Bracket) → items ≡ rest ++ option_to_list o → (0 < length items → IsSome o)
+    → closes_in b (reverse items) ≡ true → reverse items ≡ b ∷ reverse rest
+popped b items rest (Some x) e some h =
+    let whole : reverse items ≡ x ∷ reverse rest = ap (λ (w : List Bracket). reverse w) e ∙ reverse-append rest (x ∷ []) in
+    whole ∙ ap (λ y. y ∷ reverse rest) (sym (same_true b x (ap (closes_in b) (sym whole) ∙ h)))
+popped b [] rest None e some h = absurd cc
+popped b (y ∷ items) rest None e some h = let s = some (omega arith) in absurd cc
+
+same_refl : (b : Bracket) → is_same b b ≡ true
+same_refl brackets.List = refl
+same_refl brackets.Sexp = refl
+same_refl brackets.Fields = refl
+
+other_first : (b x : Bracket) → is_same b x ≡ false → x ≢ b
+other_first b x h e = let s = ap (is_same b) e ∙ same_refl b in absurd cc
+
+pub none_closes : (b : Bracket) (bs : List Bracket) → closes_in b bs ≡ false → IsOther b bs
+none_closes b [] h = tt
+none_closes b (x ∷ xs) h = other_first b x h
+
+-- 5. A comma.
+
+pub comma_goes : (r new : TextWalk) (s : Now) → behind_comma (open_brackets r) ≡ Some s → new ≡ staged r s → r.stage ≡ nows.After
+    → (fs : List Frame) → Holds r fs [] → DoesAlone (told fs []) (on_comma r.start r.context fs) (Ok Goes) new
+comma_goes r new s behind is stage fs h =
+    subst (λ n. DoesAlone (told fs []) (on_comma r.start r.context fs) (Ok Goes) n) (sym is)
+    (by fs h (subst (λ n. AreOpen fs [] (calm n)) stage h.0.open_there) (ap behind_comma (sym h.0.frames) ∙ behind))
+  where
+    now_in : Now → Option Now → Now
+    now_in d None = d
+    now_in d (Some n) = n
+
+    by : (fs : List Frame) → Holds r fs [] → AreOpen fs [] nows.After → behind_comma (brackets_of fs) ≡ Some s
+        → DoesAlone (told fs []) (on_comma r.start r.context fs) (Ok Goes) (staged r s)
+    by [] h o e = absurd o
+    by (frames.Items listings.Sexp ss vs ∷ fs) h o e = absurd o
+    by (frames.Named ss ms t ∷ fs) h o e = absurd o
+    by (frames.Items listings.List ss vs ∷ fs) h o e =
+        let now : nows.Ready ≡ s = ap (now_in s) e in
+        subst (λ n. DoesAlone (told (frames.Items listings.List ss vs ∷ fs) []) (on_comma r.start r.context (frames.Items listings.List ss vs ∷ fs))
+        (Ok Goes) (staged r n)) now
+        (frames.Items listings.List ss vs ∷ fs, [], refl, (record { frames = h.0.frames; notes = h.0.notes; open_there = o }, h.1), refl)
+    by (frames.Fields ss ms ∷ fs) h o e =
+        let now : nows.Name ≡ s = ap (now_in s) e in
+        subst (λ n. DoesAlone (told (frames.Fields ss ms ∷ fs) []) (on_comma r.start r.context (frames.Fields ss ms ∷ fs)) (Ok Goes) (staged r n)) now
+        (frames.Fields ss ms ∷ fs, [], refl, (record { frames = h.0.frames; notes = h.0.notes; open_there = o }, h.1), refl)
+
+pub comma_refused : (r : TextWalk) → behind_comma (open_brackets r) ≡ None → r.stage ≡ nows.After
+    → (fs : List Frame) → Holds r fs [] → on_comma r.start r.context fs ≡ unexpected
+comma_refused r none stage fs h = by fs (subst (λ n. AreOpen fs [] (calm n)) stage h.0.open_there) (ap behind_comma (sym h.0.frames) ∙ none)
+  where
+    by : (fs : List Frame) → AreOpen fs [] nows.After → behind_comma (brackets_of fs) ≡ None → on_comma r.start r.context fs ≡ unexpected
+    by [] o e = absurd o
+    by (frames.Items listings.Sexp ss vs ∷ fs) o e = absurd o
+    by (frames.Named ss ms t ∷ fs) o e = absurd o
+    by (frames.Items listings.List ss vs ∷ fs) o e = absurd cc
+    by (frames.Fields ss ms ∷ fs) o e = absurd cc

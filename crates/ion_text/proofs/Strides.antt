@@ -1,0 +1,689 @@
+-- Tokens that a reader without values takes up at once, one behind the other.
+use Rattle.std.proofs.Common.{◌≡◌, ◌≢◌, ℕ, suc, ◌+◌, ◌-◌, ◌<◌, ◌≤◌, Bool, true, false, List, [], ◌∷◌, ◌++◌, length, take, drop, get_or, Option, Some, Result, Ok, Err, refl, ap, sym, ◌∙◌, subst, arith, length-drop, ◌⊎◌, inl, inr}
+use Rattle.std.specs.Prelude.{if◌then◌else◌, nat_lt}
+use Rattle.std.proofs.lemmas.Bool.Decides.{nat_tests}
+use Rattle.std.proofs.lemmas.Grind.{common_steps}
+use Rattle.std.proofs.lemmas.List.{length-map, length-reverse, length-take}
+use Rattle.ion_atoms.specs.declared.refusal.Reason.{Reason}
+use Rattle.ion_atoms.specs.declared.refusal.Reason.TheVariants.{Memory}
+use Rattle.ion_model.specs.declared.value.Value.{Value}
+use Rattle.ion_model.specs.declared.value.Payload.{Payload}
+use Rattle.ion_model.specs.declared.value.Payload.TheVariants as payloads
+use Rattle.ion_model.specs.Measures.{annotated}
+use Rattle.ion_symtab.specs.declared.limits.Limits.{Limits}
+use Rattle.ion_symtab.specs.declared.catalog.Catalog.{Catalog}
+use Rattle.ion_symtab.specs.Slots.{Slot}
+use Rattle.ion_scalar.specs.declared.number.Number.{Number}
+use Rattle.ion_tokens.specs.Bodies.{Content, Mark', Number'}
+use Rattle.ion_tokens.specs.Places.{is_name}
+use Rattle.ion_tokens.specs.declared.mode.Place.{Place}
+use Rattle.ion_tokens.specs.declared.mode.Place.TheVariants as places
+use Rattle.ion_tokens.specs.declared.mode.Mark.TheVariants as marks
+use Rattle.ion_tokens.specs.declared.token_reader.FoundToken.{FoundToken}
+use Rattle.ion_tokens.specs.declared.mode.TokenKind.{TokenKind}
+use Rattle.ion_tokens.specs.declared.mode.TokenKind.TheVariants as kinds
+use Rattle.ion_tokens.specs.declared.plain_tokens.Rest.{Rest}
+use Rattle.ion_tokens.specs.machine.Rests.{resting, past_blank, past_token, lexeme_at, before_end, IsPassed, IsFound, RestsBehind}
+use Rattle.ion_tokens.specs.machine.Said.{said}
+use Rattle.ion_tokens.specs.machine.Views.{scanned}
+use Rattle.ion_tokens.specs.declared.scanner.Scanner.{Scanner}
+use Rattle.ion_tokens.proofs.runs.WholeTokens.{comma_found}
+use Rattle.ion_visiting.specs.declared.bracket.Bracket.{Bracket}
+use Rattle.ion_visiting.specs.declared.bracket.Bracket.TheVariants as brackets
+use Rattle.ion_visiting.specs.Events.{Event}
+use Rattle.ion_visiting.specs.Parts.{number_payload}
+use Rattle.ion_text.specs.declared.reader.finders.Scalar.{Scalar}
+use Rattle.ion_text.specs.declared.state.Frame.{Frame}
+use Rattle.ion_text.specs.declared.state.Frame.TheVariants as frames
+use Rattle.ion_text.specs.declared.state.Listing.TheVariants as listings
+use Rattle.ion_text.specs.declared.state.Now.{Now}
+use Rattle.ion_text.specs.declared.state.Now.TheVariants as nows
+use Rattle.ion_text.specs.declared.state.Effect.{Effect as Turned}
+use Rattle.ion_text.specs.declared.state.Effect.TheVariants.{Goes}
+use Rattle.ion_text.specs.declared.walk.TextWalk.{TextWalk}
+use Rattle.ion_text.specs.laws.reading.Brackets.{open_turns}
+use Rattle.ion_text.specs.machine.AtOnce.{Passes, IsStill}
+use Rattle.ion_text.specs.machine.EachToken.{Setting, Spot, under, spot_at, Reading, Symbols, Turn, at, beyond_depth, begun_at, closed, ended, first_now, goes, named, on_comma, on_ready, opened, opening, place, place_in, turn}
+use Rattle.ion_text.specs.machine.FrontTokens.{ends_symbol, held_of, BeginsName, BeginsValue, EndsAtOnce, IsValue, Names, Pays}
+use Rattle.ion_text.specs.visiting.Walks.{FoundNumber, FoundPart}
+use Rattle.ion_text.specs.machine.LongStrings.{LongThere}
+use Rattle.ion_text.specs.machine.Walked.{behind_note, FoundNote}
+use Rattle.ion_text.specs.machine.Nested.{close_mark, close_octet, closes, open_mark, OpensAt}
+use Rattle.ion_text.specs.machine.Run.{State, is_top, token_of, with_scan}
+use Rattle.ion_text.specs.machine.Views.{IsCalm}
+use Rattle.ion_text.specs.walk.Tables.{Hears, heard}
+use Rattle.ion_text.specs.walk.Holds.{AreAround, AreOpen, Does, DoesAlone, Holds, SameSetting, WentOn, bracket_of, brackets_of, calm, open_brackets, reading_of, told}
+use Rattle.ion_text.specs.walk.Strides.{Ahead, resting_at, Strides, Strode, StrodeFrom, StridesBy}
+use Rattle.ion_text.proofs.Arms.{StaysIn, after_turns, blank_used, comma_stays, ended_stays, mark_says, named_stays, ready_turns, went}
+use Rattle.ion_text.proofs.Filters.{hears_both, hears_none}
+use Rattle.ion_text.proofs.Taking.{does_alone}
+use Rattle.ion_text.proofs.Nested.{close_found, close_stays, closing, is_open_left, open_found, opened_stays}
+use Rattle.ion_text.proofs.Passing.{inner_notices, passes_blank, passes_none, passes_on}
+use Rattle.ion_text.proofs.Striding.{still_settles}
+use Rattle.ion_text.proofs.Symbols.{held_in, name_passes, symbol_passes}
+use Rattle.ion_text.proofs.LongStrings.{settled_on}
+use Rattle.ion_text.proofs.Tops.{any_blank, begun_more, note_leads, top_open}
+use Rattle.ion_text.proofs.Walking.{open_goes, token_passes}
+
+-- what no token changed behind two of them
+pub settings_on : (a b c : TextWalk) → SameSetting a b → SameSetting b c → SameSetting a c
+settings_on a b c h k = record {
+  catalog = k.catalog ∙ h.catalog;
+  limits = k.limits ∙ h.limits;
+  scanner = k.scanner ∙ h.scanner;
+  awaited = k.awaited ∙ h.awaited;
+  failed = k.failed ∙ h.failed;
+}
+
+pub settings_none : (a : TextWalk) → SameSetting a a
+settings_none a = record { catalog = refl; limits = refl; scanner = refl; awaited = refl; failed = refl }
+
+-- where a container is open an item begins where it began
+begun_inner : (start begin : ℕ) (fs : List Frame) (ss : Symbols) → is_top fs ≡ false → begun_at start begin fs ss ≡ start
+begun_inner start begin [] ss h = absurd cc
+begun_inner start begin (f ∷ fs) ss h = refl
+
+-- no item of the top level begins earlier behind more octets
+begun_later : (start i j : ℕ) (fs : List Frame) (ss : Symbols) → i ≤ j → begun_at start i fs ss ≤ begun_at start j fs ss
+begun_later start i j [] [] h = h
+begun_later start i j [] (s ∷ ss) h = omega arith
+begun_later start i j (f ∷ fs) ss h = omega arith
+
+-- where no value may come a container is open
+pub open_inner : (fs : List Frame) (ss : Symbols) (now : Now) → AreOpen fs ss now → now ≢ nows.Ready → is_top fs ≡ false
+open_inner fs ss nows.Ready h other = absurd (other refl)
+open_inner (frames.Items listings.List ns vs ∷ fs) [] nows.After h other = refl
+open_inner (frames.Fields ns ms ∷ fs) [] nows.After h other = refl
+open_inner (frames.Fields ns ms ∷ fs) [] nows.Name h other = refl
+open_inner _ _ _ h other = absurd h
+
+-- nor were annotations read
+pub open_bare : (fs : List Frame) (ss : Symbols) (now : Now) → AreOpen fs ss now → now ≢ nows.Ready → ss ≡ []
+open_bare fs ss nows.Ready h other = absurd (other refl)
+open_bare (frames.Items listings.List ns vs ∷ fs) [] nows.After h other = refl
+open_bare (frames.Fields ns ms ∷ fs) [] nows.After h other = refl
+open_bare (frames.Fields ns ms ∷ fs) [] nows.Name h other = refl
+open_bare _ _ _ h other = absurd h
+
+-- a name may come in a struct
+pub open_name : (fs : List Frame) (ss : Symbols) → AreOpen fs ss nows.Name → place_in fs nows.Name ≡ places.Name
+open_name (frames.Fields ns ms ∷ fs) [] h = refl
+open_name _ _ h = absurd h
+
+-- where a value may come no name may
+around_value : (fs : List Frame) → AreAround fs → is_name (place_in fs nows.Ready) ≡ false
+around_value [] h = refl
+around_value (frames.Items listings.List ns vs ∷ fs) h = refl
+around_value (frames.Items listings.Sexp ns vs ∷ fs) h = refl
+around_value (frames.Named ns ms name ∷ fs) h = refl
+around_value (frames.Fields ns ms ∷ fs) h = absurd h
+
+pub value_place : (r : TextWalk) (fs : List Frame) (ss : Symbols) → r.stage ≡ nows.Ready → Holds r fs ss → is_name (place (reading_of r fs ss)) ≡ false
+value_place r fs ss now h = ap (λ n. is_name (place_in fs n)) now ∙ around_value fs (subst (AreOpen fs ss) (ap calm now) h.0.open_there)
+
+-- an open leads into the container, wherever a value may come
+open_passes : (g : Catalog) (l : Limits) (start : ℕ) (c : List Slot) (fs : List Frame) (ss : Symbols) (rest : Rest) (octets : List ℕ) (x : Bracket)
+    → length fs < l.depth → 1 < length octets → OpensAt octets x → is_name (place_in fs nows.Ready) ≡ false
+    → rest.used + length octets ≤ l.item + begun_at start rest.used fs ss
+    → Passes g l (with_scan (resting rest) (at start c fs ss nows.Ready)) octets 1
+    (with_scan (resting (past_token (place_in fs nows.Ready) rest (kinds.Mark (open_mark x)) 1))
+    (at (begun_at start rest.used fs ss) c (opened x ss ∷ fs) [] (first_now x)))
+open_passes g l start c [] ss rest octets x deep more opens value fits = top_open g l start c ss rest octets x deep more opens fits
+open_passes g l start c (f ∷ fs) ss rest octets x deep more opens value fits =
+    let r = at start c (f ∷ fs) ss nows.Ready in
+    token_passes g l r refl tt rest octets (kinds.Mark (open_mark x)) [] 1 (Mark' (open_mark x))
+    (at start c (opened x ss ∷ (f ∷ fs)) [] (first_now x)) (mark_says (open_mark x))
+    (ready_turns g l r (lexeme_at rest (kinds.Mark (open_mark x)) [] 1) (Mark' (open_mark x)) refl refl
+    ∙ open_goes (under g l) (spot_at (rest.used + 1) start c) (f ∷ fs) ss x deep) fits
+    (opened_stays start c (f ∷ fs) ss x) (is_open_left x) (open_found x (place r) rest octets opens more value) (inl tt)
+
+-- a part that was found is such a value
+pub part_begins : (w : Bool) (p : Place) (r : Rest) (octets : List ℕ) (s : Scalar) (payload : Payload) → FoundPart p r octets s payload → s.waits ≡ w
+    → BeginsValue w p r octets s.token payload
+part_begins w p r octets s payload f e =
+    let t = f.token in
+    record {
+      kept = t.kept;
+      content = t.content;
+      found = t.found;
+      says = t.says;
+      is = subst (λ q. IsValue w t.content q) f.is (subst (λ b. IsValue b t.content t.payload) e t.is);
+    }
+
+-- so is a number
+pub number_begins : (p : Place) (r : Rest) (octets : List ℕ) (token : FoundToken) (n : Number) → FoundNumber p r octets token n
+    → BeginsValue false p r octets token (number_payload n)
+number_begins p r octets token n f =
+    record { kept = f.kept; content = Number' n; found = f.found; says = f.says; is = λ setting spot fs ss. refl }
+
+module _ {V : Type 0} (takes : V → Event → V → Type 0) where
+  -- nothing was taken up
+  pub strode_none : (r : TextWalk) (rest : Rest) (octets : List ℕ) (a : V) → Strode takes r r rest rest octets 0 a a
+  strode_none r rest octets a = record {
+    leads = λ fs ss h. record {
+      frames = fs;
+      notes = ss;
+      passes = passes_none r.catalog.now r.limits (resting_at rest r fs ss) octets;
+      ahead = subst (λ n. Ahead r fs ss rest n) (let e : length octets ≡ length octets - 0 = omega arith in e) h;
+      hears = hears_none takes (heard (told fs ss)) (heard (told fs ss)) a refl;
+    };
+    within = omega arith;
+    used = let i : rest.used ≡ rest.used + 0 = omega arith in i;
+  }
+
+  pub strides_none : (r : TextWalk) (rest : Rest) (octets : List ℕ) (a : V) → StridesBy takes r r rest rest octets (Ok 0) a a
+  strides_none r rest octets a = record { strode = strode_none r rest octets a; memory = tt; same = settings_none r }
+
+  -- one behind the other
+  pub strode_on : (old mid new : TextWalk) (r s t : Rest) (octets rest : List ℕ) (i j : ℕ) (a m b : V) → rest ≡ drop i octets → SameSetting old mid
+      → Strode takes old mid r s octets i a m → Strode takes mid new s t rest j m b → Strode takes old new r t octets (i + j) a b
+  strode_on old mid new r s t octets rest i j a m b is same x y =
+      let size : length rest ≡ length octets - i = ap (λ (w : List ℕ). length w) is ∙ length-drop i octets in
+      let within = x.within in
+      let within' = y.within in
+      let used = x.used in
+      let used' = y.used in
+      let catalog : mid.catalog.now ≡ old.catalog.now = ap (λ x. x.now) same.catalog in
+      record {
+        leads = λ fs ss h.
+            let one = x.leads fs ss h in
+            let two = y.leads one.frames one.notes (subst (λ n. Ahead mid one.frames one.notes s n) (sym size) one.ahead) in
+            let left : length rest - j ≡ length octets - (i + j) = omega arith in
+            let first = resting_at r old fs ss in
+            let middle = resting_at s mid one.frames one.notes in
+            let last = resting_at t new two.frames two.notes in
+            record {
+              frames = two.frames;
+              notes = two.notes;
+              passes = passes_on old.catalog.now old.limits first middle last octets i j one.passes
+                  (subst (λ w. Passes old.catalog.now old.limits middle w j last) is
+                  (subst (λ x. Passes x old.limits middle rest j last) catalog
+                  (subst (λ x. Passes mid.catalog.now x middle rest j last) same.limits two.passes)));
+              ahead = subst (λ n. Ahead new two.frames two.notes t n) left two.ahead;
+              hears = hears_both takes (heard (told fs ss)) (heard (told one.frames one.notes)) (heard (told two.frames two.notes)) a m b one.hears two.hears;
+            };
+        within = omega arith;
+        used = omega arith;
+      }
+
+  -- a blank, with the comments in it
+  pub blank_strode : (r : TextWalk) (before after : Rest) (octets : List ℕ) (n : ℕ) (a : V) → RestsBehind octets n before after → n < length octets
+      → Strode takes r r before after octets n a a
+  blank_strode r before after octets n a b more =
+      let used = b.used in
+      record {
+        leads = λ fs ss h.
+            let fits = h.fits in
+            let later = begun_later r.start before.used after.used fs ss (omega arith) in
+            record {
+              frames = fs;
+              notes = ss;
+              passes = passes fs ss h r.stage refl;
+              ahead = record { holds = h.holds; still = h.still; fits = omega arith };
+              hears = hears_none takes (heard (told fs ss)) (heard (told fs ss)) a refl;
+            };
+        within = omega arith;
+        used = used;
+      }
+    where
+      inner : (fs : List Frame) (ss : Symbols) → Ahead r fs ss before (length octets) → is_top fs ≡ false
+          → Passes r.catalog.now r.limits (resting_at before r fs ss) octets n (resting_at after r fs ss)
+      inner fs ss h open_there =
+          let q = reading_of r fs ss in
+          let within = b.within in
+          let fits = h.fits in
+          let begun = begun_inner r.start before.used fs ss open_there in
+          passes_blank r.catalog.now r.limits q (r.limits.item + r.start) (inner_notices r.limits q open_there) (resting before) (resting after) octets n
+          within refl refl (b.ran (place q)) (omega arith) (still_settles r.catalog.now r.limits q h.still)
+
+      other : (fs : List Frame) (ss : Symbols) → Ahead r fs ss before (length octets) → (now : Now) → r.stage ≡ now → calm now ≢ nows.Ready
+          → Passes r.catalog.now r.limits (resting_at before r fs ss) octets n (resting_at after r fs ss)
+      other fs ss h now is never =
+          inner fs ss h (open_inner fs ss (calm r.stage) h.holds.0.open_there (λ e. never (sym (ap calm is) ∙ e)))
+
+      waits : (fs : List Frame) (ss : Symbols) → Ahead r fs ss before (length octets) → (now : Now) → r.stage ≡ now → (IsStill now → ⊥)
+          → Passes r.catalog.now r.limits (resting_at before r fs ss) octets n (resting_at after r fs ss)
+      waits fs ss h now is never = absurd (never (subst IsStill is h.still))
+
+      passes : (fs : List Frame) (ss : Symbols) → Ahead r fs ss before (length octets) → (now : Now) → r.stage ≡ now
+          → Passes r.catalog.now r.limits (resting_at before r fs ss) octets n (resting_at after r fs ss)
+      passes fs ss h nows.Ready is =
+          let within = b.within in
+          let fits = h.fits in
+          subst (λ (q : Now). Passes r.catalog.now r.limits (with_scan (resting before) (at r.start r.context fs ss q)) octets n
+          (with_scan (resting after) (at r.start r.context fs ss q))) (sym is)
+          (any_blank r.catalog.now r.limits r.start r.context fs ss before after octets n (omega arith) b)
+      passes fs ss h nows.After is = other fs ss h nows.After is (λ e. cc)
+      passes fs ss h nows.Name is = other fs ss h nows.Name is (λ e. cc)
+      passes fs ss h (nows.Keyed s) is = other fs ss h (nows.Keyed s) is (λ e. cc)
+      passes fs ss h (nows.Pending k end) is = waits fs ss h (nows.Pending k end) is (λ e. e)
+      passes fs ss h (nows.Long w end) is = waits fs ss h (nows.Long w end) is (λ e. e)
+      passes fs ss h (nows.LongName w) is = waits fs ss h (nows.LongName w) is (λ e. e)
+
+  -- a token where a container is open
+  module _ (old new : TextWalk) (rest : Rest) (octets : List ℕ) (a b : V) (fs : List Frame) (ss : Symbols) (h : Ahead old fs ss rest (length octets))
+      (same : SameSetting old new) where
+    abbrev r : Reading
+    r = reading_of old fs ss
+
+    -- what came of it, where it leads a run there
+    pub token_leads : (after : Rest) (n : ℕ) (t : Turn) → n < length octets → after.used ≡ rest.used + n → is_top fs ≡ false
+        → ((q : Reading) → t ≡ goes q → StaysIn old.start q)
+        → Does takes (told fs ss) t (Ok Goes) new a b
+        → ((q : Reading) → t ≡ goes q → StaysIn old.start q
+        → Passes old.catalog.now old.limits (with_scan (resting rest) r) octets n (with_scan (resting after) q))
+        → StrodeFrom takes fs ss old new rest after octets n a b
+    token_leads after n t within used open_there stays does passes =
+        let gs = does.0 in
+        let ns = does.1 in
+        let q = reading_of new gs ns in
+        let there = stays q does.2 in
+        let fits = h.fits in
+        let begun = begun_inner old.start rest.used fs ss open_there in
+        let begins = begun_inner new.start after.used gs ns there.0 in
+        let start : new.start ≡ old.start = there.1 in
+        record {
+          frames = gs;
+          notes = ns;
+          passes = passes q does.2 there;
+          ahead = record {
+            holds = does.3.holds;
+            still = there.2;
+            fits = subst (λ (l : Limits). after.used + (length octets - n) ≤ l.item + begun_at new.start after.used gs ns) (sym same.limits) (omega arith);
+          };
+          hears = does.3.hears;
+        }
+
+    pub token_strode : (here : Place) (kind : TokenKind) (kept : List ℕ) (n : ℕ) (left : Bool) (c : Content) (t : Turn) → n < length octets
+        → is_top fs ≡ false → here ≡ place r → IsFound here rest octets kind kept n left → said kind kept ≡ Ok c
+        → turn old.catalog.now old.limits r (token_of (lexeme_at rest kind kept n) c) ≡ t → ((q : Reading) → t ≡ goes q → StaysIn old.start q)
+        → IsCalm old.stage ⊎ (before_end left n ≡ 0) → Does takes (told fs ss) t (Ok Goes) new a b
+        → StrodeFrom takes fs ss old new rest (past_token here rest kind n) octets n a b
+    token_strode here kind kept n left c t within open_there is found says turns stays may does =
+        let fits = h.fits in
+        let begun = begun_inner old.start rest.used fs ss open_there in
+        token_leads (past_token here rest kind n) n t within refl open_there stays does
+        (λ q e there.
+        subst (λ p. Passes old.catalog.now old.limits (with_scan (resting rest) r) octets n (with_scan (resting (past_token p rest kind n)) q)) (sym is)
+        (token_passes old.catalog.now old.limits r open_there h.still rest octets kind kept n c q says (turns ∙ e) (omega arith) there left
+        (subst (λ p. IsFound p rest octets kind kept n left) is found) may))
+
+    -- a comma
+    pub comma_strode : (here : Place) → old.stage ≡ nows.After → 1 < length octets → get_or octets 0 0 ≡ 44 → is_top fs ≡ false → here ≡ place r
+        → Does takes (told fs ss) (on_comma old.start old.context fs) (Ok Goes) new a b
+        → StrodeFrom takes fs ss old new rest (past_token here rest (kinds.Mark marks.Comma) 1) octets 1 a b
+    comma_strode here now more first open_there is does =
+        token_strode here (kinds.Mark marks.Comma) [] 1 false (Mark' marks.Comma) (on_comma old.start old.context fs) more open_there is
+        (comma_found here rest octets (omega arith) first) (mark_says marks.Comma)
+        (after_turns old.catalog.now old.limits r (lexeme_at rest (kinds.Mark marks.Comma) [] 1) (Mark' marks.Comma) now)
+        (λ q e. comma_stays (under old.catalog.now old.limits) (spot_at 0 old.start old.context) q fs e) (inr refl) does
+
+    -- a close of a container that stands in another
+    pub close_strode : (here : Place) (x : Bracket) → 1 < length octets → 1 < length fs → ss ≡ [] → get_or octets 0 0 ≡ close_octet x
+        → closes x fs old.stage ≡ true → is_top fs ≡ false → here ≡ place r
+        → Does takes (told fs ss) (closed x (under old.catalog.now old.limits) (spot_at (rest.used + 1) old.start old.context) fs) (Ok Goes) new a b
+        → StrodeFrom takes fs ss old new rest (past_token here rest (kinds.Mark (close_mark x)) 1) octets 1 a b
+    close_strode here x more nested bare first fits open_there is does =
+        let k = closing old.catalog.now old.limits rest.used (rest.used + 1) old.start old.context x fs old.stage fits in
+        token_strode here (kinds.Mark (close_mark x)) [] 1 false (Mark' (close_mark x))
+        (closed x (under old.catalog.now old.limits) (spot_at (rest.used + 1) old.start old.context) fs) more open_there is
+        (subst (λ p. IsFound p rest octets (kinds.Mark (close_mark x)) [] 1 false) (sym is)
+        (close_found x fs old.stage rest octets fits (omega arith) first)) (mark_says (close_mark x))
+        (ap (λ ns. turn old.catalog.now old.limits (at old.start old.context fs ns old.stage) (token_of (lexeme_at rest (kinds.Mark (close_mark x)) [] 1)
+        (Mark' (close_mark x)))) bare ∙ k.0)
+        (λ q e. close_stays (under old.catalog.now old.limits) (spot_at (rest.used + 1) old.start old.context) q x fs nested e) (inr refl) does
+
+    -- a token that is a value at once
+    pub value_strode : (here : Place) (kind : TokenKind) (kept : List ℕ) (n : ℕ) (left : Bool) (c : Content) (payload : Payload) → n < length octets
+        → old.stage ≡ nows.Ready → is_top fs ≡ false → here ≡ place r → IsFound here rest octets kind kept n left → said kind kept ≡ Ok c
+        → EndsAtOnce c payload
+        → Does takes (told fs ss) (ended (under old.catalog.now old.limits) (spot_at (rest.used + n) old.start old.context) fs (annotated ss payload)) (Ok Goes)
+        new a b
+        → StrodeFrom takes fs ss old new rest (past_token here rest kind n) octets n a b
+    value_strode here kind kept n left c payload more now open_there is found says at_once does =
+        let setting = under old.catalog.now old.limits in
+        let spot = spot_at (rest.used + n) old.start old.context in
+        token_strode here kind kept n left c (ended setting spot fs (annotated ss payload)) more open_there is found says
+        (ready_turns old.catalog.now old.limits r (lexeme_at rest kind kept n) c now open_there ∙ at_once setting spot fs ss)
+        (λ q e. ended_stays setting spot q fs (annotated ss payload) open_there e) (inl (subst IsCalm (sym now) tt)) does
+
+    -- a symbol, null or truth, and the blank behind it
+    pub word_strode : (here : Place) (kind : TokenKind) (kept : List ℕ) (n m : ℕ) (left : Bool) (c : Content) (payload : Payload) → n + m < length octets
+        → old.stage ≡ nows.Ready → is_top fs ≡ false → here ≡ place r → IsFound here rest octets kind kept n left → said kind kept ≡ Ok c
+        → IsPassed (drop n octets) m → ends_symbol (get_or octets (n + m) 0) ≡ true → Pays (held_of c) payload
+        → Does takes (told fs ss) (ended (under old.catalog.now old.limits) (spot_at (rest.used + n) old.start old.context) fs (annotated ss payload)) (Ok Goes)
+        new a b
+        → StrodeFrom takes fs ss old new rest (past_blank (past_token here rest kind n) m) octets (n + m) a b
+    word_strode here kind kept n m left c payload more now open_there is found says passed ends pays does =
+        let setting = under old.catalog.now old.limits in
+        let spot = spot_at (rest.used + n) old.start old.context in
+        let fits = h.fits in
+        let begun = begun_inner old.start rest.used fs ss open_there in
+        let held = held_in (held_of c) payload pays in
+        let used = blank_used (past_token here rest kind n) m in
+        token_leads (past_blank (past_token here rest kind n) m) (n + m) (ended setting spot fs (annotated ss payload)) more (omega arith) open_there
+        (λ q e. ended_stays setting spot q fs (annotated ss payload) open_there e) does
+        (λ q e there.
+        subst (λ p. Passes old.catalog.now old.limits (with_scan (resting rest) r) octets (n + m)
+        (with_scan (resting (past_blank (past_token p rest kind n) m)) q)) (sym is)
+        (symbol_passes old.catalog.now old.limits r open_there rest octets kind kept n m left c (omega arith) more
+        (subst (λ p. IsFound p rest octets kind kept n left) is found) says passed (subst IsCalm (sym now) tt) h.still now held.0 held.1 q payload held.2 e ends))
+
+    -- a long string
+    pub long_strode : (here : Place) (count : ℕ) (after : Rest) (text : List ℕ) → old.stage ≡ nows.Ready → is_top fs ≡ false → here ≡ place r
+        → (x : LongThere here rest octets count after text)
+        → Does takes (told fs ss) (ended (under old.catalog.now old.limits) (spot_at after.used old.start old.context) fs (annotated ss (payloads.Str text)))
+        (Ok Goes) new a b
+        → StrodeFrom takes fs ss old new rest after octets count a b
+    long_strode here count after text now open_there is x does =
+        let setting = under old.catalog.now old.limits in
+        let spot = spot_at after.used old.start old.context in
+        let fits = h.fits in
+        let begun = begun_inner old.start rest.used fs ss open_there in
+        token_leads after count (ended setting spot fs (annotated ss (payloads.Str text))) x.more x.segments.used open_there
+        (λ q e. ended_stays setting spot q fs (annotated ss (payloads.Str text)) open_there e) does
+        (λ q e there.
+        subst (λ k. Passes old.catalog.now old.limits (with_scan (resting rest) (at old.start old.context fs ss k)) octets count
+        (with_scan (resting after) q)) (sym now)
+        (settled_on old.catalog.now old.limits old.start old.context ss fs here rest octets count after text x open_there
+        (sym (is ∙ ap (place_in fs) now)) (omega arith) after.used q e))
+
+    -- a field's name, the blank behind it and its colon
+    pub key_strode : (kind : TokenKind) (kept : List ℕ) (n m : ℕ) (left : Bool) (c : Content) (name : Option (List ℕ)) → n + m + 1 < length octets
+        → old.stage ≡ nows.Name → is_top fs ≡ false → place r ≡ places.Name → IsFound places.Name rest octets kind kept n left → said kind kept ≡ Ok c
+        → IsPassed (drop n octets) m → get_or octets (n + m) 0 ≡ 58 → get_or octets (n + m + 1) 0 ≢ 58 → Names c name
+        → Does takes (told fs ss) (named old.start old.context fs name) (Ok Goes) new a b
+        → StrodeFrom takes fs ss old new rest (past_token places.Name (past_blank (past_token places.Name rest kind n) m) (kinds.Mark marks.Colon) 1) octets
+        (n + m + 1) a b
+    key_strode kind kept n m left c name more now open_there is found says passed colon one names does =
+        let fits = h.fits in
+        let begun = begun_inner old.start rest.used fs ss open_there in
+        let used = blank_used (past_token places.Name rest kind n) m in
+        let after : Place → Rest = λ p. past_token p (past_blank (past_token p rest kind n) m) (kinds.Mark marks.Colon) 1 in
+        token_leads (after places.Name) (n + m + 1) (named old.start old.context fs name) more (omega arith) open_there
+        (λ q e. named_stays (under old.catalog.now old.limits) (spot_at 0 old.start old.context) q fs name e) does
+        (λ q e there.
+        subst (λ p. Passes old.catalog.now old.limits (with_scan (resting rest) r) octets (n + m + 1) (with_scan (resting (after p)) q)) is
+        (name_passes old.catalog.now old.limits r open_there rest octets kind kept n m left c (omega arith) (omega arith)
+        (subst (λ p. IsFound p rest octets kind kept n left) (sym is) found) says passed (subst IsCalm (sym now) tt) h.still now q more name names colon one e))
+
+    -- an annotation, the blank behind it and `::`
+    pub note_strode : (here : Place) (token : FoundToken) (f : FoundNote octets token) (m : ℕ) → token.count + m + 2 < length octets
+        → old.stage ≡ nows.Ready → new.stage ≡ old.stage → here ≡ place r → new.start ≡ begun_at old.start rest.used fs ss → new.context ≡ old.context
+        → IsPassed (drop token.count octets) m → get_or octets (token.count + m) 0 ≡ 58 → get_or octets (token.count + m + 1) 0 ≡ 58
+        → WentOn takes (told fs ss) new fs (ss ++ f.name ∷ []) a b
+        → StrodeFrom takes fs ss old new rest (behind_note here rest token m) octets (token.count + m + 2) a b
+    note_strode here token f m more now stage is start context passed one two w =
+        let n = token.count + m + 2 in
+        let fits = h.fits in
+        let used = blank_used (past_token here rest token.kind token.count) m in
+        let after = behind_note here rest token m in
+        let begins : begun_at new.start after.used fs (ss ++ f.name ∷ []) ≡ begun_at old.start rest.used fs ss =
+        begun_more new.start after.used fs ss f.name ∙ start in
+        let there : reading_of new fs (ss ++ f.name ∷ []) ≡ at (begun_at old.start rest.used fs ss) old.context fs (ss ++ f.name ∷ []) nows.Ready =
+        ap (λ k. at k new.context fs (ss ++ f.name ∷ []) new.stage) start
+        ∙ (ap (λ c. at (begun_at old.start rest.used fs ss) c fs (ss ++ f.name ∷ []) new.stage) context
+        ∙ ap (λ k. at (begun_at old.start rest.used fs ss) old.context fs (ss ++ f.name ∷ []) k) (stage ∙ now)) in
+        record {
+          frames = fs;
+          notes = ss ++ f.name ∷ [];
+          passes =
+              subst (λ q. Passes old.catalog.now old.limits (with_scan (resting rest) r) octets n (with_scan (resting after) q)) (sym there)
+              (subst (λ k. Passes old.catalog.now old.limits (with_scan (resting rest) (at old.start old.context fs ss k)) octets n
+              (with_scan (resting after) (at (begun_at old.start rest.used fs ss) old.context fs (ss ++ f.name ∷ []) nows.Ready))) (sym now)
+              (subst (λ p. Passes old.catalog.now old.limits (with_scan (resting rest) (at old.start old.context fs ss nows.Ready)) octets n
+              (with_scan (resting (behind_note p rest token m)) (at (begun_at old.start rest.used fs ss) old.context fs (ss ++ f.name ∷ []) nows.Ready)))
+              (sym (is ∙ ap (place_in fs) now))
+              (note_leads octets token f m more passed one two old.catalog.now old.limits old.start old.context fs ss rest fits)));
+          ahead = record {
+            holds = w.holds;
+            still = subst IsStill (sym (stage ∙ now)) tt;
+            fits = subst (λ (l : Limits). after.used + (length octets - n) ≤ l.item + begun_at new.start after.used fs (ss ++ f.name ∷ [])) (sym same.limits)
+                (omega arith);
+          };
+          hears = w.hears;
+        }
+
+    -- an open
+    pub open_strode : (here : Place) (x : Bracket) → 1 < length octets → OpensAt octets x → old.stage ≡ nows.Ready → here ≡ place r
+        → nat_lt (length fs) old.limits.depth ≡ true
+        → Does takes (told fs ss) (opening x old.limits.depth (begun_at old.start rest.used fs ss) old.context fs ss) (Ok Goes) new a b
+        → StrodeFrom takes fs ss old new rest (past_token here rest (kinds.Mark (open_mark x)) 1) octets 1 a b
+    open_strode here x more opens now is admits does =
+        let gs = does.0 in
+        let ns = does.1 in
+        let q = reading_of new gs ns in
+        let fits = h.fits in
+        let start = begun_at old.start rest.used fs ss in
+        let inside = at start old.context (opened x ss ∷ fs) [] (first_now x) in
+        let after = past_token here rest (kinds.Mark (open_mark x)) 1 in
+        let turned : goes inside ≡ goes q =
+        sym (ap (λ b. if b then goes inside else beyond_depth x inside) admits) ∙ does.2 in
+        let there : inside ≡ q = went (λ k. inside ≡ k) inside q turned refl in
+        let stays : StaysIn start q = subst (StaysIn start) there (opened_stays start old.context fs ss x) in
+        let begins = begun_inner new.start after.used gs ns stays.0 in
+        let begun : new.start ≡ start = stays.1 in
+        record {
+          frames = gs;
+          notes = ns;
+          passes =
+              subst (λ k. Passes old.catalog.now old.limits (with_scan (resting rest) r) octets 1 (with_scan (resting after) k)) there
+              (subst (λ k. Passes old.catalog.now old.limits (with_scan (resting rest) (at old.start old.context fs ss k)) octets 1
+              (with_scan (resting after) inside)) (sym now)
+              (subst (λ p. Passes old.catalog.now old.limits (with_scan (resting rest) (at old.start old.context fs ss nows.Ready)) octets 1
+              (with_scan (resting (past_token p rest (kinds.Mark (open_mark x)) 1)) inside)) (sym (is ∙ ap (place_in fs) now))
+              (open_passes old.catalog.now old.limits old.start old.context fs ss rest octets x (below admits) more opens
+              (around_value fs (subst (AreOpen fs ss) (ap calm now) h.holds.0.open_there)) fits)));
+          ahead = record {
+            holds = does.3.holds;
+            still = stays.2;
+            fits = subst (λ (l : Limits). after.used + (length octets - 1) ≤ l.item + begun_at new.start after.used gs ns) (sym same.limits) (omega arith);
+          };
+          hears = does.3.hears;
+        }
+      where
+        below : {n m : ℕ} → nat_lt n m ≡ true → n < m
+        below h = grind (arith, nat_tests)
+
+  -- answers
+
+  pub strides_err : (old new : TextWalk) (before after : Rest) (octets : List ℕ) (reason : Reason) (a b : V) → reason ≡ Memory → SameSetting old new
+      → StridesBy takes old new before after octets (Err reason) a b
+  strides_err old new before after octets reason a b memory same = record { strode = tt; memory = memory; same = same }
+
+  pub strides_ok : (old new : TextWalk) (before after : Rest) (octets : List ℕ) (count : ℕ) (a b : V) → Strode takes old new before after octets count a b
+      → SameSetting old new → StridesBy takes old new before after octets (Ok count) a b
+  strides_ok old new before after octets count a b strode same = record { strode = strode; memory = tt; same = same }
+
+  -- what leads so, whatever the reader stood for
+  pub strides_so : (old new : TextWalk) (before after : Rest) (octets : List ℕ) (count : ℕ) (a b : V)
+      → ((fs : List Frame) (ss : Symbols) → Ahead old fs ss before (length octets) → StrodeFrom takes fs ss old new before after octets count a b)
+      → count < length octets → after.used ≡ before.used + count → SameSetting old new → StridesBy takes old new before after octets (Ok count) a b
+  strides_so old new before after octets count a b leads within used same =
+      record { strode = record { leads = leads; within = omega arith; used = used }; memory = tt; same = same }
+
+  -- what each token answers, from what its method does
+
+  module _ (old new : TextWalk) (rest : Rest) (octets : List ℕ) (a b : V) (same : SameSetting old new) where
+    abbrev g : Catalog
+    g = old.catalog.now
+
+    abbrev l : Limits
+    l = old.limits
+
+    -- a token is looked for there
+    abbrev IsHere : Place → Type 0
+    IsHere here = (fs : List Frame) (ss : Symbols) → Holds old fs ss → here ≡ place (reading_of old fs ss)
+
+    -- a container is open
+    abbrev IsInner : Type 0
+    IsInner = (fs : List Frame) (ss : Symbols) → Holds old fs ss → is_top fs ≡ false
+
+    -- where this may come next no value may
+    bare_at : (now : Now) → old.stage ≡ now → calm now ≢ nows.Ready → (fs : List Frame) (ss : Symbols) → Holds old fs ss
+        → (ss ≡ []) × (is_top fs ≡ false)
+    bare_at now is other fs ss h =
+        let never : calm old.stage ≢ nows.Ready = λ e. other (sym (ap calm is) ∙ e) in
+        (open_bare fs ss (calm old.stage) h.0.open_there never, open_inner fs ss (calm old.stage) h.0.open_there never)
+
+    pub comma_answer : (here : Place) → old.stage ≡ nows.After → 1 < length octets → get_or octets 0 0 ≡ 44 → IsHere here → a ≡ b
+        → ((fs : List Frame) → Holds old fs [] → DoesAlone (told fs []) (on_comma old.start old.context fs) (Ok Goes) new)
+        → StridesBy takes old new rest (past_token here rest (kinds.Mark marks.Comma) 1) octets (Ok 1) a b
+    comma_answer here now more first is silent does =
+        strides_so old new rest (past_token here rest (kinds.Mark marks.Comma) 1) octets 1 a b
+        (λ fs ss h.
+        let k = bare_at nows.After now (λ e. cc) fs ss h.holds in
+        let d = does_alone takes (told fs []) (on_comma old.start old.context fs) (Ok Goes) new a
+        (does fs (subst (λ ns. Holds old fs ns) k.0 h.holds)) in
+        comma_strode old new rest octets a b fs ss h same here now more first k.1 (is fs ss h.holds)
+        (subst (λ ns. Does takes (told fs ns) (on_comma old.start old.context fs) (Ok Goes) new a b) (sym k.0)
+        (subst (λ x. Does takes (told fs []) (on_comma old.start old.context fs) (Ok Goes) new a x) silent d))) more refl same
+
+    pub close_answer : (here : Place) (x : Bracket) → 1 < length octets → get_or octets 0 0 ≡ close_octet x
+        → ((fs : List Frame) (ss : Symbols) → Holds old fs ss → (closes x fs old.stage ≡ true) × (ss ≡ [])) → IsHere here → 1 < length old.frames.items
+        → ((fs : List Frame) → Holds old fs [] → Does takes (told fs []) (closed x (under g l) (spot_at (rest.used + 1) old.start old.context) fs) (Ok Goes)
+        new a b)
+        → StridesBy takes old new rest (past_token here rest (kinds.Mark (close_mark x)) 1) octets (Ok 1) a b
+    close_answer here x more first fits is nested does =
+        strides_so old new rest (past_token here rest (kinds.Mark (close_mark x)) 1) octets 1 a b
+        (λ fs ss h.
+        let k = fits fs ss h.holds in
+        let deep = many fs ss h.holds in
+        close_strode old new rest octets a b fs ss h same here x more deep k.1 first k.0 (not_top fs deep) (is fs ss h.holds)
+        (subst (λ ns. Does takes (told fs ns) (closed x (under g l) (spot_at (rest.used + 1) old.start old.context) fs) (Ok Goes) new a b) (sym k.1)
+        (does fs (subst (λ ns. Holds old fs ns) k.1 h.holds)))) more refl same
+      where
+        many : (fs : List Frame) (ss : Symbols) → Holds old fs ss → 1 < length fs
+        many fs ss h =
+            let e : length (open_brackets old) ≡ length (brackets_of fs) = ap (λ (w : List Bracket). length w) h.0.frames in
+            let m : length (brackets_of fs) ≡ length fs = length-map fs bracket_of in
+            let n : length (open_brackets old) ≡ length old.frames.items = length-reverse old.frames.items in
+            omega arith
+
+        not_top : (fs : List Frame) → 1 < length fs → is_top fs ≡ false
+        not_top [] h = absurd (omega arith)
+        not_top (f ∷ fs) h = refl
+
+    pub open_answer : (here : Place) (x : Bracket) → 1 < length octets → OpensAt octets x → old.stage ≡ nows.Ready → IsHere here
+        → ((fs : List Frame) (ss : Symbols) → Holds old fs ss → nat_lt (length fs) l.depth ≡ true)
+        → ((fs : List Frame) (ss : Symbols) → Holds old fs ss
+        → Does takes (told fs ss) (opening x l.depth (begun_at old.start rest.used fs ss) old.context fs ss) (Ok Goes) new a b)
+        → StridesBy takes old new rest (past_token here rest (kinds.Mark (open_mark x)) 1) octets (Ok 1) a b
+    open_answer here x more opens now is admits does =
+        strides_so old new rest (past_token here rest (kinds.Mark (open_mark x)) 1) octets 1 a b
+        (λ fs ss h. open_strode old new rest octets a b fs ss h same here x more opens now (is fs ss h.holds) (admits fs ss h.holds) (does fs ss h.holds)) more
+        refl same
+
+    pub value_answer : (here : Place) (token : FoundToken) (payload : Payload) → token.count < length octets → old.stage ≡ nows.Ready → IsInner → IsHere here
+        → ((fs : List Frame) (ss : Symbols) → Holds old fs ss → BeginsValue false here rest octets token payload)
+        → ((fs : List Frame) (ss : Symbols) → Holds old fs ss
+        → Does takes (told fs ss) (ended (under g l) (spot_at (rest.used + token.count) old.start old.context) fs (annotated ss payload)) (Ok Goes) new a b)
+        → StridesBy takes old new rest (past_token here rest token.kind token.count) octets (Ok token.count) a b
+    value_answer here token payload more now inner is begins does =
+        strides_so old new rest (past_token here rest token.kind token.count) octets token.count a b
+        (λ fs ss h.
+        let x = begins fs ss h.holds in
+        value_strode old new rest octets a b fs ss h same here token.kind x.kept token.count token.left x.content payload more now (inner fs ss h.holds)
+        (is fs ss h.holds) x.found x.says x.is (does fs ss h.holds)) more refl same
+
+    pub word_answer : (here : Place) (token : FoundToken) (m : ℕ) (payload : Payload) → token.count + m < length octets → old.stage ≡ nows.Ready → IsInner
+        → IsHere here → BeginsValue true here rest octets token payload → IsPassed (drop token.count octets) m
+        → ends_symbol (get_or octets (token.count + m) 0) ≡ true
+        → ((fs : List Frame) (ss : Symbols) → Holds old fs ss
+        → Does takes (told fs ss) (ended (under g l) (spot_at (rest.used + token.count) old.start old.context) fs (annotated ss payload)) (Ok Goes) new a b)
+        → StridesBy takes old new rest (past_blank (past_token here rest token.kind token.count) m) octets (Ok (token.count + m)) a b
+    word_answer here token m payload more now inner is x passed ends does =
+        let used = blank_used (past_token here rest token.kind token.count) m in
+        strides_so old new rest (past_blank (past_token here rest token.kind token.count) m) octets (token.count + m) a b
+        (λ fs ss h. word_strode old new rest octets a b fs ss h same here token.kind x.kept token.count m token.left x.content payload more now
+        (inner fs ss h.holds) (is fs ss h.holds) x.found x.says passed ends x.is (does fs ss h.holds)) more (omega arith) same
+
+    pub long_answer : (here : Place) (count : ℕ) (after : Rest) (text : List ℕ) → old.stage ≡ nows.Ready → IsInner → IsHere here
+        → LongThere here rest octets count after text
+        → ((fs : List Frame) (ss : Symbols) → Holds old fs ss
+        → Does takes (told fs ss) (ended (under g l) (spot_at after.used old.start old.context) fs (annotated ss (payloads.Str text))) (Ok Goes) new a b)
+        → StridesBy takes old new rest after octets (Ok count) a b
+    long_answer here count after text now inner is x does =
+        strides_so old new rest after octets count a b
+        (λ fs ss h. long_strode old new rest octets a b fs ss h same here count after text now (inner fs ss h.holds) (is fs ss h.holds) x (does fs ss h.holds))
+        x.more x.segments.used same
+
+    pub key_answer : (token : FoundToken) (m : ℕ) (name : Option (List ℕ)) → token.count + m + 1 < length octets → old.stage ≡ nows.Name
+        → BeginsName places.Name rest octets token name → IsPassed (drop token.count octets) m → get_or octets (token.count + m) 0 ≡ 58
+        → get_or octets (token.count + m + 1) 0 ≢ 58
+        → ((fs : List Frame) → Holds old fs [] → Does takes (told fs []) (named old.start old.context fs name) (Ok Goes) new a b)
+        → StridesBy takes old new rest
+        (past_token places.Name (past_blank (past_token places.Name rest token.kind token.count) m) (kinds.Mark marks.Colon) 1) octets
+        (Ok (token.count + m + 1)) a b
+    key_answer token m name more now x passed colon one does =
+        let used = blank_used (past_token places.Name rest token.kind token.count) m in
+        strides_so old new rest (past_token places.Name (past_blank (past_token places.Name rest token.kind token.count) m) (kinds.Mark marks.Colon) 1) octets
+        (token.count + m + 1) a b
+        (λ fs ss h.
+        let k = bare_at nows.Name now (λ e. cc) fs ss h.holds in
+        key_strode old new rest octets a b fs ss h same token.kind x.kept token.count m token.left x.content name more now k.1
+        (ap (place_in fs) now ∙ open_name fs ss (subst (λ s. AreOpen fs ss (calm s)) now h.holds.0.open_there)) x.found x.says passed colon one x.names
+        (subst (λ ns. Does takes (told fs ns) (named old.start old.context fs name) (Ok Goes) new a b) (sym k.0)
+        (does fs (subst (λ ns. Holds old fs ns) k.0 h.holds)))) more (omega arith) same
+
+    pub note_answer : (here : Place) (token : FoundToken) (f : FoundNote octets token) (m : ℕ) → token.count + m + 2 < length octets
+        → old.stage ≡ nows.Ready → new.stage ≡ old.stage → IsHere here
+        → ((fs : List Frame) (ss : Symbols) → Holds old fs ss → new.start ≡ begun_at old.start rest.used fs ss) → new.context ≡ old.context
+        → IsPassed (drop token.count octets) m → get_or octets (token.count + m) 0 ≡ 58 → get_or octets (token.count + m + 1) 0 ≡ 58
+        → ((fs : List Frame) (ss : Symbols) → Holds old fs ss → WentOn takes (told fs ss) new fs (ss ++ f.name ∷ []) a b)
+        → StridesBy takes old new rest (behind_note here rest token m) octets (Ok (token.count + m + 2)) a b
+    note_answer here token f m more now stage is start context passed one two w =
+        let used = blank_used (past_token here rest token.kind token.count) m in
+        strides_so old new rest (behind_note here rest token m) octets (token.count + m + 2) a b
+        (λ fs ss h. note_strode old new rest octets a b fs ss h same here token f m more now stage (is fs ss h.holds) (start fs ss h.holds) context passed one
+        two (w fs ss h.holds)) more (omega arith) same
+
+-- a reader whose scanner was moved
+abbrev pub with_moved : TextWalk → Scanner → TextWalk
+with_moved r s = record {
+  alloc = r.alloc;
+  catalog = r.catalog;
+  limits = r.limits;
+  scanner = s;
+  recent = r.recent;
+  start = r.start;
+  context = r.context;
+  frames = r.frames;
+  noted = r.noted;
+  stage = r.stage;
+  filter = r.filter;
+  awaited = r.awaited;
+  failed = r.failed;
+}
+
+pub take_short : (k : ℕ) (w : List ℕ) → length (take k w) ≤ k
+take_short k w = let e = length-take k w in omega arith
+
+pub front_same : (j k : ℕ) (w : List ℕ) → j ≤ k → take j (take k w) ≡ take j w
+front_same j k w h = grind (arith, common_steps)
+
+-- the octets of a piece that the limit on items leaves are those at its front
+module _ {V : Type 0} (takes : V → Event → V → Type 0) (old mid : TextWalk) (moved : Scanner) (first behind : Rest) (piece octets : List ℕ) (most count : ℕ)
+    (a b : V) (is : octets ≡ take most piece) (some : 0 < length octets) (rests : scanned old.scanner ≡ resting first) (there : scanned moved ≡ resting behind)
+    (still : IsStill old.stage)
+    (fits : (fs : List Frame) (ss : Symbols) → Holds old fs ss → first.used + length octets ≤ old.limits.item + begun_at old.start first.used fs ss)
+    (strode : Strode takes old mid first behind octets count a b) where
+  pub strides_there : (fs : List Frame) (ss : Symbols) → Holds old fs ss → Strides takes fs ss old (with_moved mid moved) piece count a b
+  strides_there fs ss h =
+      let x = strode.leads fs ss (record { holds = h; still = still; fits = fits fs ss h }) in
+      let within = strode.within in
+      let size : length octets ≡ length (take most piece) = ap (λ (w : List ℕ). length w) is in
+      let short = take_short most piece in
+      let front : take (count + 1) piece ≡ take (count + 1) octets =
+      sym (ap (take (count + 1)) is ∙ front_same (count + 1) most piece (omega arith)) in
+      record {
+        frames = x.frames;
+        notes = x.notes;
+        passes =
+            subst (λ s. Passes old.catalog.now old.limits (with_scan s (reading_of old fs ss)) piece count
+            (with_scan (scanned moved) (reading_of mid x.frames x.notes))) (sym rests)
+            (subst (λ s. Passes old.catalog.now old.limits (resting_at first old fs ss) piece count (with_scan s (reading_of mid x.frames x.notes))) (sym there)
+            (λ w e. x.passes w (e ∙ front)));
+        holds = x.ahead.holds;
+        hears = x.hears;
+      }

@@ -1,0 +1,307 @@
+-- What a reader that holds no values does, over what it did before.
+use Rattle.std.proofs.Common.{◌≡◌, ◌≢◌, ℕ, zero, suc, ◌+◌, ◌-◌, ◌<◌, true, false, List, [], ◌∷◌, ◌++◌, Option, Some, None, Result, Ok, Err, refl, sym, ap, ◌∙◌, subst, arith}
+use Rattle.std.specs.Prelude.{if◌then◌else◌}
+use Rattle.ion_model.specs.declared.value.Value.{Value}
+use Rattle.ion_atoms.specs.declared.refusal.Reason.{Reason}
+use Rattle.ion_atoms.specs.declared.refusal.Reason.TheVariants as reasons
+use Rattle.ion_atoms.specs.declared.refusal.Refusal.{Refusal}
+use Rattle.ion_symtab.specs.declared.limits.Limits.{Limits}
+use Rattle.ion_symtab.specs.declared.catalog.Catalog.{Catalog}
+use Rattle.ion_tokens.specs.declared.mode.Place.{Place}
+use Rattle.ion_tokens.specs.machine.Scanning.{Known, Outcome, feed, run}
+use Rattle.ion_tokens.specs.machine.Views.{scanned}
+use Rattle.ion_visiting.specs.Events.{Event, events_of}
+use Rattle.ion_text.specs.declared.state.Frame.{Frame}
+use Rattle.ion_text.specs.declared.state.Effect.{Effect as Turned}
+use Rattle.ion_text.specs.declared.state.Effect.TheVariants.{Goes, Gives, Late}
+use Rattle.ion_text.specs.declared.state.Taken.{Taken}
+use Rattle.ion_text.specs.declared.state.Taken.TheVariants as taken
+use Rattle.ion_text.specs.declared.state.Met.{Met}
+use Rattle.ion_text.specs.declared.state.Met.TheVariants as met
+use Rattle.ion_text.specs.declared.walk.TextWalk.{TextWalk}
+use Rattle.ion_text.specs.machine.EachToken.{Reading, Symbols, Turn, goes, gives, late, refuses, place, settle, turn}
+use Rattle.ion_text.specs.machine.Run.{State, Effect, uses, tells, leaves, fails, lesser, or_worse, unsettled, with_scan, on_scan, on_settled, takes, noticed, behind_given, behind_left}
+use Rattle.ion_text.specs.machine.Views.{worse, token_in, IsBehind, is_left, comes_again}
+use Rattle.ion_tokens.specs.declared.scanner.Scanner.{Scanner}
+use Rattle.ion_tokens.specs.declared.token.Token.{Token as Found}
+use Rattle.ion_tokens.specs.machine.Steps.{Stepped, Answers}
+use Rattle.ion_text.proofs.Meetings.{no_token, given_token, left_token, on_given, on_left}
+use Rattle.ion_text.specs.walk.Tables.{Hears, heard}
+use Rattle.ion_text.specs.walk.Holds.{Does, DoesAlone, Holds, WentOn, GaveOut, SameSetting, told, reading_of, state_of}
+use Rattle.ion_text.specs.walk.Takes.{DidTake, DidMeet, MeetsWith, IsMet}
+use Rattle.ion_text.proofs.Filters.{hears_none, hears_both}
+use Rattle.ion_text.proofs.Octets.{least, one_octet, same_scan, same_takes, goes_on_takes, settles}
+
+module _ {V : Type 0} (leads : V → Event → V → Type 0) where
+  -- 1. Tokens.
+
+  -- a visitor heard what it was to hear before a method that tells nothing
+  pub does_behind : (es fs : List Event) (t : Turn) (result : Result Turned Reason) (r : TextWalk) (a b : V) → Hears leads (heard es) (heard fs) a b
+      → DoesAlone fs t result r → Does leads es t result r a b
+  does_behind es fs t (Ok Goes) r a b h d =
+      (d.0, d.1, d.2, record { holds = d.3; hears = subst (λ w. Hears leads (heard es) w a b) (sym d.4) h })
+  does_behind es fs t (Ok Gives) r a b h d =
+      (d.0, d.1, record { holds = d.2; hears = subst (λ w. Hears leads (heard es) w a b) (sym d.3) h })
+  does_behind es fs t (Ok (Late e)) r a b h d =
+      (d.0, d.1, d.2, record { holds = d.3; hears = subst (λ w. Hears leads (heard es) w a b) (sym d.4) h })
+  does_behind es fs t (Err e) r a b h d = d
+
+  -- it heard nothing
+  pub does_alone : (es : List Event) (t : Turn) (result : Result Turned Reason) (r : TextWalk) (a : V) → DoesAlone es t result r
+      → Does leads es t result r a a
+  does_alone es t result r a d = does_behind es es t result r a a (hears_none leads (heard es) (heard es) a refl) d
+
+  -- 2. Octets.
+
+  pub went_behind : (es fs : List Event) (r : TextWalk) (gs : List Frame) (ss : Symbols) (a m b : V) → Hears leads (heard es) (heard fs) a m
+      → WentOn leads fs r gs ss m b → WentOn leads es r gs ss a b
+  went_behind es fs r gs ss a m b h w =
+      record { holds = w.holds; hears = hears_both leads (heard es) (heard fs) (heard (told gs ss)) a m b h w.hears }
+
+  pub gave_behind : (es fs : List Event) (r : TextWalk) (v : Value) (a m b : V) → Hears leads (heard es) (heard fs) a m
+      → GaveOut leads fs r v m b → GaveOut leads es r v a b
+  gave_behind es fs r v a m b h w = record { holds = w.holds; hears = hears_both leads (heard es) (heard fs) (events_of v) a m b h w.hears }
+
+  pub take_same : (es : List Event) (e f : Effect) (result : Result Taken Reason) (r : TextWalk) (a b : V) → e ≡ f → DidTake leads es f result r a b
+      → DidTake leads es e result r a b
+  take_same es e f (Ok taken.Uses) r a b h d = (d.0, d.1, h ∙ d.2, d.3)
+  take_same es e f (Ok taken.Tells) r a b h d = (d.0, h ∙ d.1, d.2)
+  take_same es e f (Ok taken.Leaves) r a b h d = (d.0, h ∙ d.1, d.2)
+  take_same es e f (Err reason) r a b h d = λ other. h ∙ d other
+
+  pub take_behind : (es fs : List Event) (e : Effect) (result : Result Taken Reason) (r : TextWalk) (a m b : V) → Hears leads (heard es) (heard fs) a m
+      → DidTake leads fs e result r m b → DidTake leads es e result r a b
+  take_behind es fs e (Ok taken.Uses) r a m b h d = (d.0, d.1, d.2, went_behind es fs r d.0 d.1 a m b h d.3)
+  take_behind es fs e (Ok taken.Tells) r a m b h d = (d.0, d.1, gave_behind es fs r d.0 a m b h d.2)
+  take_behind es fs e (Ok taken.Leaves) r a m b h d = (d.0, d.1, gave_behind es fs r d.0 a m b h d.2)
+  take_behind es fs e (Err reason) r a m b h d = d
+
+  -- an octet that was refused already and comes again is refused for the smaller of the reasons
+  pub take_worse : (es : List Event) (reason : Reason) (e : Effect) (again : Result Taken Reason) (r : TextWalk) (a b : V) → DidTake leads es e again r a b
+      → (worse reason again ≢ reasons.Memory) → or_worse reason e ≡ fails (worse reason again)
+  take_worse es reason e (Ok taken.Uses) r a b d other = ap (or_worse reason) d.2
+  take_worse es reason e (Ok taken.Tells) r a b d other = ap (or_worse reason) d.1
+  take_worse es reason e (Ok taken.Leaves) r a b d other = ap (or_worse reason) d.1
+  take_worse es reason e (Err f) r a b d other = ap (or_worse reason) (d (λ m. other (ap (lesser reason) m ∙ least reason)))
+
+  pub meet_same : (es : List Event) (e f : (State → Effect) → Effect) (result : Result Met Reason) (r : TextWalk) (a b : V)
+      → ((again : State → Effect) → e again ≡ f again) → DidMeet leads es f result r a b → DidMeet leads es e result r a b
+  meet_same es e f (Ok met.Uses) r a b h d = (d.0, d.1, (λ again. h again ∙ d.2 again), d.3)
+  meet_same es e f (Ok met.Tells) r a b h d = (d.0, (λ again. h again ∙ d.1 again), d.2)
+  meet_same es e f (Ok met.Leaves) r a b h d = (d.0, (λ again. h again ∙ d.1 again), d.2)
+  meet_same es e f (Ok met.Again) r a b h d = (d.0, d.1, (λ again. h again ∙ d.2 again), d.3)
+  meet_same es e f (Ok (met.Late reason)) r a b h d = (d.0, d.1, (λ again. h again ∙ d.2 again), d.3)
+  meet_same es e f (Err reason) r a b h d = λ other again. h again ∙ d other again
+
+  -- 3. One octet at the scanner.
+
+  module _ (g : Catalog) (l : Limits) (n o : ℕ) (es : List Event) (q : Reading) (p : Place) (s : Known) where
+    abbrev after : Effect
+    after = on_scan g l (λ m. takes g l n m o) q (feed p s o)
+
+    here : after ≡ on_scan g l (λ m. takes g l n m o) q (run p (o ∷ []) s)
+    here = ap (on_scan g l (λ m. takes g l n m o) q) (sym (one_octet p s o))
+
+    abbrev Met_it : Result Met Reason → TextWalk → V → V → Type 0
+    Met_it result mid a b = DidMeet leads es (λ again. on_scan g l again q (run p (o ∷ []) s)) result mid a b
+
+    -- it is used
+    pub uses_octet : (y : Met) (mid : TextWalk) (a b : V) → y ≡ met.Uses → Met_it (Ok y) mid a b
+        → DidTake leads es (on_scan g l (λ m. takes g l n m o) q (feed p s o)) (Ok taken.Uses) mid a b
+    uses_octet y mid a b is d = let h = subst (λ (y : Met). Met_it (Ok y) mid a b) is d in (h.0, h.1, here ∙ h.2 (λ m. takes g l n m o), h.3)
+
+    -- it ends a value
+    pub tells_octet : (y : Met) (mid : TextWalk) (a b : V) → y ≡ met.Tells → Met_it (Ok y) mid a b
+        → DidTake leads es (on_scan g l (λ m. takes g l n m o) q (feed p s o)) (Ok taken.Tells) mid a b
+    tells_octet y mid a b is d = let h = subst (λ (y : Met). Met_it (Ok y) mid a b) is d in (h.0, here ∙ h.1 (λ m. takes g l n m o), h.2)
+
+    -- it shows the end of one
+    pub leaves_octet : (y : Met) (mid : TextWalk) (a b : V) → y ≡ met.Leaves → Met_it (Ok y) mid a b
+        → DidTake leads es (on_scan g l (λ m. takes g l n m o) q (feed p s o)) (Ok taken.Leaves) mid a b
+    leaves_octet y mid a b is d = let h = subst (λ (y : Met). Met_it (Ok y) mid a b) is d in (h.0, here ∙ h.1 (λ m. takes g l n m o), h.2)
+
+    -- it is refused
+    pub err_octet : (refusal : Refusal) (mid new : TextWalk) (a b : V) → MeetsWith leads es g l q (run p (o ∷ []) s) (Err refusal) mid a b
+        → DidTake leads es (on_scan g l (λ m. takes g l n m o) q (feed p s o)) (Err refusal.reason) new a b
+    err_octet refusal mid new a b h = λ other. here ∙ (h other).1 (λ m. takes g l n m o)
+
+    -- where it comes again, a reader of the same setting takes it up
+    module _ (y : Met) (mid : TextWalk) (a m : V) (d : Met_it (Ok y) mid a m) (same_catalog : mid.catalog.now ≡ g) (same_limits : mid.limits ≡ l)
+        (result : Result Taken Reason) (new : TextWalk) (b : V)
+        (again : (fs : List Frame) (ss : Symbols) → Holds mid fs ss →
+        DidTake leads (told fs ss) (takes mid.catalog.now mid.limits n (state_of mid fs ss) o) result new m b) where
+      pub again_octet : y ≡ met.Again → DidTake leads es (on_scan g l (λ m. takes g l n m o) q (feed p s o)) result new a b
+      again_octet is =
+          let h = subst (λ (y : Met). Met_it (Ok y) mid a m) is d in
+          let fs = h.0 in
+          let ss = h.1 in
+          take_same es _ (takes mid.catalog.now mid.limits n (state_of mid fs ss) o) result new a b
+          (here ∙ (h.2 (λ m. takes g l n m o) ∙ same_takes g mid.catalog.now l mid.limits n o (state_of mid fs ss) same_catalog same_limits))
+          (take_behind es (told fs ss) _ result new a m b h.3.hears (again fs ss h.3.holds))
+
+      -- behind a late refusal it is refused for the smaller of both reasons
+      pub late_octet : (reason cause : Reason) → y ≡ met.Late reason → cause ≡ worse reason result → cause ≢ reasons.Memory
+          → on_scan g l (λ m. takes g l n m o) q (feed p s o) ≡ fails cause
+      late_octet reason cause is same other =
+          let h = subst (λ (y : Met). Met_it (Ok y) mid a m) is d in
+          let fs = h.0 in
+          let ss = h.1 in
+          here
+          ∙ (h.2 (λ m. takes g l n m o)
+          ∙ (ap (or_worse reason) (same_takes g mid.catalog.now l mid.limits n o (state_of mid fs ss) same_catalog same_limits)
+          ∙ (take_worse (told fs ss) reason (takes mid.catalog.now mid.limits n (state_of mid fs ss) o) result new m b (again fs ss h.3.holds)
+          (λ m. other (same ∙ m))
+          ∙ ap fails (sym same))))
+
+  -- 4. One octet, before which what waits is settled.
+
+  module _ (g : Catalog) (l : Limits) (n o : ℕ) (es : List Event) (m : State) (p : Place) (place_is : p ≡ place m.reading) (some : 0 < n) where
+    -- what waits goes on
+    pub goes_on_octet : (result : Result Taken Reason) (new : TextWalk) (a b : V) → unsettled m.scan m.reading (feed p m.scan o) ≡ true
+        → DidTake leads es (on_scan g l (λ k. takes g l (n - 1) k o) m.reading (feed p m.scan o)) result new a b
+        → DidTake leads es (takes g l n m o) result new a b
+    goes_on_octet result new a b w d = take_same es _ _ result new a b (goes_on_takes g l n o m p place_is some w) d
+
+    module _ (w : unsettled m.scan m.reading (feed p m.scan o) ≡ false) where
+      -- it is refused
+      pub settles_err : (reason : Reason) (mid new : TextWalk) (a b : V) → Does leads es (settle g l m.reading) (Err reason) mid a b
+          → DidTake leads es (takes g l n m o) (Err reason) new a b
+      settles_err reason mid new a b d = λ other. settles g l n o m p place_is some (refuses reason) w (d other)
+
+      -- it is a value, whose end the octet shows, which isn't used
+      pub settles_gives : (mid : TextWalk) (a b : V) → scanned mid.scanner ≡ m.scan → Does leads es (settle g l m.reading) (Ok Gives) mid a b
+          → DidTake leads es (takes g l n m o) (Ok taken.Leaves) mid a b
+      settles_gives mid a b scan d = (
+        d.0,
+        settles g l n o m p place_is some (gives d.0 (reading_of mid [] [])) w d.1
+            ∙ ap (λ s. leaves d.0 (with_scan s (reading_of mid [] []))) (sym scan),
+        d.2,
+      )
+
+      module _ (mid : TextWalk) (h : Catalog) (k : Limits) (same_catalog : h ≡ g) (same_limits : k ≡ l) (scan : scanned mid.scanner ≡ m.scan)
+          (result : Result Taken Reason) (new : TextWalk) (a c b : V)
+          (behind_it : (fs : List Frame) (ss : Symbols) → Holds mid fs ss →
+          DidTake leads (told fs ss) (on_scan h k (λ j. takes h k (n - 1) j o) (reading_of mid fs ss) (feed p (scanned mid.scanner) o)) result new c b)
+        where
+          -- behind it the octet does what it does
+          pub settles_goes : Does leads es (settle g l m.reading) (Ok Goes) mid a c → DidTake leads es (takes g l n m o) result new a b
+          settles_goes d =
+              let q = reading_of mid d.0 d.1 in
+              take_same es _ _ result new a b
+              (settles g l n o m p place_is some (goes q) w d.2 ∙ same_scan g h l k (n - 1) o p m.scan (scanned mid.scanner) q same_catalog same_limits scan)
+              (take_behind es (told d.0 d.1) _ result new a c b d.3.hears (behind_it d.0 d.1 d.3.holds))
+
+          -- where it is refused late, the octet is refused for the smaller of both reasons
+          pub settles_late : (reason cause : Reason) → Does leads es (settle g l m.reading) (Ok (Late reason)) mid a c → cause ≡ worse reason result
+              → cause ≢ reasons.Memory → takes g l n m o ≡ fails cause
+          settles_late reason cause d same other =
+              let q = reading_of mid d.0 d.1 in
+              settles g l n o m p place_is some (late reason q) w d.2
+              ∙ (ap (or_worse reason) (same_scan g h l k (n - 1) o p m.scan (scanned mid.scanner) q same_catalog same_limits scan)
+              ∙ (take_worse (told d.0 d.1) reason _ result new c b (behind_it d.0 d.1 d.3.holds) (λ m. other (same ∙ m)) ∙ ap fails (sym same)))
+
+  -- 5. What came of a token.
+
+  module _ (l : Limits) (s : Known) (es : List Event) (t : Turn) (mid : TextWalk) (a b : V) where
+    -- it ended with the last octet
+    pub given_gives : scanned mid.scanner ≡ s → Does leads es t (Ok Gives) mid a b → DidMeet leads es (λ _. behind_given l s t) (Ok met.Tells) mid a b
+    given_gives scan d = (d.0, (λ again. ap (behind_given l s) d.1 ∙ ap (λ x. tells d.0 (with_scan x (reading_of mid [] []))) (sym scan)), d.2)
+
+    pub given_goes : scanned mid.scanner ≡ s → mid.limits ≡ l
+        → ((fs : List Frame) (ss : Symbols) → Holds mid fs ss → noticed mid.limits (reading_of mid fs ss) (scanned mid.scanner) ≡ uses (state_of mid fs ss))
+        → Does leads es t (Ok Goes) mid a b → DidMeet leads es (λ _. behind_given l s t) (Ok met.Uses) mid a b
+    given_goes scan same_limits notices d = (
+      d.0,
+      d.1,
+      λ again. ap (behind_given l s) d.2
+          ∙ (ap (λ x. noticed l (reading_of mid d.0 d.1) x) (sym scan)
+          ∙ (ap (λ x. noticed x (reading_of mid d.0 d.1) (scanned mid.scanner)) (sym same_limits) ∙ notices d.0 d.1 d.3.holds)),
+      d.3,
+    )
+
+    -- it ended before the last octet
+    pub left_gives : scanned mid.scanner ≡ s → Does leads es t (Ok Gives) mid a b → DidMeet leads es (λ again. behind_left again s t) (Ok met.Leaves) mid a b
+    left_gives scan d = (d.0, (λ again. ap (behind_left again s) d.1 ∙ ap (λ x. leaves d.0 (with_scan x (reading_of mid [] []))) (sym scan)), d.2)
+
+    pub left_goes : scanned mid.scanner ≡ s → Does leads es t (Ok Goes) mid a b → DidMeet leads es (λ again. behind_left again s t) (Ok met.Again) mid a b
+    left_goes scan d = (
+      d.0,
+      d.1,
+      λ again. ap (behind_left again s) d.2 ∙ ap (λ x. again (with_scan x (reading_of mid d.0 d.1))) (sym scan),
+      d.3,
+    )
+
+    pub left_late : (reason : Reason) → scanned mid.scanner ≡ s → Does leads es t (Ok (Late reason)) mid a b
+        → DidMeet leads es (λ again. behind_left again s t) (Ok (met.Late reason)) mid a b
+    left_late reason scan d = (
+      d.0,
+      d.1,
+      λ again. ap (behind_left again s) d.2 ∙ ap (λ x. or_worse reason (again (with_scan x (reading_of mid d.0 d.1)))) (sym scan),
+      d.3,
+    )
+
+  -- 6. What the scanner answered.
+
+  module _ (g : Catalog) (l : Limits) (es : List Event) (q : Reading) (before : ℕ) (x : Outcome) (scan : Stepped) (now : Known) (answers : Answers before x (Ok scan) now)
+    where
+      -- no token
+      pub no_token_meets : (r : TextWalk) (fs : List Frame) (ss : Symbols) (a : V) → scan.token ≡ None → told fs ss ≡ es → Holds r fs ss
+          → noticed l q now ≡ uses (state_of r fs ss) → DidMeet leads es (λ again. on_scan g l again q x) (Ok met.Uses) r a a
+      no_token_meets r fs ss a none same h notices = (
+        fs,
+        ss,
+        (λ again. ap (λ y. on_scan g l again q y) (no_token g l q before x scan now answers none).is ∙ notices),
+        record { holds = h; hears = hears_none leads (heard es) (heard (told fs ss)) a (ap heard same) },
+      )
+
+      -- a token that the last octet ended
+      pub given_token_meets : (t : Found) (result : Result Met Reason) (r : TextWalk) (a b : V) → scan.token ≡ Some t → scan.left ≡ false
+          → DidMeet leads es (λ _. behind_given l now (turn g l q (token_in t))) result r a b → DidMeet leads es (λ again. on_scan g l again q x) result r a b
+      given_token_meets t result r a b some left d =
+          let h = given_token g l q before x scan t now answers some left in
+          meet_same es _ _ result r a b
+          (λ again. ap (λ y. on_scan g l again q y) h.is ∙ on_given g l q again h.lexeme t now now refl h.token) d
+
+      -- a token whose end the last octet showed
+      pub left_token_meets : (t : Found) (result : Result Met Reason) (r : TextWalk) (a b : V) → scan.token ≡ Some t → scan.left ≡ true
+          → DidMeet leads es (λ again. behind_left again now (turn g l q (token_in t))) result r a b
+          → DidMeet leads es (λ again. on_scan g l again q x) result r a b
+      left_token_meets t result r a b some left d =
+          let h = left_token g l q before x scan t now answers some left in
+          meet_same es _ _ result r a b
+          (λ again. ap (λ y. on_scan g l again q y) h.is ∙ on_left g l q again h.lexeme t now now refl h.token) d
+
+-- the reader with this scanner in place of its own
+abbrev pub with_scanner : TextWalk → Scanner → TextWalk
+with_scanner r s = record {
+  alloc = r.alloc;
+  catalog = r.catalog;
+  limits = r.limits;
+  scanner = s;
+  recent = r.recent;
+  start = r.start;
+  context = r.context;
+  frames = r.frames;
+  noted = r.noted;
+  stage = r.stage;
+  filter = r.filter;
+  awaited = r.awaited;
+  failed = r.failed;
+}
+
+-- how many octets are used then
+module _ (g : Catalog) (l : Limits) (q : Reading) (before : ℕ) (x : Outcome) (scan : Stepped) (now : Known) (answers : Answers before x (Ok scan) now)
+    (new : TextWalk) (same : scanned new.scanner ≡ now) where
+  pub no_token_met : scan.token ≡ None → IsMet x met.Uses new
+  no_token_met none =
+      let h = (no_token g l q before x scan now answers none).is in (subst (λ y. IsBehind y (scanned new.scanner)) (sym h) same, ap is_left h)
+
+  pub given_token_met : (t : Found) (m : Met) → scan.token ≡ Some t → scan.left ≡ false → comes_again m ≡ false → IsMet x m new
+  given_token_met t m some left ends =
+      let h = given_token g l q before x scan t now answers some left in
+      (subst (λ y. IsBehind y (scanned new.scanner)) (sym h.is) same, ap is_left h.is ∙ sym ends)
+
+  pub left_token_met : (t : Found) (m : Met) → scan.token ≡ Some t → scan.left ≡ true → comes_again m ≡ true → IsMet x m new
+  left_token_met t m some left again =
+      let h = left_token g l q before x scan t now answers some left in
+      (subst (λ y. IsBehind y (scanned new.scanner)) (sym h.is) same, ap is_left h.is ∙ sym again)

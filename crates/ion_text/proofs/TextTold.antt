@@ -1,0 +1,304 @@
+-- What the visitor that writes text has written of events is the text of the values that they are told of.
+use Rattle.std.proofs.Common.{◌≡◌, ℕ, ◌<◌, zero, suc, List, [], ◌∷◌, ◌++◌, map, length, take, false, Option, Some, None, refl, ap, sym, subst, ◌∙◌, append_assoc, append-nil, arith}
+use Rattle.std.specs.Prelude.{codes, option_to_list, ⊤}
+use Rattle.std.specs.List.{flat_map}
+use Rattle.std.proofs.lemmas.List.{take_all, take_at}
+use Rattle.ion_model.specs.declared.value.Value.{Value}
+use Rattle.ion_model.specs.declared.value.Field.{Field}
+use Rattle.ion_model.specs.declared.value.Payload.{Payload}
+use Rattle.ion_model.specs.declared.value.Payload.TheOpen.{Payload-F}
+use Rattle.ion_model.specs.declared.value.Payload.TheViews as views
+use Rattle.ion_model.specs.Kept as kepts
+use Rattle.ion_model.specs.Kept.{AreTexts, IsKept, KeptPayload, KeptItems, KeptFields, AreKept}
+use Rattle.ion_model.specs.Measures.{Layer, depth, layer_depth, greatest}
+use Rattle.ion_model.specs.laws.Measures.{depth-out}
+use Rattle.ion_visiting.specs.declared.bracket.Bracket.{Bracket}
+use Rattle.ion_visiting.specs.declared.bracket.Bracket.TheVariants as brackets
+use Rattle.ion_visiting.specs.declared.building.Open.TheVariants as places
+use Rattle.ion_visiting.specs.Building.{Built, fresh}
+use Rattle.ion_visiting.specs.Events.{Event, part, annotation, name, opens, closes, ended, within, events_of, field_events, layer_events, stream_events, Led}
+use Rattle.ion_visiting.specs.laws.Built.{is_end, Awaits, value_awaited}
+use Rattle.ion_visiting.specs.laws.Led.{events_out}
+use Rattle.ion_text.specs.Output.{symbol_text, notes_text, enclosed, value_text, field_text, layer_text, adds, text_of}
+use Rattle.ion_text.specs.laws.writing.Output.{text-out}
+use Rattle.ion_text.specs.visiting.Transcribing.{open_octet, bracket_close, octet_between}
+use Rattle.ion_text.specs.visiting.TextOut.{Written, no_text, lines, between, front, with_begun, with_item, with_open, with_close, wrote, KeptEvent, Writes}
+
+-- 1. Events one behind the other.
+
+-- what is written once all were told
+abbrev wrote_all : List Event → Written → Written
+wrote_all [] a = a
+wrote_all (e ∷ es) a = wrote_all es (wrote a e)
+
+-- each is such as the types keep
+abbrev AreKeptEvents : List Event → Type 0
+AreKeptEvents [] = ⊤
+AreKeptEvents (e ∷ es) = KeptEvent e × AreKeptEvents es
+
+led_wrote : (es : List Event) (a b : Written) → Led Writes es a b → b ≡ wrote_all es a
+led_wrote [] a b h = sym h
+led_wrote (e ∷ es) a b h = led_wrote es h.0 b h.2 ∙ ap (wrote_all es) h.1.is
+
+led_kept : (es : List Event) (a b : Written) → Led Writes es a b → AreKeptEvents es
+led_kept [] a b h = tt
+led_kept (e ∷ es) a b h = (h.1.kept, led_kept es h.0 b h.2)
+
+wrote_both : (es fs : List Event) (a : Written) → wrote_all (es ++ fs) a ≡ wrote_all fs (wrote_all es a)
+wrote_both [] fs a = refl
+wrote_both (e ∷ es) fs a = wrote_both es fs (wrote a e)
+
+kept_split : (es fs : List Event) → AreKeptEvents (es ++ fs) → AreKeptEvents es × AreKeptEvents fs
+kept_split [] fs h = (tt, h)
+kept_split (e ∷ es) fs h = let s = kept_split es fs h.1 in ((h.0, s.0), s.1)
+
+-- 2. What is written of a value is its text.
+
+abbrev at : List ℕ → ℕ → List Bracket → Option ℕ → Written
+at w n xs o = record { octets = w; whole = n; around = xs; before = o }
+
+-- an item that began goes on
+item_behind : (a : Written) (u w : List ℕ) → with_item (with_begun a u) w ≡ with_item a (u ++ w)
+item_behind a u w =
+    ap (λ x. at x a.whole a.around (between a.around)) (ap (λ x. x ++ w) (append-nil (front a ++ u)) ∙ append_assoc (front a) u w)
+
+-- annotations begin the item that follows
+notes_wrote : (ss : List (Option (List ℕ))) (a : Written) (w : List ℕ) → with_item (wrote_all (map annotation ss) a) w ≡ with_item a (notes_text ss ++ w)
+notes_wrote [] a w = refl
+notes_wrote (s ∷ ss) a w =
+    let u = symbol_text s ++ codes "::" in
+    notes_wrote ss (with_begun a u) w ∙ item_behind a u (notes_text ss ++ w) ∙ ap (with_item a) (sym (append_assoc u (notes_text ss) w))
+
+-- each of these, told so, is written as an item of this text
+abbrev EachWrote : {X : Type 0} → (X → List Event) → (X → List ℕ) → List X → Type 0
+EachWrote events text [] = ⊤
+EachWrote events text (x ∷ xs) = ((a : Written) → wrote_all (events x) a ≡ with_item a (text x)) × EachWrote events text xs
+
+-- items behind a first one, each behind what stands between them
+others_wrote : {X : Type 0} (events : X → List Event) (text : X → List ℕ) (x : Bracket) (around : List Bracket) (n : ℕ) (ys : List X)
+    → EachWrote events text ys → (w : List ℕ)
+    → wrote_all (flat_map events ys) (at w n (x ∷ around) (Some (octet_between x)))
+    ≡ at (w ++ flat_map (λ t. octet_between x ∷ t) (map text ys)) n (x ∷ around) (Some (octet_between x))
+others_wrote events text x around n [] h w = ap (λ u. at u n (x ∷ around) (Some (octet_between x))) (sym (append-nil w))
+others_wrote events text x around n (y ∷ ys) h w =
+    let by = octet_between x ∷ [] in
+    let rest = flat_map (λ t. octet_between x ∷ t) (map text ys) in
+    wrote_both (events y) (flat_map events ys) _
+    ∙ ap (wrote_all (flat_map events ys)) (h.0 (at w n (x ∷ around) (Some (octet_between x))))
+    ∙ others_wrote events text x around n ys h.1 ((w ++ by) ++ text y)
+    ∙ ap (λ u. at u n (x ∷ around) (Some (octet_between x))) (append_assoc (w ++ by) (text y) rest ∙ append_assoc w by (text y ++ rest))
+
+append_five : (f o t r c : List ℕ) → ((((f ++ o) ++ []) ++ t) ++ r) ++ c ≡ f ++ ((o ++ (t ++ r)) ++ c)
+append_five f o t r c =
+    ap (λ z. ((z ++ t) ++ r) ++ c) (append-nil (f ++ o))
+    ∙ ap (λ z. z ++ c) (append_assoc (f ++ o) t r ∙ append_assoc f o (t ++ r))
+    ∙ append_assoc f (o ++ (t ++ r)) c
+
+-- what stands between brackets, and they, are one item
+closed_wrote : {X : Type 0} (events : X → List Event) (text : X → List ℕ) (x : Bracket) (ys : List X) → EachWrote events text ys → (a : Written)
+    → with_close (wrote_all (flat_map events ys) (with_open a x)) x
+    ≡ with_item a (enclosed (open_octet x ∷ []) (octet_between x ∷ []) (bracket_close x ∷ []) (map text ys))
+closed_wrote events text x [] h a =
+    ap (λ u. at u a.whole a.around (between a.around)) (append_assoc (front a) (open_octet x ∷ []) (bracket_close x ∷ []))
+closed_wrote events text x (y ∷ ys) h a =
+    let first = open_octet x ∷ [] in
+    let last = bracket_close x ∷ [] in
+    let rest = flat_map (λ t. octet_between x ∷ t) (map text ys) in
+    ap (λ b. with_close b x) (wrote_both (events y) (flat_map events ys) (with_open a x)
+    ∙ ap (wrote_all (flat_map events ys)) (h.0 (with_open a x))
+    ∙ others_wrote events text x a.around a.whole ys h.1 (((front a ++ first) ++ []) ++ text y))
+    ∙ ap (λ u. at u a.whole a.around (between a.around)) (append_five (front a) first (text y) rest last)
+
+within_wrote : {X : Type 0} (events : X → List Event) (text : X → List ℕ) (x : Bracket) (ys : List X) → EachWrote events text ys → (a : Written)
+    → wrote_all (within x (flat_map events ys)) a
+    ≡ with_item a (enclosed (open_octet x ∷ []) (octet_between x ∷ []) (bracket_close x ∷ []) (map text ys))
+within_wrote events text x ys h a = wrote_both (flat_map events ys) (closes x ∷ []) (with_open a x) ∙ closed_wrote events text x ys h a
+
+-- values less than n deep are written as items of their texts
+record Wrote (n : ℕ) : Type 0 where
+  value : (v : Value) → depth v < n → (a : Written) → wrote_all (events_of v) a ≡ with_item a (value_text v)
+
+items_wrote : (n : ℕ) → Wrote n → (vs : List Value) → greatest (map depth vs) < n → EachWrote events_of value_text vs
+items_wrote n h [] small = tt
+items_wrote n h (v ∷ vs) small = (h.value v (omega (arith, small)), items_wrote n h vs (omega (arith, small)))
+
+fields_wrote : (n : ℕ) → Wrote n → (ms : List Field) → greatest (map (λ f. depth f.value) ms) < n → EachWrote field_events field_text ms
+fields_wrote n h [] small = tt
+fields_wrote n h (m ∷ ms) small = (
+  λ a.
+      let u = symbol_text m.name ++ codes ":" in
+      h.value m.value (omega (arith, small)) (with_begun a u) ∙ item_behind a u (value_text m.value)
+      ∙ ap (with_item a) (append_assoc (symbol_text m.name) (codes ":") (value_text m.value)),
+  fields_wrote n h ms (omega (arith, small)),
+)
+
+-- a part is an item of its text
+part_wrote : (p : Payload) (d : Layer) (a : Written) → views.out-Payload p ≡ d → wrote_all (part p ∷ []) a ≡ with_item a (layer_text d)
+part_wrote p d a is = ap (λ l. with_item a (layer_text l)) is
+
+layer_wrote : (n : ℕ) → Wrote n → (d : Layer) → layer_depth d < suc n → (a : Written) → wrote_all (layer_events d) a ≡ with_item a (layer_text d)
+layer_wrote n h (Payload-F.Null k) small a = part_wrote _ _ a (views.outs-Null k)
+layer_wrote n h (Payload-F.Truth t) small a = part_wrote _ _ a (views.outs-Truth t)
+layer_wrote n h (Payload-F.Int z) small a = part_wrote _ _ a (views.outs-Int z)
+layer_wrote n h (Payload-F.Decimal d) small a = part_wrote _ _ a (views.outs-Decimal d)
+layer_wrote n h (Payload-F.Timestamp t) small a = part_wrote _ _ a (views.outs-Timestamp t)
+layer_wrote n h (Payload-F.Symbol t) small a = part_wrote _ _ a (views.outs-Symbol t)
+layer_wrote n h (Payload-F.Str w) small a = part_wrote _ _ a (views.outs-Str w)
+layer_wrote n h (Payload-F.Clob w) small a = part_wrote _ _ a (views.outs-Clob w)
+layer_wrote n h (Payload-F.Blob w) small a = part_wrote _ _ a (views.outs-Blob w)
+layer_wrote n h (Payload-F.List vs) small a = within_wrote events_of value_text brackets.List vs (items_wrote n h vs (omega (arith, small))) a
+layer_wrote n h (Payload-F.Sexp vs) small a = within_wrote events_of value_text brackets.Sexp vs (items_wrote n h vs (omega (arith, small))) a
+layer_wrote n h (Payload-F.Fields ms) small a = within_wrote field_events field_text brackets.Fields ms (fields_wrote n h ms (omega (arith, small))) a
+
+each_wrote : (n : ℕ) → Wrote n
+each_wrote zero = record { value = λ v small a. absurd (omega (arith, small)) }
+each_wrote (suc n) = record {
+  value = λ v small a.
+      let d = views.out-Payload v.payload in
+      let ss = v.annotations in
+      ap (λ es. wrote_all es a) (events_out v) ∙ wrote_both (map annotation ss) (layer_events d) a
+      ∙ layer_wrote n (each_wrote n) d (omega (arith, small, depth-out v)) (wrote_all (map annotation ss) a)
+      ∙ notes_wrote ss a (layer_text d) ∙ ap (with_item a) (sym (text-out v));
+}
+
+value_wrote : (v : Value) (a : Written) → wrote_all (events_of v) a ≡ with_item a (value_text v)
+value_wrote v = (each_wrote (suc (depth v))).value v (omega arith)
+
+-- 3. Values whose events the types keep are kept.
+
+notes_kept : (ss : List (Option (List ℕ))) → AreKeptEvents (map annotation ss) → AreTexts ss
+notes_kept [] h = tt
+notes_kept (s ∷ ss) h = (h.0, notes_kept ss h.1)
+
+record Kept (n : ℕ) : Type 0 where
+  value : (v : Value) → depth v < n → AreKeptEvents (events_of v) → IsKept v
+
+items_kept : (n : ℕ) → Kept n → (vs : List Value) → greatest (map depth vs) < n → AreKeptEvents (flat_map events_of vs) → KeptItems vs
+items_kept n h [] small k = kepts.no_items
+items_kept n h (v ∷ vs) small k =
+    let s = kept_split (events_of v) (flat_map events_of vs) k in
+    kepts.an_item v vs (h.value v (omega (arith, small)) s.0) (items_kept n h vs (omega (arith, small)) s.1)
+
+fields_kept : (n : ℕ) → Kept n → (ms : List Field) → greatest (map (λ f. depth f.value) ms) < n → AreKeptEvents (flat_map field_events ms) → KeptFields ms
+fields_kept n h [] small k = kepts.no_fields
+fields_kept n h (m ∷ ms) small k =
+    let s = kept_split (events_of m.value) (flat_map field_events ms) k.1 in
+    kepts.a_field m.name m.value ms k.0 (h.value m.value (omega (arith, small)) s.0) (fields_kept n h ms (omega (arith, small)) s.1)
+
+layer_kept : (n : ℕ) → Kept n → (d : Layer) → layer_depth d < suc n → AreKeptEvents (layer_events d) → KeptPayload (views.roll-Payload d)
+unfolding views.roll-Payload denote.Hole.Carrier.roll
+layer_kept n h (Payload-F.Null k) small t = t.0
+layer_kept n h (Payload-F.Truth b) small t = t.0
+layer_kept n h (Payload-F.Int z) small t = t.0
+layer_kept n h (Payload-F.Decimal d) small t = t.0
+layer_kept n h (Payload-F.Timestamp s) small t = t.0
+layer_kept n h (Payload-F.Symbol s) small t = t.0
+layer_kept n h (Payload-F.Str w) small t = t.0
+layer_kept n h (Payload-F.Clob w) small t = t.0
+layer_kept n h (Payload-F.Blob w) small t = t.0
+layer_kept n h (Payload-F.List vs) small t =
+    kepts.kept_list vs (items_kept n h vs (omega (arith, small)) (kept_split (flat_map events_of vs) (closes brackets.List ∷ []) t.1).0)
+layer_kept n h (Payload-F.Sexp vs) small t =
+    kepts.kept_sexp vs (items_kept n h vs (omega (arith, small)) (kept_split (flat_map events_of vs) (closes brackets.Sexp ∷ []) t.1).0)
+layer_kept n h (Payload-F.Fields ms) small t =
+    kepts.kept_fields ms (fields_kept n h ms (omega (arith, small)) (kept_split (flat_map field_events ms) (closes brackets.Fields ∷ []) t.1).0)
+
+each_kept : (n : ℕ) → Kept n
+each_kept zero = record { value = λ v small k. absurd (omega (arith, small)) }
+each_kept (suc n) = record {
+  value = λ v small k.
+      let d = views.out-Payload v.payload in
+      let s = kept_split (map annotation v.annotations) (layer_events d) (subst AreKeptEvents (events_out v) k) in
+      kepts.kept v.annotations v.payload (notes_kept v.annotations s.0)
+      (subst KeptPayload (views.roll-out-Payload v.payload) (layer_kept n (each_kept n) d (omega (arith, small, depth-out v)) s.1));
+}
+
+value_kept : (v : Value) → AreKeptEvents (events_of v) → IsKept v
+value_kept v = (each_kept (suc (depth v))).value v (omega arith)
+
+-- a value that was told is written behind what was, and is kept
+pub value_told : (v : Value) (a b : Written) → Led Writes (events_of v) a b → (b ≡ with_item a (value_text v)) × IsKept v
+value_told v a b h = (led_wrote (events_of v) a b h ∙ value_wrote v a, value_kept v (led_kept (events_of v) a b h))
+
+-- 4. Values of the top level.
+
+-- lines, and nothing behind them
+abbrev of_lines : List ℕ → Written
+of_lines w = at w (length w) [] None
+
+values_wrote : (s : List Value) (w : List ℕ) → wrote_all (stream_events s) (of_lines w) ≡ of_lines (w ++ text_of s)
+values_wrote [] w = ap of_lines (sym (append-nil w))
+values_wrote (v ∷ s) w =
+    wrote_both (events_of v ++ ended ∷ []) (stream_events s) (of_lines w)
+    ∙ ap (wrote_all (stream_events s)) (wrote_both (events_of v) (ended ∷ []) (of_lines w)
+    ∙ ap (wrote_all (ended ∷ [])) (value_wrote v (of_lines w))
+    ∙ ap of_lines (ap (λ x. (x ++ value_text v) ++ codes "\n") (append-nil w) ∙ append_assoc w (value_text v) (codes "\n")))
+    ∙ values_wrote s (w ++ adds v) ∙ ap of_lines (append_assoc w (adds v) (text_of s))
+
+values_kept : (s : List Value) → AreKeptEvents (stream_events s) → AreKept s
+values_kept [] h = tt
+values_kept (v ∷ s) h =
+    let k = kept_split (events_of v ++ ended ∷ []) (stream_events s) h in
+    (value_kept v (kept_split (events_of v) (ended ∷ []) k.0).0, values_kept s k.1)
+
+-- values that were told and ended are written as their document, of whole lines, and are kept
+pub values_told : (s : List Value) (b : Written) → Led Writes (stream_events s) no_text b
+    → (b.octets ≡ text_of s) × (lines b ≡ text_of s) × AreKept s
+values_told s b h =
+    let end : b ≡ of_lines (text_of s) = led_wrote (stream_events s) no_text b h ∙ values_wrote s [] in (
+      ap (λ (x : Written). x.octets) end,
+      ap lines end ∙ take_all (length (text_of s)) (text_of s) (omega arith),
+      values_kept s (led_kept (stream_events s) no_text b h),
+    )
+
+-- 5. What is begun behind them.
+
+-- none of these ends a value
+abbrev AreInside : List Event → Type 0
+AreInside [] = ⊤
+AreInside (e ∷ es) = (is_end e ≡ false) × AreInside es
+
+awaited_inside : (es fs : List Event) (a b : Built) → Led Awaits (es ++ fs) a b → AreInside es
+awaited_inside [] fs a b h = tt
+awaited_inside (e ∷ es) fs a b h = (h.1.inside, awaited_inside es fs h.0 b h.2)
+
+-- octets were written behind others, and as many of them are whole lines
+record GoesOn (a b : Written) : Type 0 where
+  more : List ℕ
+  octets : b.octets ≡ a.octets ++ more
+  whole : b.whole ≡ a.whole
+
+goes_both : (a m b : Written) → GoesOn a m → GoesOn m b → GoesOn a b
+goes_both a m b g h = record {
+  more = g.more ++ h.more;
+  octets = h.octets ∙ ap (λ w. w ++ h.more) g.octets ∙ append_assoc a.octets g.more h.more;
+  whole = h.whole ∙ g.whole;
+}
+
+front_goes : (a : Written) (w : List ℕ) (xs : List Bracket) (o : Option ℕ) → GoesOn a (at (front a ++ w) a.whole xs o)
+front_goes a w xs o = record { more = option_to_list a.before ++ w; octets = append_assoc a.octets (option_to_list a.before) w; whole = refl }
+
+event_goes : (a : Written) (e : Event) → is_end e ≡ false → GoesOn a (wrote a e)
+event_goes a (part p) inside = front_goes a _ _ _
+event_goes a (annotation s) inside = front_goes a _ _ _
+event_goes a (name s) inside = front_goes a _ _ _
+event_goes a (opens x) inside = front_goes a _ _ _
+event_goes a (closes x) inside = record { more = bracket_close x ∷ []; octets = refl; whole = refl }
+event_goes a ended inside = absurd cc
+
+events_go : (es : List Event) (a : Written) → AreInside es → GoesOn a (wrote_all es a)
+events_go [] a h = record { more = []; octets = sym (append-nil a.octets); whole = refl }
+events_go (e ∷ es) a h = goes_both a (wrote a e) _ (event_goes a e h.0) (events_go es (wrote a e) h.1)
+
+lines_stay : (w : List ℕ) (b : Written) → GoesOn (of_lines w) b → lines b ≡ w
+lines_stay w b g =
+    ap (λ n. take n b.octets) g.whole ∙ ap (take (length w)) g.octets ∙ take_at w g.more (length w) refl
+
+-- while a value is told behind others that ended, the lines are those of the others
+pub begun_told : (s : List Value) (v : Value) (es fs : List Event) (b : Written) → events_of v ≡ es ++ fs → Led Writes (stream_events s ++ es) no_text b
+    → lines b ≡ text_of s
+begun_told s v es fs b is h =
+    let whole : Built = record { notes = []; place = places.Top (Some v); outer = [] } in
+    let inside = awaited_inside es fs fresh whole (subst (λ x. Led Awaits x fresh whole) is (value_awaited v (places.Top None) [] refl)) in
+    let end = led_wrote (stream_events s ++ es) no_text b h ∙ wrote_both (stream_events s) es no_text ∙ ap (wrote_all es) (values_wrote s []) in
+    lines_stay (text_of s) b (subst (GoesOn (of_lines (text_of s))) (sym end) (events_go es (of_lines (text_of s)) inside))

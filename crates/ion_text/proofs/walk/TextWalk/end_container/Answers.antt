@@ -1,0 +1,31 @@
+use Rattle.std.proofs.Common.{◌≡◌, ◌+◌, ◌<◌, List, [], Ok, false, true, length, arith, ap, refl, sym, ◌∙◌, subst}
+use Rattle.ion_model.specs.Measures.{annotated}
+use Rattle.ion_tokens.specs.declared.mode.Place.TheVariants as places
+use Rattle.ion_tokens.specs.declared.mode.TokenKind.TheVariants as kinds
+use Rattle.ion_tokens.specs.declared.plain_tokens.Rest.{Rest}
+use Rattle.ion_tokens.specs.machine.Rests.{past_blank, past_token}
+use Rattle.ion_visiting.specs.Parts.{number_payload, payload_of}
+use Rattle.ion_text.specs.declared.state.Effect.{Effect}
+use Rattle.ion_text.specs.declared.state.Frame.{Frame}
+use Rattle.ion_text.specs.declared.state.Taken.TheVariants as taken
+use Rattle.ion_text.specs.machine.EachToken.{Symbols, closed, ended, spot_at}
+use Rattle.ion_text.specs.walk.Holds.{Does, Holds, SameSetting, setting_of, spot_of, told}
+use Rattle.ion_text.specs.walk.Strides.{EndsBy}
+use Rattle.ion_text.proofs.LastTokens.{container_answer}
+use Rattle.ion_text.proofs.walk.TextWalk.end_container.Goals as goal
+
+pub returns-in-Ok-Gives : goal.returns-in-Ok-Gives
+returns-in-Ok-Gives g c =
+    let old = c.args.self.now in
+    let new = c.close.new.self in
+    let rest = c.args.rest.now in
+    let octets = c.args.octets.now in
+    let here = c.place-here.result in
+    let bracket = c.in-Some.bracket in
+    subst (λ (r : Rest). EndsBy g.V.Visitor.takes old new rest r octets (Ok (1, taken.Tells)) c.args.visitor.now c.close.new.visitor)
+    (sym (c.past_token.ensures ∙ ap (λ m. past_token here rest (kinds.Mark m) 1) c.close_mark.ensures))
+    (container_answer g.V.Visitor.takes old new rest octets c.args.visitor.now c.close.new.visitor c.in-Ok-Gives.ensures.setting here bracket
+    c.requires.more c.in-Some.ensures.octet c.in-Some.ensures.closes c.place-here.ensures
+    (subst (λ (e : Effect). (fs : List Frame) → Holds old fs [] → Does g.V.Visitor.takes (told fs [])
+    (closed bracket (setting_of old) (spot_of old (rest.used + 1)) fs) (Ok e) new c.args.visitor.now c.close.new.visitor)
+    c.in-Ok-Gives.field-0-is c.in-Ok-Gives.ensures.does))

@@ -1,0 +1,17 @@
+use Rattle.std.proofs.Common.{Ok, ap, sym, subst, ◌∙◌}
+use Rattle.ion_tokens.specs.machine.Views.{scanned}
+use Rattle.ion_text.specs.declared.state.Effect.{Effect}
+use Rattle.ion_text.specs.machine.EachToken.{turn}
+use Rattle.ion_text.specs.machine.Views.{token_in}
+use Rattle.ion_text.specs.walk.Holds.{Does, reading_of, told}
+use Rattle.ion_text.proofs.Taking.{given_gives}
+use Rattle.ion_text.proofs.walk.TextWalk.meet_given.Goals as goal
+
+pub returns-in-Gives-clause-did : goal.returns-in-Gives-clause-did
+returns-in-Gives-clause-did g c = λ fs ss h.
+    let r = c.args.self.now in
+    let t = turn r.catalog.now r.limits (reading_of r fs ss) (token_in c.args.token) in
+    given_gives g.V.Visitor.takes r.limits (scanned r.scanner) (told fs ss) t c.turn.new.self c.args.visitor.now c.turn.new.visitor
+    (ap scanned c.in_ok-turn.ensures.setting.scanner)
+    (subst (λ (e : Effect). Does g.V.Visitor.takes (told fs ss) t (Ok e) c.turn.new.self c.args.visitor.now c.turn.new.visitor) c.in-Gives.is
+    (c.in_ok-turn.ensures.does fs ss h))

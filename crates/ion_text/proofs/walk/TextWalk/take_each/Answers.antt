@@ -1,0 +1,45 @@
+use Rattle.std.proofs.Common.{◌≡◌, ◌+◌, ◌-◌, ◌<◌, ◌^◌, List, ℕ, length, take, drop, arith, ap, ◌∙◌, length-drop}
+use Rattle.std.proofs.lemmas.List.{take_rest}
+use Rattle.ion_text.proofs.Strides.{settings_none, settings_on, strides_ok, strode_none, strode_on}
+use Rattle.ion_text.proofs.walk.TextWalk.take_each.Goals as goal
+
+pub loop-init : goal.loop-init
+loop-init g c = (strode_none g.V.Visitor.takes c.args.self.now c.args.rest.now c.args.octets.now c.args.visitor.now, settings_none c.args.self.now)
+
+pub take_next-requires : goal.take_next-requires
+take_next-requires g c =
+    let octets = c.args.octets.now in
+    let at = c.loop.at in
+    let size : length (take (length octets - at) (drop at octets)) ≡ length octets - at =
+    ap (λ (w : List ℕ). length w) (take_rest octets at) ∙ length-drop at octets in
+    let within = c.loop.invariant.0.within in
+    let used = c.loop.invariant.0.used in
+    let room = c.requires in
+    omega arith
+
+pub loop-preserved : goal.loop-preserved
+loop-preserved g c =
+    let octets = c.args.octets.now in
+    let at = c.loop.at in
+    let two = c.in_ok-count.ensures in (
+      strode_on g.V.Visitor.takes c.args.self.now c.loop.self c.take_next.new.self c.args.rest.now c.loop.rest c.take_next.new.rest octets
+          (take (length octets - at) (drop at octets)) at c.in_ok-count.count c.args.visitor.now c.loop.visitor c.take_next.new.visitor (take_rest octets at)
+          c.loop.invariant.1 c.loop.invariant.0 two.strode,
+      settings_on c.args.self.now c.loop.self c.take_next.new.self c.loop.invariant.1 two.same,
+    )
+
+pub returns-then-count-eq0 : goal.returns-then-count-eq0
+returns-then-count-eq0 g c =
+    let octets = c.args.octets.now in
+    let at = c.loop.at in
+    let two = c.in_ok-count.ensures in
+    strides_ok g.V.Visitor.takes c.args.self.now c.take_next.new.self c.args.rest.now c.take_next.new.rest octets (at + c.in_ok-count.count)
+    c.args.visitor.now c.take_next.new.visitor
+    (strode_on g.V.Visitor.takes c.args.self.now c.loop.self c.take_next.new.self c.args.rest.now c.loop.rest c.take_next.new.rest octets
+    (take (length octets - at) (drop at octets)) at c.in_ok-count.count c.args.visitor.now c.loop.visitor c.take_next.new.visitor (take_rest octets at)
+    c.loop.invariant.1 c.loop.invariant.0 two.strode) (settings_on c.args.self.now c.loop.self c.take_next.new.self c.loop.invariant.1 two.same)
+
+pub returns-after-loop : goal.returns-after-loop
+returns-after-loop g c =
+    strides_ok g.V.Visitor.takes c.args.self.now c.loop.self c.args.rest.now c.loop.rest c.args.octets.now c.loop.at c.args.visitor.now c.loop.visitor
+    c.loop.invariant.0 c.loop.invariant.1

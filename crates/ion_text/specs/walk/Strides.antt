@@ -1,0 +1,94 @@
+-- Tokens that lie whole at the front of octets, where a scanner rests: a reader that holds no values takes them up at once.
+use Rattle.std.specs.Prelude.{◌≡◌, ◌+◌, ◌-◌, ◌≤◌, ◌<◌, ℕ, List, [], ◌∷◌, length, take, get_or, Result, Ok, IfOk, IfErr}
+use Rattle.ion_atoms.specs.declared.refusal.Reason.{Reason}
+use Rattle.ion_atoms.specs.declared.refusal.Reason.TheVariants.{Memory}
+use Rattle.ion_model.specs.declared.value.Value.{Value}
+use Rattle.ion_tokens.specs.declared.plain_tokens.Rest.{Rest}
+use Rattle.ion_tokens.specs.machine.Rests.{resting}
+use Rattle.ion_tokens.specs.machine.Views.{scanned}
+use Rattle.ion_visiting.specs.Events.{Event}
+use Rattle.ion_text.specs.declared.state.Frame.{Frame}
+use Rattle.ion_text.specs.declared.state.Taken.{Taken}
+use Rattle.ion_text.specs.declared.state.Taken.TheVariants as taken
+use Rattle.ion_text.specs.declared.walk.TextWalk.{TextWalk}
+use Rattle.ion_text.specs.machine.AtOnce.{Passes, IsStill}
+use Rattle.ion_text.specs.machine.EachToken.{Symbols, begun_at}
+use Rattle.ion_text.specs.machine.Pieces.{led}
+use Rattle.ion_text.specs.machine.Run.{State, eats, leaves, run, with_scan}
+use Rattle.ion_text.specs.walk.Tables.{Hears, heard}
+use Rattle.ion_text.specs.walk.Holds.{GaveOut, Holds, SameSetting, reading_of, state_of, told}
+
+-- a scanner that rests there, before a reader with these containers and annotations
+abbrev pub resting_at : Rest → TextWalk → List Frame → Symbols → State
+resting_at rest r fs ss = with_scan (resting rest) (reading_of r fs ss)
+
+-- A reader may stand for these containers and annotations, nothing waits, and the limit on items leaves so many octets to the open item, or
+-- to the next one.
+pub record Ahead (r : TextWalk) (fs : List Frame) (ss : Symbols) (rest : Rest) (n : ℕ) : Type 0 where
+  pub holds : Holds r fs ss
+  pub still : IsStill r.stage
+  pub fits : rest.used + n ≤ r.limits.item + begun_at r.start rest.used fs ss
+
+module _ {V : Type 0} (takes : V → Event → V → Type 0) where
+  -- From where a reader stood a run goes on over so many octets to where it stands now, and a visitor heard what there was to hear of them.
+  pub record StrodeFrom (fs : List Frame) (ss : Symbols) (old new : TextWalk) (before after : Rest) (octets : List ℕ) (count : ℕ)
+      (a b : V) : Type 0 where
+    pub frames : List Frame
+    pub notes : Symbols
+    pub passes : Passes old.catalog.now old.limits (resting_at before old fs ss) octets count (resting_at after new frames notes)
+    pub ahead : Ahead new frames notes after (length octets - count)
+    pub hears : Hears takes (heard (told fs ss)) (heard (told frames notes)) a b
+
+  -- so many octets at the front of these were taken up, whatever the reader stood for
+  pub record Strode (old new : TextWalk) (before after : Rest) (octets : List ℕ) (count : ℕ) (a b : V) : Type 0 where
+    pub leads : (fs : List Frame) (ss : Symbols) → Ahead old fs ss before (length octets) → StrodeFrom fs ss old new before after octets count a b
+    pub within : count ≤ length octets - 1
+    pub used : after.used ≡ before.used + count
+
+  -- what taking up of these octets answers: how many they are, or that there is no memory
+  pub record StridesBy (old new : TextWalk) (before after : Rest) (octets : List ℕ) (result : Result ℕ Reason) (a b : V) : Type 0 where
+    pub strode : IfOk result (λ count. Strode old new before after octets count a b)
+    pub memory : IfErr result (λ reason. reason ≡ Memory)
+    pub same : SameSetting old new
+
+  -- From where a reader with its scanner stood a run goes on over so many octets to where they stand now.
+  pub record Strides (fs : List Frame) (ss : Symbols) (old new : TextWalk) (octets : List ℕ) (count : ℕ) (a b : V) : Type 0 where
+    pub frames : List Frame
+    pub notes : Symbols
+    pub passes : Passes old.catalog.now old.limits (state_of old fs ss) octets count (state_of new frames notes)
+    pub holds : Holds new frames notes
+    pub hears : Hears takes (heard (told fs ss)) (heard (told frames notes)) a b
+
+  -- Over so many octets a run goes on, gives a value with the last of them, or leads to where the next one shows the end of a value; a visitor
+  -- heard what there was to hear of them.
+  abbrev pub EndsSo : List Frame → Symbols → TextWalk → TextWalk → Rest → Rest → List ℕ → ℕ → V → V → Taken → Type 0
+  EndsSo fs ss old new before after octets count a b taken.Uses = StrodeFrom fs ss old new before after octets count a b
+  EndsSo fs ss old new before after octets count a b taken.Tells = (0 < count)
+      × (v : Value) × (run old.catalog.now old.limits before.used (resting_at before old fs ss) (take count octets)
+      ≡ record { given = (v, before.used + count) ∷ []; now = Ok (resting_at after new [] []) }) × GaveOut takes (told fs ss) new v a b
+  EndsSo fs ss old new before after octets count a b taken.Leaves = (0 < count)
+      × (v : Value) × (m : State) × (run old.catalog.now old.limits before.used (resting_at before old fs ss) (take count octets) ≡ led m)
+      × (eats old.catalog.now old.limits m (get_or octets count 0) ≡ leaves v (resting_at after new [] [])) × GaveOut takes (told fs ss) new v a b
+
+  -- so many octets at the front of these were taken up, whatever the reader stood for
+  pub record Ended (old new : TextWalk) (before after : Rest) (octets : List ℕ) (ends : ℕ × Taken) (a b : V) : Type 0 where
+    pub leads : (fs : List Frame) (ss : Symbols) → Ahead old fs ss before (length octets) → EndsSo fs ss old new before after octets ends.0 a b ends.1
+    pub within : ends.0 ≤ length octets - 1
+    pub used : after.used ≡ before.used + ends.0
+
+  -- what taking up of these octets answers
+  pub record EndsBy (old new : TextWalk) (before after : Rest) (octets : List ℕ) (result : Result (ℕ × Taken) Reason) (a b : V) : Type 0 where
+    pub ended : IfOk result (λ ends. Ended old new before after octets ends a b)
+    pub memory : IfErr result (λ reason. reason ≡ Memory)
+    pub same : SameSetting old new
+
+  -- From where a reader with its scanner stood, over so many octets a run goes on, gives a value with the last of them, or leads to where the
+  -- next one shows the end of a value; a visitor heard what there was to hear of them.
+  abbrev pub TookSo : List Frame → Symbols → TextWalk → TextWalk → List ℕ → ℕ → V → V → Taken → Type 0
+  TookSo fs ss old new octets count a b taken.Uses = Strides fs ss old new octets count a b
+  TookSo fs ss old new octets count a b taken.Tells = (0 < count)
+      × (v : Value) × (run old.catalog.now old.limits (scanned old.scanner).used (state_of old fs ss) (take count octets)
+      ≡ record { given = (v, (scanned old.scanner).used + count) ∷ []; now = Ok (state_of new [] []) }) × GaveOut takes (told fs ss) new v a b
+  TookSo fs ss old new octets count a b taken.Leaves = (0 < count)
+      × (v : Value) × (m : State) × (run old.catalog.now old.limits (scanned old.scanner).used (state_of old fs ss) (take count octets) ≡ led m)
+      × (eats old.catalog.now old.limits m (get_or octets count 0) ≡ leaves v (state_of new [] [])) × GaveOut takes (told fs ss) new v a b

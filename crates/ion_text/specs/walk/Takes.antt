@@ -1,0 +1,67 @@
+-- What octets do to a reader that holds no values, and what a visitor hears of them.
+use Rattle.std.specs.Prelude.{◌≡◌, ◌≢◌, ℕ, ◌+◌, List, [], Bool, true, false, Result, Ok, Err, IsNone, IfOk}
+use Rattle.ion_model.specs.declared.value.Value.{Value}
+use Rattle.ion_atoms.specs.declared.refusal.Reason.{Reason}
+use Rattle.ion_atoms.specs.declared.refusal.Refusal.{Refusal}
+use Rattle.ion_atoms.specs.declared.refusal.Reason.TheVariants.{Memory}
+use Rattle.ion_symtab.specs.declared.limits.Limits.{Limits}
+use Rattle.ion_symtab.specs.declared.catalog.Catalog.{Catalog}
+use Rattle.ion_tokens.specs.machine.Bounds.{IsSteady}
+use Rattle.ion_tokens.specs.machine.Scanning.{Outcome}
+use Rattle.ion_tokens.specs.machine.Views.{scanned, looks, failure}
+use Rattle.ion_visiting.specs.Events.{Event}
+use Rattle.ion_text.specs.declared.state.Frame.{Frame}
+use Rattle.ion_text.specs.declared.state.Taken.{Taken}
+use Rattle.ion_text.specs.declared.state.Taken.TheVariants.{Uses, Tells, Leaves}
+use Rattle.ion_text.specs.declared.state.Met.{Met}
+use Rattle.ion_text.specs.declared.state.Met.TheVariants as met
+use Rattle.ion_text.specs.declared.walk.TextWalk.{TextWalk}
+use Rattle.ion_text.specs.machine.EachToken.{Reading, Symbols}
+use Rattle.ion_text.specs.machine.Run.{State, Effect, uses, tells, leaves, fails, or_worse, on_scan}
+use Rattle.ion_text.specs.machine.Views.{IsBehind, is_left, decided, comes_again}
+use Rattle.ion_text.specs.walk.Holds.{WentOn, GaveOut, state_of}
+
+-- so far the scanner refused nothing
+abbrev pub IsFine : TextWalk → Type 0
+IsFine r = IsNone (failure r.scanner)
+
+-- what no octet changes
+pub record SameReader (old new : TextWalk) : Type 0 where
+  pub catalog : new.catalog ≡ old.catalog
+  pub limits : new.limits ≡ old.limits
+  pub awaited : new.awaited ≡ old.awaited
+  pub failed : new.failed ≡ old.failed
+
+-- what the scanner always knows, it knows behind octets too
+abbrev pub StaysSteady : TextWalk → TextWalk → Type 0
+StaysSteady old new = IsSteady (scanned old.scanner) (looks old.scanner) → IsSteady (scanned new.scanner) (looks new.scanner)
+
+-- how many octets are used, and whether the last one isn't, as came of them at the scanner
+abbrev pub IsMet : Outcome → Met → TextWalk → Type 0
+IsMet x m new = IsBehind x (scanned new.scanner) × (is_left x ≡ comes_again m)
+
+module _ {V : Type 0} (leads : V → Event → V → Type 0) (es : List Event) where
+  -- a method did what an octet does, where so much was told before; unless memory ran out
+  abbrev pub DidTake : Effect → Result Taken Reason → TextWalk → V → V → Type 0
+  DidTake e (Ok Uses) r a b = (fs : List Frame) × (ss : Symbols) × (e ≡ uses (state_of r fs ss)) × WentOn leads es r fs ss a b
+  DidTake e (Ok Tells) r a b = (v : Value) × (e ≡ tells v (state_of r [] [])) × GaveOut leads es r v a b
+  DidTake e (Ok Leaves) r a b = (v : Value) × (e ≡ leaves v (state_of r [] [])) × GaveOut leads es r v a b
+  DidTake e (Err reason) r a b = reason ≢ Memory → e ≡ fails reason
+
+  -- the same where the octet may come again
+  abbrev pub DidMeet : ((State → Effect) → Effect) → Result Met Reason → TextWalk → V → V → Type 0
+  DidMeet e (Ok met.Uses) r a b = (fs : List Frame) × (ss : Symbols) × ((again : State → Effect) → e again ≡ uses (state_of r fs ss))
+      × WentOn leads es r fs ss a b
+  DidMeet e (Ok met.Tells) r a b = (v : Value) × ((again : State → Effect) → e again ≡ tells v (state_of r [] [])) × GaveOut leads es r v a b
+  DidMeet e (Ok met.Leaves) r a b = (v : Value) × ((again : State → Effect) → e again ≡ leaves v (state_of r [] [])) × GaveOut leads es r v a b
+  DidMeet e (Ok met.Again) r a b = (fs : List Frame) × (ss : Symbols) × ((again : State → Effect) → e again ≡ again (state_of r fs ss))
+      × WentOn leads es r fs ss a b
+  DidMeet e (Ok (met.Late reason)) r a b = (fs : List Frame) × (ss : Symbols)
+      × ((again : State → Effect) → e again ≡ or_worse reason (again (state_of r fs ss))) × WentOn leads es r fs ss a b
+  DidMeet e (Err reason) r a b = reason ≢ Memory → (again : State → Effect) → e again ≡ fails reason
+
+  -- from what came of octets at the scanner, a method did what comes of them; unless memory ran out
+  abbrev pub MeetsWith : Catalog → Limits → Reading → Outcome → Result (ℕ × Met) Refusal → TextWalk → V → V → Type 0
+  MeetsWith g l q x (Ok m) r a b = DidMeet (λ again. on_scan g l again q x) (Ok m.1) r a b
+  MeetsWith g l q x (Err refusal) r a b = refusal.reason ≢ Memory → (refusal.offset ≡ decided x)
+      × ((again : State → Effect) → on_scan g l again q x ≡ fails refusal.reason)

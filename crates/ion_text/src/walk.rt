@@ -1,0 +1,302 @@
+//! The reader of text documents that holds no values: what it holds, and what ends a value.
+ghost use Rattle.std.specs.Prelude.{◌≡◌, ◌++◌, [], List, nat_lt, length, true, false, Ok, Err, OnOk, IfErr, ◌⊎◌};
+ghost use Rattle.ion_atoms.specs.declared.refusal.Reason.TheVariants.{Memory};
+ghost use Rattle.ion_model.specs.Kinds.{is_table};
+ghost use Rattle.ion_model.specs.Measures.{annotated};
+ghost use Rattle.ion_symtab.specs.Next.{next};
+ghost use Rattle.ion_model.specs.declared.value.Payload.TheVariants as payloads;
+ghost use Rattle.ion_model.specs.declared.value.Value.{Value as AnyValue};
+ghost use Rattle.ion_visiting.specs.Events.{events_of};
+ghost use Rattle.ion_visiting.specs.Parts.{number_payload, payload_of};
+ghost use Rattle.ion_text.specs.declared.state.Frame.{Frame};
+ghost use Rattle.ion_text.specs.declared.state.Now.TheVariants as nows;
+ghost use Rattle.ion_text.specs.machine.EachToken.{Symbols, place, begun_at, ended};
+ghost use Rattle.ion_text.specs.machine.Run.{is_top};
+ghost use Rattle.ion_text.specs.walk.Tables.{WasTold};
+ghost use Rattle.ion_text.specs.walk.Holds.{AreAround, Does, DoesAlone, Holds, SameSetting, behind_value, brackets_of, calm, is_inside, open_brackets, reading_of, setting_of, spot_of, told, told_in};
+
+use crate::state::{Effect, Now};
+use crate::walk::tables::TableFilter;
+use ion_model::{Reason, Refusal, Symbol, Value};
+use ion_scalar::Number;
+use ion_symtab::{Catalog, Context, Limits};
+use ion_tokens::{Place, Scanner};
+use ion_visiting::{Bracket, Part, RecentSymbols, Visitor};
+use std::alloc::Global;
+use std::fmt::{self, Debug, Formatter};
+use std::mem;
+
+mod containers;
+mod last_tokens;
+mod octets;
+mod on_token;
+mod settling;
+mod stride;
+mod tables;
+
+/// A reader of a text document that comes in pieces (Ion 1.0, "Ion Text Encoding"). It tells a
+/// visitor the values event by event, and holds none of them.
+///
+/// It keeps which containers are open, and the octets of the token that is open. Local symbol tables
+/// change what symbol ids stand for and aren't told; a version marker sets that back to the system
+/// symbols.
+#[derive(Drop)]
+pub struct TextWalk<'a> {
+    alloc: Global,
+    catalog: &'a Catalog,
+    limits: Limits,
+    scanner: Scanner,
+    /// The symbols met lately, whose texts are shared.
+    recent: RecentSymbols,
+    /// Where the open item of the top level begins.
+    start: u64,
+    /// What symbol ids stand for.
+    context: Context,
+    /// The open containers, the innermost last.
+    frames: Vec<Bracket>,
+    /// Whether annotations were read of the value that is read now.
+    noted: bool,
+    stage: Now,
+    /// Keeps local symbol tables from the visitor.
+    filter: TableFilter,
+    /// The octet that showed the end of the value told last, and wasn't used.
+    awaited: Option<u8>,
+    /// The refusal that each call answers from now on.
+    failed: Option<Refusal>,
+}
+
+impl Debug for TextWalk<'_> {
+    fn fmt<W: fmt::Write>(&self, f: &mut Formatter<W>) -> fmt::Result {
+        f.debug_struct("TextWalk").finish_non_exhaustive()
+    }
+}
+
+// A visitor that can't go on has no memory.
+#[inline(always)]
+fn heard(went_on: bool) -> Result<(), Reason>
+    ensures ok { OnOk result (went_on ≡ true) }
+    ensures memory { IfErr result (λ reason. reason ≡ Memory) }
+{
+    if went_on { Ok(()) } else { Err(Reason::Memory) }
+}
+
+// What may come next where nothing waits any more.
+#[inline(always)]
+fn calm(stage: &Now) -> Now
+    ensures { result ≡ calm stage.now }
+{
+    match stage {
+        Now::Ready | Now::Pending(_, _) | Now::Long(_, _) => Now::Ready,
+        Now::After => Now::After,
+        Now::Name | Now::LongName(_) | Now::Keyed(_) => Now::Name,
+    }
+}
+
+impl TextWalk<'_> {
+    /// Where the next token stands.
+    fn place(&self) -> Place
+        ensures { (fs : List Frame) (ss : Symbols) → Holds self.now fs ss →
+            result ≡ place (reading_of self.now fs ss) }
+    {
+        match self.frames.last() {
+            None => Place::Top,
+            Some(Bracket::List) => Place::List,
+            Some(Bracket::Sexp) => Place::Sexp,
+            Some(Bracket::Fields) => match &self.stage {
+                Now::Name | Now::LongName(_) | Now::Keyed(_) => Place::Name,
+                _ => Place::FieldValue,
+            },
+        }
+    }
+
+    /// Whether no container is open.
+    fn is_top(&self) -> bool
+        ensures { (fs : List Frame) (ss : Symbols) → Holds self.now fs ss → result ≡ is_top fs }
+    {
+        match self.frames.last() {
+            None => true,
+            Some(_) => false,
+        }
+    }
+
+    /// Whether some container is open.
+    fn is_inside(&self) -> bool
+        ensures { result ≡ is_inside (open_brackets self.now) }
+    {
+        match self.frames.last() {
+            None => false,
+            Some(_) => true,
+        }
+    }
+
+    /// What may come behind a value in the innermost of the open containers.
+    fn behind_value(&self) -> Now
+        ensures { result ≡ behind_value (open_brackets self.now) }
+    {
+        match self.frames.last() {
+            Some(Bracket::Sexp) => Now::Ready,
+            _ => Now::After,
+        }
+    }
+
+    /// Where the item of a token begins that begins at `begin`.
+    fn begun_at(&self, begin: u64) -> u64
+        ensures { (fs : List Frame) (ss : Symbols) → Holds self.now fs ss →
+            result ≡ begun_at self.now.start begin fs ss }
+    {
+        if self.noted {
+            return self.start;
+        }
+        match self.frames.last() {
+            None => begin,
+            Some(_) => self.start,
+        }
+    }
+
+    /// Whether the limit on depth admits one more list, s-expression or struct.
+    fn may_deepen(&self) -> bool
+        ensures { (fs : List Frame) (ss : Symbols) → Holds self.now fs ss →
+            result ≡ nat_lt (length fs) self.now.limits.depth }
+    {
+        self.frames.len() < self.limits.depth as usize
+    }
+
+    /// From now on this may come next.
+    fn set_stage(&mut self, stage: Now)
+        ensures { self.new ≡ record self.old { stage = stage } }
+    {
+        drop(mem::replace(&mut self.stage, stage));
+    }
+
+    /// What may come, or waits; from now on nothing waits.
+    fn take_stage(&mut self) -> Now
+        ensures stage { result ≡ self.old.stage }
+        ensures calm { self.new ≡ record self.old { stage = calm self.old.stage } }
+    {
+        let stage = calm(&self.stage);
+        mem::replace(&mut self.stage, stage)
+    }
+
+    /// Tells a part, which with the annotations before it is a whole value that ended at `end`.
+    fn whole<V: Visitor>(
+        &mut self,
+        said: &Part<'_>,
+        end: u64,
+        visitor: &mut V,
+    ) -> Result<Effect, Reason>
+        requires { self.old.stage ≡ nows.Ready }
+        ensures does { (fs : List Frame) (ss : Symbols) → Holds self.old fs ss →
+            Does V.takes (told fs ss)
+            (ended (setting_of self.old) (spot_of self.old end) fs
+            (annotated ss (payload_of said.now)))
+            result self.new visitor.old visitor.new }
+        ensures setting { SameSetting self.old self.new }
+    {
+        heard(self.filter.part(said, visitor))?;
+        self.ended(end)
+    }
+
+    /// The same of a number.
+    fn whole_number<V: Visitor>(
+        &mut self,
+        number: Number,
+        end: u64,
+        visitor: &mut V,
+    ) -> Result<Effect, Reason>
+        requires { self.old.stage ≡ nows.Ready }
+        ensures does { (fs : List Frame) (ss : Symbols) → Holds self.old fs ss →
+            Does V.takes (told fs ss)
+            (ended (setting_of self.old) (spot_of self.old end) fs
+            (annotated ss (number_payload number)))
+            result self.new visitor.old visitor.new }
+        ensures setting { SameSetting self.old self.new }
+    {
+        heard(self.filter.number(number, visitor))?;
+        self.ended(end)
+    }
+
+    /// The same of a symbol.
+    fn whole_symbol<V: Visitor>(
+        &mut self,
+        symbol: Symbol,
+        end: u64,
+        visitor: &mut V,
+    ) -> Result<Effect, Reason>
+        requires { self.old.stage ≡ nows.Ready }
+        ensures does { (fs : List Frame) (ss : Symbols) → Holds self.old fs ss →
+            Does V.takes (told fs ss)
+            (ended (setting_of self.old) (spot_of self.old end) fs
+            (annotated ss (payloads.Symbol symbol)))
+            result self.new visitor.old visitor.new }
+        ensures setting { SameSetting self.old self.new }
+    {
+        let told = self.filter.symbol(&symbol, visitor);
+        drop(symbol);
+        heard(told)?;
+        self.ended(end)
+    }
+
+    /// A value that was told ended at `end`.
+    fn ended(&mut self, end: u64) -> Result<Effect, Reason>
+        ensures does { (fs : List Frame) (v : AnyValue) →
+            open_brackets self.old ≡ brackets_of fs → AreAround fs →
+            WasTold self.old.filter (told_in fs ++ events_of v) →
+            DoesAlone (told_in fs ++ events_of v)
+            (ended (setting_of self.old) (spot_of self.old end) fs v) result self.new }
+        ensures setting { SameSetting self.old self.new }
+    {
+        self.noted = false;
+        if !self.is_inside() {
+            return self.give(end);
+        }
+        let stage = self.behind_value();
+        self.set_stage(stage);
+        Ok(Effect::Goes)
+    }
+
+    /// A value of the top level that was told ended at `end`. A local symbol table changes the
+    /// context (Ion 1.0, "Symbols", "Local Symbol Tables").
+    fn give(&mut self, end: u64) -> Result<Effect, Reason>
+        requires top { open_brackets self.old ≡ [] }
+        requires notes { self.old.noted ≡ false }
+        ensures does { (v : AnyValue) → WasTold self.old.filter (events_of v) →
+            DoesAlone (events_of v)
+            (ended (setting_of self.old) (spot_of self.old end) [] v) result self.new }
+        ensures setting { SameSetting self.old self.new }
+    {
+        let last = self.start.saturating_add(self.limits.item);
+        self.set_stage(Now::Ready);
+        self.start = 0;
+        match self.filter.end() {
+            None => {
+                if end > last {
+                    return Err(Reason::ItemTooLong);
+                }
+                Ok(Effect::Gives)
+            }
+            Some(table) => {
+                let applied = self.apply(&table);
+                drop(table);
+                applied?;
+                if end > last {
+                    return Err(Reason::ItemTooLong);
+                }
+                Ok(Effect::Goes)
+            }
+        }
+    }
+
+    // A local symbol table changes the context.
+    fn apply(&mut self, table: &Value) -> Result<(), Reason>
+        ensures same { self.new ≡ record self.old { context = self.new.context } }
+        ensures ok { is_table table.now ≡ true → OnOk result
+            (next self.old.context table.now self.old.catalog.now ≡ Ok self.new.context) }
+        ensures refused { is_table table.now ≡ true → IfErr result (λ r.
+            (r ≡ Memory) ⊎ (next self.old.context table.now self.old.catalog.now ≡ Err r)) }
+    {
+        if !table.is_table() {
+            return Ok(());
+        }
+        self.context.apply(table, self.catalog)
+    }
+}

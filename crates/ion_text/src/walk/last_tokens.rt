@@ -1,0 +1,240 @@
+//! Tokens that lie whole in a piece and end a value of the top level: the close of a container, or a
+//! value without others in it. Local symbol tables are left to the octets.
+//!
+//! What else might come of such a token couldn't come, and is told as memory that ran out, which
+//! says nothing of the octets.
+#![tactic(auto)]
+
+ghost use Rattle.std.specs.Prelude.{◌≡◌, ◌+◌, ◌<◌, ◌^◌, List, length, get_or, drop, false, true};
+ghost use Rattle.ion_tokens.specs.machine.Rests.{IsPassed};
+ghost use Rattle.ion_tokens.specs.declared.mode.Place.TheVariants as places;
+ghost use Rattle.ion_visiting.specs.Parts.{payload_of};
+ghost use Rattle.ion_text.specs.declared.state.Frame.{Frame};
+ghost use Rattle.ion_text.specs.declared.state.Now.TheVariants as nows;
+ghost use Rattle.ion_text.specs.machine.EachToken.{Symbols};
+ghost use Rattle.ion_text.specs.machine.FrontTokens.{ends_symbol};
+ghost use Rattle.ion_text.specs.machine.Run.{is_top};
+ghost use Rattle.ion_text.specs.visiting.Walks.{FoundPart, FoundSymbol};
+ghost use Rattle.ion_text.specs.walk.Holds.{Holds};
+ghost use Rattle.ion_text.specs.walk.Strides.{EndsBy};
+
+use super::TextWalk;
+use crate::reader::finders::{
+    Scalar, begins_number, begins_symbol, number_at, string_at, symbol_at,
+};
+use crate::reader::nested_containers::close_mark;
+use crate::reader::symbols::behind_symbol;
+use crate::state::{Effect, Now, Taken};
+use ion_model::Reason;
+use ion_tokens::{Place, Rest, TokenKind};
+use ion_visiting::{Part, Visitor};
+
+impl TextWalk<'_> {
+    /// Takes up a token that ends a value of the top level, with what has to be seen behind it: how
+    /// many octets that is, and what they did.
+    #[inline(always)]
+    pub(super) fn take_last<V: Visitor>(
+        &mut self,
+        rest: &mut Rest,
+        octets: &[u8],
+        visitor: &mut V,
+    ) -> Result<(usize, Taken), Reason>
+        requires room { rest.old.used + length octets.now < 2 ^ 63 }
+        ensures { EndsBy V.takes self.old self.new rest.old rest.new octets.now result
+            visitor.old visitor.new }
+    {
+        if octets.len() < 2 || self.filter.may_be_table() || self.frames.len() > 1 {
+            return Ok((0, Taken::Uses));
+        }
+        if !self.is_top() {
+            return self.end_container(rest, octets, visitor);
+        }
+        match &self.stage {
+            Now::Ready => self.end_scalar(rest, octets, visitor),
+            _ => Ok((0, Taken::Uses)),
+        }
+    }
+
+    /// The close of the only container that is open.
+    #[inline(always)]
+    fn end_container<V: Visitor>(
+        &mut self,
+        rest: &mut Rest,
+        octets: &[u8],
+        visitor: &mut V,
+    ) -> Result<(usize, Taken), Reason>
+        requires more { 1 < length octets.now }
+        requires room { rest.old.used + length octets.now < 2 ^ 63 }
+        ensures { EndsBy V.takes self.old self.new rest.old rest.new octets.now result
+            visitor.old visitor.new }
+    {
+        let Some(bracket) = self.closing(octets[0]) else {
+            return Ok((0, Taken::Uses));
+        };
+        let here = self.place();
+        match self.close(bracket, rest.used + 1, visitor) {
+            Ok(Effect::Gives) => {
+                *rest = rest.past_token(here, TokenKind::Mark(close_mark(bracket)), 1);
+                Ok((1, Taken::Tells))
+            }
+            _ => Err(Reason::Memory),
+        }
+    }
+
+    /// A value without others in it.
+    #[inline(always)]
+    fn end_scalar<V: Visitor>(
+        &mut self,
+        rest: &mut Rest,
+        octets: &[u8],
+        visitor: &mut V,
+    ) -> Result<(usize, Taken), Reason>
+        requires now { self.old.stage ≡ nows.Ready }
+        requires top { (fs : List Frame) (ss : Symbols) → Holds self.old fs ss →
+            is_top fs ≡ true }
+        requires more { 1 < length octets.now }
+        requires room { rest.old.used + length octets.now < 2 ^ 63 }
+        ensures { EndsBy V.takes self.old self.new rest.old rest.new octets.now result
+            visitor.old visitor.new }
+    {
+        if begins_number(octets) {
+            return self.end_number(rest, octets, visitor);
+        }
+        if begins_symbol(octets) {
+            return self.end_symbol(rest, octets, visitor);
+        }
+        match string_at(octets) {
+            None => Ok((0, Taken::Uses)),
+            Some((scalar, said)) => self.end_string(scalar, &said, rest, octets, visitor),
+        }
+    }
+
+    /// A number, whose end the octet behind it shows.
+    #[inline(always)]
+    fn end_number<V: Visitor>(
+        &mut self,
+        rest: &mut Rest,
+        octets: &[u8],
+        visitor: &mut V,
+    ) -> Result<(usize, Taken), Reason>
+        requires now { self.old.stage ≡ nows.Ready }
+        requires top { (fs : List Frame) (ss : Symbols) → Holds self.old fs ss →
+            is_top fs ≡ true }
+        requires more { 1 < length octets.now }
+        requires room { rest.old.used + length octets.now < 2 ^ 63 }
+        ensures { EndsBy V.takes self.old self.new rest.old rest.new octets.now result
+            visitor.old visitor.new }
+    {
+        let Some((token, number)) = number_at(octets) else {
+            return Ok((0, Taken::Uses));
+        };
+        self.start = self.begun_at(rest.used);
+        let end = rest.used + token.count as u64;
+        match self.whole_number(number, end, visitor) {
+            Ok(Effect::Gives) => {
+                *rest = rest.past_token(Place::Top, token.kind, token.count);
+                Ok((token.count, Taken::Leaves))
+            }
+            _ => Err(Reason::Memory),
+        }
+    }
+
+    /// This short string.
+    #[inline(always)]
+    fn end_string<V: Visitor>(
+        &mut self,
+        scalar: Scalar,
+        said: &Part<'_>,
+        rest: &mut Rest,
+        octets: &[u8],
+        visitor: &mut V,
+    ) -> Result<(usize, Taken), Reason>
+        requires now { self.old.stage ≡ nows.Ready }
+        requires top { (fs : List Frame) (ss : Symbols) → Holds self.old fs ss →
+            is_top fs ≡ true }
+        requires found { FoundPart places.Top rest.old octets.now scalar (payload_of said.now) }
+        requires waits { scalar.waits ≡ false }
+        requires given { scalar.token.left ≡ false }
+        requires room { rest.old.used + length octets.now < 2 ^ 63 }
+        ensures { EndsBy V.takes self.old self.new rest.old rest.new octets.now result
+            visitor.old visitor.new }
+    {
+        let token = scalar.token;
+        if token.count >= octets.len() {
+            return Ok((0, Taken::Uses));
+        }
+        self.start = self.begun_at(rest.used);
+        let end = rest.used + token.count as u64;
+        match self.whole(said, end, visitor) {
+            Ok(Effect::Gives) => {
+                *rest = rest.past_token(Place::Top, token.kind, token.count);
+                Ok((token.count, Taken::Tells))
+            }
+            _ => Err(Reason::Memory),
+        }
+    }
+
+    /// A symbol, a null or a truth and a blank, where the octet behind them shows that no `::`
+    /// follows.
+    #[inline(always)]
+    fn end_symbol<V: Visitor>(
+        &mut self,
+        rest: &mut Rest,
+        octets: &[u8],
+        visitor: &mut V,
+    ) -> Result<(usize, Taken), Reason>
+        requires now { self.old.stage ≡ nows.Ready }
+        requires top { (fs : List Frame) (ss : Symbols) → Holds self.old fs ss →
+            is_top fs ≡ true }
+        requires more { 1 < length octets.now }
+        requires room { rest.old.used + length octets.now < 2 ^ 63 }
+        ensures { EndsBy V.takes self.old self.new rest.old rest.new octets.now result
+            visitor.old visitor.new }
+    {
+        let Some((scalar, said)) = symbol_at(octets) else {
+            return Ok((0, Taken::Uses));
+        };
+        match behind_symbol(octets, scalar.token.count) {
+            None => Ok((0, Taken::Uses)),
+            Some(0) => Ok((0, Taken::Uses)),
+            Some(between) => self.end_word(scalar, &said, between, rest, octets, visitor),
+        }
+    }
+
+    /// This symbol, null or truth with the blank behind it.
+    #[inline(always)]
+    fn end_word<V: Visitor>(
+        &mut self,
+        scalar: Scalar,
+        said: &Part<'_>,
+        between: usize,
+        rest: &mut Rest,
+        octets: &[u8],
+        visitor: &mut V,
+    ) -> Result<(usize, Taken), Reason>
+        requires now { self.old.stage ≡ nows.Ready }
+        requires top { (fs : List Frame) (ss : Symbols) → Holds self.old fs ss →
+            is_top fs ≡ true }
+        requires found { FoundSymbol places.Top rest.old octets.now scalar (payload_of said.now) }
+        requires some { 0 < between }
+        requires passed { IsPassed (drop scalar.token.count octets.now) between }
+        requires within { scalar.token.count + between < length octets.now }
+        requires ends { ends_symbol (get_or octets.now (scalar.token.count + between) 0) ≡ true }
+        requires room { rest.old.used + length octets.now < 2 ^ 63 }
+        ensures { EndsBy V.takes self.old self.new rest.old rest.new octets.now result
+            visitor.old visitor.new }
+    {
+        let token = scalar.token;
+        self.start = self.begun_at(rest.used);
+        let end = rest.used + token.count as u64;
+        match self.whole(said, end, visitor) {
+            Ok(Effect::Gives) => {
+                *rest = rest
+                    .past_token(Place::Top, token.kind, token.count)
+                    .past_blank(between);
+                Ok((token.count + between, Taken::Leaves))
+            }
+            _ => Err(Reason::Memory),
+        }
+    }
+}

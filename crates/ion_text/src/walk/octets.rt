@@ -1,0 +1,189 @@
+//! What each octet does: the scanner takes it up, and behind it the reader of tokens.
+ghost use Rattle.std.specs.Prelude.{◌≡◌, ◌+◌, ◌<◌, ◌≤◌, ◌^◌, List, length, IfOk, true, false};
+ghost use Rattle.ion_tokens.specs.machine.Views.{begun_in, scanned};
+ghost use Rattle.ion_tokens.specs.machine.Scanning.{run, feed};
+ghost use Rattle.ion_text.specs.declared.state.Frame.{Frame};
+ghost use Rattle.ion_text.specs.machine.EachToken.{Symbols, turn};
+ghost use Rattle.ion_text.specs.machine.Run.{has_segment, reaches, noticed, unsettled, behind_given, behind_left};
+ghost use Rattle.ion_text.specs.machine.Views.{comes_again, token_in, Notices};
+ghost use Rattle.ion_text.specs.walk.Holds.{Holds, SameSetting, reading_of, state_of, told};
+ghost use Rattle.ion_text.specs.walk.Takes.{DidMeet, IsFine, IsMet, MeetsWith, SameReader, StaysSteady};
+
+use super::TextWalk;
+use crate::reader::octets::{goes_on_long, goes_on_symbol, lesser};
+use crate::state::{Effect, Met, Now};
+use ion_model::{Reason, Refusal};
+use ion_tokens::{Form, Place, Scan, Token};
+use ion_visiting::Visitor;
+
+impl TextWalk<'_> {
+    /// How many octets the open item has now, as far as it is known to go.
+    fn reach(&self) -> u64
+        ensures { (fs : List Frame) (ss : Symbols) → Holds self.now fs ss →
+            result ≡ reaches fs (reading_of self.now fs ss) (scanned self.now.scanner) }
+    {
+        let begun = self.scanner.begun();
+        match (self.frames.last(), &self.stage, begun) {
+            (Some(_), _, _) => self.scanner.used().saturating_sub(self.start),
+            (None, Now::Ready, None) => {
+                if self.noted {
+                    self.scanner.used().saturating_sub(self.start)
+                } else {
+                    0
+                }
+            }
+            (None, Now::Ready, Some(begun)) => {
+                if self.noted {
+                    begun.end.saturating_sub(self.start)
+                } else {
+                    begun.end.saturating_sub(begun.start)
+                }
+            }
+            (None, Now::Pending(_, end), _) => end.saturating_sub(self.start),
+            (None, Now::Long(_, end), None) => end.saturating_sub(self.start),
+            (None, Now::Long(_, end), Some(begun)) => match begun.form {
+                Form::Long => begun.end.saturating_sub(self.start),
+                _ => end.saturating_sub(self.start),
+            },
+            _ => 0,
+        }
+    }
+
+    /// Octets were used and ended no value. A token that begins where none may is refused with its
+    /// first octet, and an item that is too long with the first octet too many.
+    fn notice(&self) -> Result<(), Reason>
+        ensures { (fs : List Frame) (ss : Symbols) → Holds self.now fs ss →
+            Notices
+            (noticed self.now.limits (reading_of self.now fs ss) (scanned self.now.scanner))
+            result (state_of self.now fs ss) }
+    {
+        match &self.stage {
+            Now::After | Now::Keyed(_) if self.scanner.begun().is_some() => {
+                return Err(Reason::Unexpected);
+            }
+            _ => {}
+        }
+        if self.reach() > self.limits.item {
+            return Err(Reason::ItemTooLong);
+        }
+        Ok(())
+    }
+
+    /// Whether a segment of a long string has begun.
+    fn in_segment(&self) -> bool
+        ensures { result ≡ has_segment (begun_in (scanned self.now.scanner)) }
+    {
+        match self.scanner.begun() {
+            None => false,
+            Some(begun) => matches!(begun.form, Form::Long),
+        }
+    }
+
+    /// Whether what waits may go on with the octet. A long string isn't whole where an octet is
+    /// refused in its next segment.
+    #[tactic(auto, using(crate::proofs::Sights::symbol_sights, crate::proofs::Sights::long_sights))]
+    fn goes_on(&self, place: Place, octet: u8) -> bool
+        ensures { (fs : List Frame) (ss : Symbols) → Holds self.now fs ss →
+            result ≡ unsettled (scanned self.now.scanner) (reading_of self.now fs ss)
+            (feed place (scanned self.now.scanner) octet) }
+    {
+        match &self.stage {
+            Now::Pending(_, _) => goes_on_symbol(self.scanner.foresee(place, octet)),
+            Now::Long(_, _) => {
+                goes_on_long(self.is_top(), self.scanner.foresee(place, octet)) || self.in_segment()
+            }
+            Now::LongName(_) => goes_on_long(false, self.scanner.foresee(place, octet)),
+            _ => false,
+        }
+    }
+
+    /// A token ended with the last octet.
+    fn meet_given<V: Visitor>(&mut self, token: Token<'_>, visitor: &mut V) -> Result<Met, Reason>
+        ensures did { (fs : List Frame) (ss : Symbols) → Holds self.old fs ss →
+            DidMeet V.takes (told fs ss) (λ _. behind_given self.old.limits
+            (scanned self.old.scanner)
+            (turn self.old.catalog.now self.old.limits (reading_of self.old fs ss)
+            (token_in token.entry))) result self.new visitor.old visitor.new }
+        ensures ends { IfOk result (λ met. comes_again met ≡ false) }
+        ensures setting { SameSetting self.old self.new }
+    {
+        match self.turn(token, visitor)? {
+            Effect::Gives => Ok(Met::Tells),
+            Effect::Goes => {
+                self.notice()?;
+                Ok(Met::Uses)
+            }
+            Effect::Late(reason) => match self.notice() {
+                Err(other) => Err(lesser(reason, other)),
+                Ok(()) => Err(reason),
+            },
+        }
+    }
+
+    /// A token ended before the last octet.
+    fn meet_left<V: Visitor>(&mut self, token: Token<'_>, visitor: &mut V) -> Result<Met, Reason>
+        ensures did { (fs : List Frame) (ss : Symbols) → Holds self.old fs ss →
+            DidMeet V.takes (told fs ss) (λ again. behind_left again (scanned self.old.scanner)
+            (turn self.old.catalog.now self.old.limits (reading_of self.old fs ss)
+            (token_in token.entry))) result self.new visitor.old visitor.new }
+        ensures again { IfOk result (λ met. comes_again met ≡ true) }
+        ensures setting { SameSetting self.old self.new }
+    {
+        match self.turn(token, visitor)? {
+            Effect::Gives => Ok(Met::Leaves),
+            Effect::Goes => Ok(Met::Again),
+            Effect::Late(reason) => Ok(Met::Late(reason)),
+        }
+    }
+
+    /// A refusal behind so many octets more than are used.
+    fn refused(&self, more: u64, reason: Reason) -> Refusal
+        requires { (scanned self.now.scanner).used + more < 2 ^ 64 }
+        ensures { result
+            ≡ record { offset = (scanned self.now.scanner).used + more; reason = reason } }
+    {
+        let offset = self.scanner.used() + more;
+        Refusal { offset, reason }
+    }
+
+    /// Hands octets to the scanner, up to the next token, which is looked for at `place`: how many
+    /// are used, and what they did.
+    pub(super) fn meet<V: Visitor>(
+        &mut self,
+        place: Place,
+        piece: &[u8],
+        visitor: &mut V,
+    ) -> Result<(usize, Met), Refusal>
+        requires room { (scanned self.old.scanner).used + length piece.now < 2 ^ 63 }
+        ensures met { IsFine self.old → (fs : List Frame) (ss : Symbols) → Holds self.old fs ss →
+            MeetsWith V.takes (told fs ss) self.old.catalog.now self.old.limits
+            (reading_of self.old fs ss) (run place piece.now (scanned self.old.scanner))
+            result self.new visitor.old visitor.new }
+        ensures behind { IsFine self.old → IfOk result (λ met.
+            IsMet (run place piece.now (scanned self.old.scanner)) met.1 self.new) }
+        ensures used { IfOk result (λ met.
+            (scanned self.new.scanner).used ≡ (scanned self.old.scanner).used + met.0) }
+        ensures within { IfOk result (λ met. met.0 ≤ length piece.now) }
+        ensures fine { IfOk result (λ _. IsFine self.new) }
+        ensures steady { IfOk result (λ _. StaysSteady self.old self.new) }
+        ensures same { SameReader self.old self.new }
+    {
+        match self.scanner.step(piece, place) {
+            Err(refusal) => Err(refusal),
+            Ok(Scan { used, token }) => match token {
+                None => match self.notice() {
+                    Ok(()) => Ok((used, Met::Uses)),
+                    Err(reason) => Err(self.refused(0, reason)),
+                },
+                Some(token) if self.scanner.left() => match self.meet_left(token, visitor) {
+                    Ok(met) => Ok((used, met)),
+                    Err(reason) => Err(self.refused(1, reason)),
+                },
+                Some(token) => match self.meet_given(token, visitor) {
+                    Ok(met) => Ok((used, met)),
+                    Err(reason) => Err(self.refused(0, reason)),
+                },
+            },
+        }
+    }
+}

@@ -1,0 +1,401 @@
+//! What each token does (Ion 1.0, "Ion Text Encoding").
+ghost use Rattle.std.specs.Prelude.{◌≡◌, [], ◌∷◌, ◌++◌, List, Some, None};
+ghost use Rattle.ion_atoms.specs.declared.refusal.Reason.TheVariants as reasons;
+ghost use Rattle.ion_tokens.specs.Bodies.{content, Word, Mark'};
+ghost use Rattle.ion_text.specs.declared.state.Frame.{Frame};
+ghost use Rattle.ion_text.specs.declared.state.Now.TheVariants as nows;
+ghost use Rattle.ion_text.specs.machine.EachToken.{Symbols, at, goes, keyed, late, turn, on_ready, on_pending, on_long, on_name, on_long_name, on_after, on_keyed};
+ghost use Rattle.ion_text.specs.machine.Views.{token_in};
+ghost use Rattle.ion_text.specs.walk.Holds.{Does, DoesAlone, Holds, SameSetting, reading_of, setting_of, spot_of, told};
+
+use super::{TextWalk, heard};
+use crate::reader::on_token::joined;
+use crate::state::{Effect, Held, Now};
+use crate::words::{held_word, is_keyword};
+use ion_model::{Reason, Symbol, Text};
+use ion_tokens::{Body, Mark, Token};
+use ion_visiting::{Bracket, Part, Visitor};
+
+impl TextWalk<'_> {
+    /// What a token does.
+    pub(super) fn turn<V: Visitor>(
+        &mut self,
+        token: Token<'_>,
+        visitor: &mut V,
+    ) -> Result<Effect, Reason>
+        ensures does { (fs : List Frame) (ss : Symbols) → Holds self.old fs ss →
+            Does V.takes (told fs ss)
+            (turn self.old.catalog.now self.old.limits (reading_of self.old fs ss)
+            (token_in token.entry))
+            result self.new visitor.old visitor.new }
+        ensures setting { SameSetting self.old self.new }
+    {
+        let Token { start, end, body } = token;
+        match self.take_stage() {
+            Now::Ready => {
+                self.start = self.begun_at(start);
+                self.on_ready(end, body, visitor)
+            }
+            Now::Pending(held, _) => self.on_pending(held, body, visitor),
+            Now::Long(text, _) => self.on_long(text, end, body),
+            Now::After => self.on_after(end, body, visitor),
+            Now::Name => self.on_name(end, body, visitor),
+            Now::LongName(text) => self.on_long_name(text, body),
+            Now::Keyed(name) => self.on_keyed(name, body, visitor),
+        }
+    }
+
+    /// A token where a value or an annotation may come.
+    fn on_ready<V: Visitor>(
+        &mut self,
+        end: u64,
+        body: Body<'_>,
+        visitor: &mut V,
+    ) -> Result<Effect, Reason>
+        requires { self.old.stage ≡ nows.Ready }
+        ensures does { (fs : List Frame) (ss : Symbols) → Holds self.old fs ss →
+            Does V.takes (told fs ss)
+            (on_ready (setting_of self.old) (spot_of self.old end) fs ss (content body.entry))
+            result self.new visitor.old visitor.new }
+        ensures setting { SameSetting self.old self.new }
+    {
+        match body {
+            Body::Word(word) => {
+                let held = held_word(&mut self.recent, word.as_str())?;
+                self.wait(held, end)
+            }
+            Body::Id(id) => {
+                let symbol = self.context.resolve(id)?;
+                self.wait(Held::Symbol(symbol), end)
+            }
+            Body::Quoted(text) => {
+                let symbol = self.recent.symbol(text.as_str())?;
+                self.wait(Held::Symbol(symbol), end)
+            }
+            Body::TypedNull(kind) => self.wait(Held::Null(kind), end),
+            Body::Long(text) => {
+                self.set_stage(Now::Long(text, end));
+                Ok(Effect::Goes)
+            }
+            Body::Short(text) => self.whole(&Part::Str(text.as_str()), end, visitor),
+            Body::Number(number) => self.whole_number(number, end, visitor),
+            Body::Operator(word) => self.whole(&Part::Symbol(word.as_str()), end, visitor),
+            Body::Clob(octets) => self.whole(&Part::Clob(octets.as_slice()), end, visitor),
+            Body::Blob(octets) => self.whole(&Part::Blob(octets.as_slice()), end, visitor),
+            Body::Mark(mark) => self.on_mark(end, mark, visitor),
+        }
+    }
+
+    /// A mark there. A close is unexpected behind an annotation.
+    fn on_mark<V: Visitor>(
+        &mut self,
+        end: u64,
+        mark: Mark,
+        visitor: &mut V,
+    ) -> Result<Effect, Reason>
+        requires { self.old.stage ≡ nows.Ready }
+        ensures does { (fs : List Frame) (ss : Symbols) → Holds self.old fs ss →
+            Does V.takes (told fs ss)
+            (on_ready (setting_of self.old) (spot_of self.old end) fs ss (Mark' mark))
+            result self.new visitor.old visitor.new }
+        ensures setting { SameSetting self.old self.new }
+    {
+        match (mark, self.noted) {
+            (Mark::ListOpen, _) => self.open(Bracket::List, visitor),
+            (Mark::SexpOpen, _) => self.open(Bracket::Sexp, visitor),
+            (Mark::FieldsOpen, _) => self.open(Bracket::Fields, visitor),
+            (Mark::ListClose, false) => self.close(Bracket::List, end, visitor),
+            (Mark::SexpClose, false) => self.close(Bracket::Sexp, end, visitor),
+            _ => Err(Reason::Unexpected),
+        }
+    }
+
+    /// What may be an annotation has come.
+    fn wait(&mut self, held: Held, end: u64) -> Result<Effect, Reason>
+        requires { self.old.stage ≡ nows.Ready }
+        ensures does { (fs : List Frame) (ss : Symbols) → Holds self.old fs ss →
+            DoesAlone (told fs ss)
+            (goes (at self.old.start self.old.context fs ss (nows.Pending held end)))
+            result self.new }
+        ensures setting { SameSetting self.old self.new }
+    {
+        self.set_stage(Now::Pending(held, end));
+        Ok(Effect::Goes)
+    }
+
+    /// A token behind what may be an annotation.
+    fn on_pending<V: Visitor>(
+        &mut self,
+        held: Held,
+        body: Body<'_>,
+        visitor: &mut V,
+    ) -> Result<Effect, Reason>
+        requires { self.old.stage ≡ nows.Ready }
+        ensures does { (fs : List Frame) (ss : Symbols) → Holds self.old fs ss →
+            Does V.takes (told fs ss)
+            (on_pending self.old.start self.old.context fs ss held (content body.entry))
+            result self.new visitor.old visitor.new }
+        ensures setting { SameSetting self.old self.new }
+    {
+        match (body, held) {
+            (Body::Mark(Mark::Colons), Held::Symbol(symbol)) => self.note(symbol, visitor),
+            (Body::Mark(Mark::Colons), Held::Version(_, symbol)) => self.note(symbol, visitor),
+            (Body::Mark(Mark::Colons), Held::Null(_)) => self.note_keyword(visitor),
+            (Body::Mark(Mark::Colons), Held::Truth(_)) => self.note_keyword(visitor),
+            (Body::Mark(Mark::Colons), Held::Nan) => self.note_keyword(visitor),
+            _ => Err(Reason::Unexpected),
+        }
+    }
+
+    /// An annotation has come.
+    fn note<V: Visitor>(&mut self, symbol: Symbol, visitor: &mut V) -> Result<Effect, Reason>
+        requires { self.old.stage ≡ nows.Ready }
+        ensures does { (fs : List Frame) (ss : Symbols) → Holds self.old fs ss →
+            Does V.takes (told fs ss)
+            (goes (at self.old.start self.old.context fs (ss ++ symbol ∷ []) nows.Ready))
+            result self.new visitor.old visitor.new }
+        ensures setting { SameSetting self.old self.new }
+    {
+        heard(self.filter.annotation(symbol, visitor))?;
+        self.noted = true;
+        Ok(Effect::Goes)
+    }
+
+    /// A keyword has come in place of an annotation. The octet behind it may be refused for a
+    /// smaller reason.
+    fn note_keyword<V: Visitor>(&mut self, visitor: &mut V) -> Result<Effect, Reason>
+        requires { self.old.stage ≡ nows.Ready }
+        ensures does { (fs : List Frame) (ss : Symbols) → Holds self.old fs ss →
+            Does V.takes (told fs ss)
+            (late reasons.KeywordAsName
+            (at self.old.start self.old.context fs (ss ++ None ∷ []) nows.Ready))
+            result self.new visitor.old visitor.new }
+        ensures setting { SameSetting self.old self.new }
+    {
+        heard(self.filter.annotation(Symbol::unknown(), visitor))?;
+        self.noted = true;
+        Ok(Effect::Late(Reason::KeywordAsName))
+    }
+
+    /// A token behind the segments of a long string.
+    fn on_long(&mut self, text: Text, end: u64, body: Body<'_>) -> Result<Effect, Reason>
+        requires { self.old.stage ≡ nows.Ready }
+        ensures does { (fs : List Frame) (ss : Symbols) → Holds self.old fs ss →
+            DoesAlone (told fs ss)
+            (on_long (spot_of self.old end) fs ss text (content body.entry))
+            result self.new }
+        ensures setting { SameSetting self.old self.new }
+    {
+        match body {
+            Body::Long(more) => {
+                let text = joined(text, &more);
+                drop(more);
+                self.set_stage(Now::Long(text?, end));
+                Ok(Effect::Goes)
+            }
+            other => {
+                drop(other);
+                drop(text);
+                Err(Reason::Unexpected)
+            }
+        }
+    }
+
+    /// A token behind the segments of a long string that is a field's name.
+    fn on_long_name(&mut self, text: Text, body: Body<'_>) -> Result<Effect, Reason>
+        requires { self.old.stage ≡ nows.Name }
+        ensures does { (fs : List Frame) → Holds self.old fs [] →
+            DoesAlone (told fs [])
+            (on_long_name self.old.start self.old.context fs text (content body.entry))
+            result self.new }
+        ensures setting { SameSetting self.old self.new }
+    {
+        match body {
+            Body::Long(more) => {
+                let text = joined(text, &more);
+                drop(more);
+                self.set_stage(Now::LongName(text?));
+                Ok(Effect::Goes)
+            }
+            other => {
+                drop(other);
+                drop(text);
+                Err(Reason::Unexpected)
+            }
+        }
+    }
+
+    /// A token where a field's name or the close of a struct may come.
+    fn on_name<V: Visitor>(
+        &mut self,
+        end: u64,
+        body: Body<'_>,
+        visitor: &mut V,
+    ) -> Result<Effect, Reason>
+        requires { self.old.stage ≡ nows.Name }
+        ensures does { (fs : List Frame) → Holds self.old fs [] →
+            Does V.takes (told fs [])
+            (on_name (setting_of self.old) (spot_of self.old end) fs (content body.entry))
+            result self.new visitor.old visitor.new }
+        ensures setting { SameSetting self.old self.new }
+    {
+        match body {
+            Body::Word(word) => self.word_named(word.as_str()),
+            Body::TypedNull(_) => self.null_named(),
+            Body::Id(id) => {
+                let name = self.context.resolve(id)?;
+                self.key(name)
+            }
+            Body::Quoted(text) => self.text_named(text),
+            Body::Short(text) => self.text_named(text),
+            Body::Long(text) => self.key_long(text),
+            Body::Mark(Mark::FieldsClose) => self.close(Bracket::Fields, end, visitor),
+            other => {
+                drop(other);
+                Err(Reason::Unexpected)
+            }
+        }
+    }
+
+    /// The name of a field has come.
+    fn key(&mut self, name: Symbol) -> Result<Effect, Reason>
+        requires { self.old.stage ≡ nows.Name }
+        ensures does { (fs : List Frame) → Holds self.old fs [] →
+            DoesAlone (told fs [])
+            (goes (keyed self.old.start self.old.context fs name))
+            result self.new }
+        ensures setting { SameSetting self.old self.new }
+    {
+        self.set_stage(Now::Keyed(name));
+        Ok(Effect::Goes)
+    }
+
+    /// The first segment of a long string that is a field's name.
+    fn key_long(&mut self, text: Text) -> Result<Effect, Reason>
+        requires { self.old.stage ≡ nows.Name }
+        ensures does { (fs : List Frame) → Holds self.old fs [] →
+            DoesAlone (told fs [])
+            (goes (at self.old.start self.old.context fs [] (nows.LongName text)))
+            result self.new }
+        ensures setting { SameSetting self.old self.new }
+    {
+        self.set_stage(Now::LongName(text));
+        Ok(Effect::Goes)
+    }
+
+    /// A typed null in place of a field's name. The octet behind it may be refused for a smaller
+    /// reason.
+    fn null_named(&mut self) -> Result<Effect, Reason>
+        requires { self.old.stage ≡ nows.Name }
+        ensures does { (fs : List Frame) → Holds self.old fs [] →
+            DoesAlone (told fs [])
+            (late reasons.KeywordAsName (keyed self.old.start self.old.context fs None))
+            result self.new }
+        ensures setting { SameSetting self.old self.new }
+    {
+        self.set_stage(Now::Keyed(Symbol::unknown()));
+        Ok(Effect::Late(Reason::KeywordAsName))
+    }
+
+    /// A text in quotes that is a field's name.
+    fn text_named(&mut self, text: Text) -> Result<Effect, Reason>
+        requires { self.old.stage ≡ nows.Name }
+        ensures does { (fs : List Frame) → Holds self.old fs [] →
+            DoesAlone (told fs [])
+            (goes (keyed self.old.start self.old.context fs (Some text)))
+            result self.new }
+        ensures setting { SameSetting self.old self.new }
+    {
+        let name = self.recent.symbol(text.as_str());
+        drop(text);
+        self.set_stage(Now::Keyed(name?));
+        Ok(Effect::Goes)
+    }
+
+    /// A word that is a field's name. The octet behind a keyword may be refused for a smaller
+    /// reason.
+    fn word_named(&mut self, word: &str) -> Result<Effect, Reason>
+        requires { self.old.stage ≡ nows.Name }
+        ensures does { (fs : List Frame) → Holds self.old fs [] →
+            DoesAlone (told fs [])
+            (on_name (setting_of self.old) (spot_of self.old 0) fs (Word word.now))
+            result self.new }
+        ensures setting { SameSetting self.old self.new }
+    {
+        let name = self.recent.symbol(word)?;
+        self.set_stage(Now::Keyed(name));
+        if is_keyword(word) {
+            return Ok(Effect::Late(Reason::KeywordAsName));
+        }
+        Ok(Effect::Goes)
+    }
+
+    /// A token behind an element of a list or a field.
+    fn on_after<V: Visitor>(
+        &mut self,
+        end: u64,
+        body: Body<'_>,
+        visitor: &mut V,
+    ) -> Result<Effect, Reason>
+        requires { self.old.stage ≡ nows.After }
+        ensures does { (fs : List Frame) → Holds self.old fs [] →
+            Does V.takes (told fs [])
+            (on_after (setting_of self.old) (spot_of self.old end) fs (content body.entry))
+            result self.new visitor.old visitor.new }
+        ensures setting { SameSetting self.old self.new }
+    {
+        match body {
+            Body::Mark(mark) => self.on_mark_after(end, mark, visitor),
+            other => {
+                drop(other);
+                Err(Reason::Unexpected)
+            }
+        }
+    }
+
+    /// A mark there.
+    fn on_mark_after<V: Visitor>(
+        &mut self,
+        end: u64,
+        mark: Mark,
+        visitor: &mut V,
+    ) -> Result<Effect, Reason>
+        requires { self.old.stage ≡ nows.After }
+        ensures does { (fs : List Frame) → Holds self.old fs [] →
+            Does V.takes (told fs [])
+            (on_after (setting_of self.old) (spot_of self.old end) fs (Mark' mark))
+            result self.new visitor.old visitor.new }
+        ensures setting { SameSetting self.old self.new }
+    {
+        match mark {
+            Mark::Comma => self.on_comma(),
+            Mark::ListClose => self.close(Bracket::List, end, visitor),
+            Mark::FieldsClose => self.close(Bracket::Fields, end, visitor),
+            _ => Err(Reason::Unexpected),
+        }
+    }
+
+    /// A token behind a field's name.
+    fn on_keyed<V: Visitor>(
+        &mut self,
+        name: Symbol,
+        body: Body<'_>,
+        visitor: &mut V,
+    ) -> Result<Effect, Reason>
+        requires { self.old.stage ≡ nows.Name }
+        ensures does { (fs : List Frame) → Holds self.old fs [] →
+            Does V.takes (told fs [])
+            (on_keyed self.old.start self.old.context fs name (content body.entry))
+            result self.new visitor.old visitor.new }
+        ensures setting { SameSetting self.old self.new }
+    {
+        match body {
+            Body::Mark(Mark::Colon) => self.named(name, visitor),
+            other => {
+                drop(other);
+                drop(name);
+                Err(Reason::Unexpected)
+            }
+        }
+    }
+}

@@ -1,0 +1,99 @@
+//! What waits for more, where nothing goes on.
+ghost use Rattle.std.specs.Prelude.{◌≡◌, ℕ, [], List, Option, Some};
+ghost use Rattle.ion_text.specs.declared.state.Frame.{Frame};
+ghost use Rattle.ion_text.specs.declared.state.Held.TheVariants as helds;
+ghost use Rattle.ion_text.specs.declared.state.Now.TheVariants as nows;
+ghost use Rattle.ion_text.specs.machine.EachToken.{Symbols, goes, keyed, released, settle};
+ghost use Rattle.ion_text.specs.walk.Holds.{Does, DoesAlone, Holds, SameSetting, reading_of, setting_of, spot_of, told};
+
+use super::TextWalk;
+use crate::state::{Effect, Held, Now};
+use ion_model::{Reason, Symbol, Text};
+use ion_visiting::{Part, Visitor};
+
+impl TextWalk<'_> {
+    /// What waited for more is whole.
+    pub(super) fn settle<V: Visitor>(&mut self, visitor: &mut V) -> Result<Effect, Reason>
+        ensures does { (fs : List Frame) (ss : Symbols) → Holds self.old fs ss →
+            Does V.takes (told fs ss)
+            (settle self.old.catalog.now self.old.limits (reading_of self.old fs ss))
+            result self.new visitor.old visitor.new }
+        ensures setting { SameSetting self.old self.new }
+    {
+        match self.take_stage() {
+            Now::Pending(held, end) => self.release(held, end, visitor),
+            Now::Long(text, end) => self.whole(&Part::Str(text.as_str()), end, visitor),
+            Now::LongName(text) => self.long_named(text),
+            now => {
+                self.set_stage(now);
+                Ok(Effect::Goes)
+            }
+        }
+    }
+
+    /// A long string is a field's name.
+    fn long_named(&mut self, text: Text) -> Result<Effect, Reason>
+        requires { self.old.stage ≡ nows.Name }
+        ensures does { (fs : List Frame) → Holds self.old fs [] →
+            DoesAlone (told fs [])
+            (goes (keyed self.old.start self.old.context fs (Some text)))
+            result self.new }
+        ensures setting { SameSetting self.old self.new }
+    {
+        let name = Symbol::known(self.alloc, text.as_str());
+        drop(text);
+        self.set_stage(Now::Keyed(name?));
+        Ok(Effect::Goes)
+    }
+
+    /// No `::` follows what was held, whose token ended at `end`. A version marker stands at the
+    /// top level without annotations (Ion 1.0, "Symbols", "Ion Version Markers").
+    fn release<V: Visitor>(
+        &mut self,
+        held: Held,
+        end: u64,
+        visitor: &mut V,
+    ) -> Result<Effect, Reason>
+        requires { self.old.stage ≡ nows.Ready }
+        ensures does { (fs : List Frame) (ss : Symbols) → Holds self.old fs ss →
+            Does V.takes (told fs ss)
+            (released (setting_of self.old) (spot_of self.old end) fs ss held)
+            result self.new visitor.old visitor.new }
+        ensures setting { SameSetting self.old self.new }
+    {
+        match held {
+            Held::Version(ours, symbol) => {
+                if self.is_top() && !self.noted {
+                    drop(symbol);
+                    return self.mark(ours, end);
+                }
+                self.whole_symbol(symbol, end, visitor)
+            }
+            Held::Symbol(symbol) => self.whole_symbol(symbol, end, visitor),
+            Held::Null(kind) => self.whole(&Part::Null(kind), end, visitor),
+            Held::Truth(truth) => self.whole(&Part::Truth(truth), end, visitor),
+            Held::Nan => Err(Reason::Float),
+        }
+    }
+
+    /// A version marker, of Ion 1.0 or of another version, ended at `end`.
+    fn mark(&mut self, ours: bool, end: u64) -> Result<Effect, Reason>
+        requires { self.old.stage ≡ nows.Ready }
+        ensures does { (s : Option (List ℕ)) → Holds self.old [] [] →
+            DoesAlone (told [] [])
+            (released (setting_of self.old) (spot_of self.old end) [] [] (helds.Version ours s))
+            result self.new }
+        ensures setting { SameSetting self.old self.new }
+    {
+        let last = self.start.saturating_add(self.limits.item);
+        self.start = 0;
+        if !ours {
+            return Ok(Effect::Late(Reason::Version));
+        }
+        if end > last {
+            return Err(Reason::ItemTooLong);
+        }
+        self.context.reset();
+        Ok(Effect::Goes)
+    }
+}

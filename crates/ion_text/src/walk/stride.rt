@@ -1,0 +1,630 @@
+//! Tokens that lie whole in a piece, wherever it begins: one loop takes them up and tells their
+//! events. It recurses nowhere, so it goes on where the last piece ended. What is cut, refused or
+//! unusual is left to the octets, and so is at least the last octet.
+//!
+//! Where a container is open a token only goes on; another answer couldn't come, and is told as
+//! memory that ran out, which says nothing of the octets.
+#![tactic(auto)]
+
+ghost use Rattle.std.specs.Prelude.{◌≡◌, ℕ, ◌+◌, ◌-◌, ◌<◌, ◌≤◌, ◌^◌, List, [], ◌∷◌, ◌++◌, length, get_or, take, drop, false, true, nat_lt, Some, IfOk, IfErr, IfSome, OnOk};
+ghost use Rattle.ion_atoms.specs.declared.refusal.Reason.TheVariants.{Memory};
+ghost use Rattle.ion_scalar.specs.declared.number.Number.{Number as AnyNumber};
+ghost use Rattle.ion_model.specs.Kinds.{names_table};
+ghost use Rattle.ion_tokens.specs.declared.mode.Place.{Place as AnyPlace};
+ghost use Rattle.ion_tokens.specs.declared.mode.Place.TheVariants as places;
+ghost use Rattle.ion_tokens.specs.machine.Rests.{IsPassed, RestsBehind, resting};
+ghost use Rattle.ion_tokens.specs.machine.Views.{scanned};
+ghost use Rattle.ion_visiting.specs.Parts.{payload_of};
+ghost use Rattle.ion_text.specs.declared.state.Frame.{Frame};
+ghost use Rattle.ion_text.specs.declared.state.Now.TheVariants as nows;
+ghost use Rattle.ion_text.specs.machine.AtOnce.{IsStill};
+ghost use Rattle.ion_text.specs.machine.EachToken.{Symbols, begun_at, named, place};
+ghost use Rattle.ion_text.specs.machine.FrontTokens.{BeginsName, ends_symbol};
+ghost use Rattle.ion_text.specs.machine.Nested.{OpensAt, close_octet, closes};
+ghost use Rattle.ion_text.specs.machine.Run.{is_top};
+ghost use Rattle.ion_text.specs.visiting.Walks.{FoundPart, NoteThere};
+ghost use Rattle.ion_text.specs.walk.Holds.{Does, Holds, calm, MayClose, SamePlace, SameSetting, WentOn, reading_of, told};
+ghost use Rattle.ion_text.specs.walk.Strides.{StridesBy, TookSo};
+ghost use Rattle.ion_text.specs.walk.Takes.{IsFine, SameReader, StaysSteady};
+
+use super::{TextWalk, heard};
+use crate::reader::annotations::{Note, note_at};
+use crate::reader::finders::{
+    Scalar, begins_number, begins_symbol, number_at, operator_at, plain_name, string_at, symbol_at,
+};
+use crate::reader::long_strings::one_segment;
+use crate::reader::nested_containers::{bracket_at, close_mark, open_mark};
+use crate::reader::symbols::{behind_name, behind_symbol};
+use crate::state::{Effect, Now, Taken};
+use ion_model::Reason;
+use ion_tokens::{FoundToken, Mark, Place, Rest, TokenKind, blank_with_comments};
+use ion_visiting::{Bracket, Part, Visitor};
+
+impl TextWalk<'_> {
+    /// Takes up the tokens at the front of a piece that lie whole there, up to the end of a value of
+    /// the top level, and tells a visitor their events: how many octets they have, and what they
+    /// did. The only refusal is `Memory`.
+    #[inline(never)]
+    pub(super) fn stride<V: Visitor>(
+        &mut self,
+        piece: &[u8],
+        visitor: &mut V,
+    ) -> Result<(usize, Taken), Reason>
+        requires fine { IsFine self.old }
+        requires room { (scanned self.old.scanner).used + length piece.now < 2 ^ 63 }
+        ensures took { IfOk result (λ took. (fs : List Frame) (ss : Symbols) →
+            Holds self.old fs ss → TookSo V.takes fs ss self.old self.new piece.now took.0
+            visitor.old visitor.new took.1) }
+        ensures within { IfOk result (λ took. took.0 ≤ length piece.now - 1) }
+        ensures used { IfOk result (λ took.
+            (scanned self.new.scanner).used ≡ (scanned self.old.scanner).used + took.0) }
+        ensures memory { IfErr result (λ reason. reason ≡ Memory) }
+        ensures fine { IfOk result (λ _. IsFine self.new) }
+        ensures steady { IfOk result (λ _. StaysSteady self.old self.new) }
+        ensures same { SameReader self.old self.new }
+    {
+        let Some(first) = self.rests() else {
+            return Ok((0, Taken::Uses));
+        };
+        let octets = self.within(piece, first.used);
+        if octets.len() < 2 {
+            return Ok((0, Taken::Uses));
+        }
+        let mut rest = first;
+        let at = self.take_each(&mut rest, octets, visitor)?;
+        let (count, taken) = self.take_last(&mut rest, &octets[at..], visitor)?;
+        self.scanner.move_to(rest);
+        Ok((at + count, taken))
+    }
+
+    /// Where the scanner rests, if tokens may be taken up at once: none has begun, and nothing
+    /// waits.
+    #[inline(always)]
+    fn rests(&self) -> Option<Rest>
+        ensures rests { IfSome result (λ rest. scanned self.now.scanner ≡ resting rest) }
+        ensures still { IfSome result (λ _. IsStill self.now.stage) }
+    {
+        match &self.stage {
+            Now::Ready | Now::Name | Now::After => self.scanner.rest(),
+            _ => None,
+        }
+    }
+
+    /// The octets of a piece, behind so many others, that the limit on items leaves to the open
+    /// item, or to the next one.
+    #[inline(always)]
+    fn within<'p>(&self, piece: &'p [u8], used: u64) -> &'p [u8]
+        ensures front { (most : ℕ) × (result.now ≡ take most piece.now) }
+        ensures few { length result.now ≤ length piece.now }
+        ensures fits { 0 < length result.now → (fs : List Frame) (ss : Symbols) →
+            Holds self.now fs ss → used + length result.now
+            ≤ self.now.limits.item + begun_at self.now.start used fs ss }
+    {
+        let last = self.begun_at(used).saturating_add(self.limits.item);
+        let room = last.saturating_sub(used);
+        if (piece.len() as u64) <= room {
+            piece
+        } else {
+            &piece[..room as usize]
+        }
+    }
+
+    /// The same of octets, behind which the scanner isn't moved yet.
+    #[inline(always)]
+    fn take_each<V: Visitor>(
+        &mut self,
+        rest: &mut Rest,
+        octets: &[u8],
+        visitor: &mut V,
+    ) -> Result<usize, Reason>
+        requires room { rest.old.used + length octets.now < 2 ^ 63 }
+        ensures { StridesBy V.takes self.old self.new rest.old rest.new octets.now result
+            visitor.old visitor.new }
+    {
+        let mut at = 0;
+        for _ in 0..octets.len() {
+            let count = self.take_next(rest, &octets[at..], visitor)?;
+            at += count;
+            if count == 0 {
+                break;
+            }
+        }
+        Ok(at)
+    }
+
+    /// A blank, and the token behind it.
+    #[inline(always)]
+    fn take_next<V: Visitor>(
+        &mut self,
+        rest: &mut Rest,
+        octets: &[u8],
+        visitor: &mut V,
+    ) -> Result<usize, Reason>
+        requires room { rest.old.used + length octets.now < 2 ^ 63 }
+        ensures { StridesBy V.takes self.old self.new rest.old rest.new octets.now result
+            visitor.old visitor.new }
+    {
+        let (blank, behind) = blank_with_comments(octets, *rest);
+        if blank >= octets.len() {
+            return Ok(0);
+        }
+        *rest = behind;
+        let count = self.take_token(rest, &octets[blank..], visitor)?;
+        Ok(blank + count)
+    }
+
+    /// A token, with what has to be seen behind it.
+    #[inline(always)]
+    fn take_token<V: Visitor>(
+        &mut self,
+        rest: &mut Rest,
+        octets: &[u8],
+        visitor: &mut V,
+    ) -> Result<usize, Reason>
+        requires room { rest.old.used + length octets.now < 2 ^ 63 }
+        ensures { StridesBy V.takes self.old self.new rest.old rest.new octets.now result
+            visitor.old visitor.new }
+    {
+        if octets.len() < 2 {
+            return Ok(0);
+        }
+        match &self.stage {
+            Now::Ready => self.take_value(rest, octets, visitor),
+            Now::Name => self.take_field(rest, octets, visitor),
+            Now::After => self.take_after(rest, octets, visitor),
+            _ => Ok(0),
+        }
+    }
+
+    /// A comma or a close, behind a value.
+    #[inline(always)]
+    fn take_after<V: Visitor>(
+        &mut self,
+        rest: &mut Rest,
+        octets: &[u8],
+        visitor: &mut V,
+    ) -> Result<usize, Reason>
+        requires now { self.old.stage ≡ nows.After }
+        requires more { 1 < length octets.now }
+        requires room { rest.old.used + length octets.now < 2 ^ 63 }
+        ensures { StridesBy V.takes self.old self.new rest.old rest.new octets.now result
+            visitor.old visitor.new }
+    {
+        if octets[0] == b',' {
+            return self.take_comma(rest, octets, visitor);
+        }
+        self.take_close(rest, octets, visitor)
+    }
+
+    /// A comma, of which a visitor hears nothing.
+    #[inline(always)]
+    fn take_comma<V: Visitor>(
+        &mut self,
+        rest: &mut Rest,
+        octets: &[u8],
+        visitor: &V,
+    ) -> Result<usize, Reason>
+        requires now { self.old.stage ≡ nows.After }
+        requires more { 1 < length octets.now }
+        requires comma { get_or octets.now 0 0 ≡ 44 }
+        requires room { rest.old.used + length octets.now < 2 ^ 63 }
+        ensures { StridesBy V.takes self.old self.new rest.old rest.new octets.now result
+            visitor.now visitor.now }
+    {
+        let here = self.place();
+        match self.on_comma() {
+            Ok(Effect::Goes) => {
+                *rest = rest.past_token(here, TokenKind::Mark(Mark::Comma), 1);
+                Ok(1)
+            }
+            _ => Err(Reason::Memory),
+        }
+    }
+
+    /// What the octet closes, if that is the innermost container.
+    #[inline(always)]
+    pub(super) fn closing(&self, octet: u8) -> Option<Bracket>
+        ensures may { IfSome result (λ bracket. MayClose bracket (calm self.now.stage)) }
+        ensures octet { IfSome result (λ bracket. octet ≡ close_octet bracket) }
+        ensures closes { IfSome result (λ bracket. (fs : List Frame) (ss : Symbols) →
+            Holds self.now fs ss → (closes bracket fs self.now.stage ≡ true) × (ss ≡ [])) }
+    {
+        if self.noted {
+            return None;
+        }
+        match (octet, self.frames.last(), &self.stage) {
+            (b']', Some(Bracket::List), Now::Ready | Now::After) => Some(Bracket::List),
+            (b')', Some(Bracket::Sexp), Now::Ready) => Some(Bracket::Sexp),
+            (b'}', Some(Bracket::Fields), Now::Name | Now::After) => Some(Bracket::Fields),
+            _ => None,
+        }
+    }
+
+    /// The close of a container that stands in another.
+    #[inline(always)]
+    fn take_close<V: Visitor>(
+        &mut self,
+        rest: &mut Rest,
+        octets: &[u8],
+        visitor: &mut V,
+    ) -> Result<usize, Reason>
+        requires more { 1 < length octets.now }
+        requires room { rest.old.used + length octets.now < 2 ^ 63 }
+        ensures { StridesBy V.takes self.old self.new rest.old rest.new octets.now result
+            visitor.old visitor.new }
+    {
+        if self.frames.len() < 2 {
+            return Ok(0);
+        }
+        let Some(bracket) = self.closing(octets[0]) else {
+            return Ok(0);
+        };
+        let here = self.place();
+        match self.close(bracket, rest.used + 1, visitor) {
+            Ok(Effect::Goes) => {
+                *rest = rest.past_token(here, TokenKind::Mark(close_mark(bracket)), 1);
+                Ok(1)
+            }
+            _ => Err(Reason::Memory),
+        }
+    }
+
+    /// The name of a field with its colon, or the close of a struct.
+    #[inline(always)]
+    fn take_field<V: Visitor>(
+        &mut self,
+        rest: &mut Rest,
+        octets: &[u8],
+        visitor: &mut V,
+    ) -> Result<usize, Reason>
+        requires now { self.old.stage ≡ nows.Name }
+        requires more { 1 < length octets.now }
+        requires room { rest.old.used + length octets.now < 2 ^ 63 }
+        ensures { StridesBy V.takes self.old self.new rest.old rest.new octets.now result
+            visitor.old visitor.new }
+    {
+        if octets[0] == b'}' {
+            return self.take_close(rest, octets, visitor);
+        }
+        match plain_name(octets) {
+            None => Ok(0),
+            Some((token, text)) => self.take_key(token, text, rest, octets, visitor),
+        }
+    }
+
+    /// This name of a field, with the blank behind it and its colon.
+    #[inline(always)]
+    fn take_key<V: Visitor>(
+        &mut self,
+        token: FoundToken,
+        text: &str,
+        rest: &mut Rest,
+        octets: &[u8],
+        visitor: &mut V,
+    ) -> Result<usize, Reason>
+        requires now { self.old.stage ≡ nows.Name }
+        requires token { BeginsName places.Name rest.old octets.now token (Some text.now) }
+        requires room { rest.old.used + length octets.now < 2 ^ 63 }
+        ensures { StridesBy V.takes self.old self.new rest.old rest.new octets.now result
+            visitor.old visitor.new }
+    {
+        let Some(between) = behind_name(octets, token.count) else {
+            return Ok(0);
+        };
+        match self.named_by(text, visitor) {
+            Ok(Effect::Goes) => {
+                *rest = rest
+                    .past_token(Place::Name, token.kind, token.count)
+                    .past_blank(between)
+                    .past_token(Place::Name, TokenKind::Mark(Mark::Colon), 1);
+                Ok(token.count + between + 1)
+            }
+            _ => Err(Reason::Memory),
+        }
+    }
+
+    /// Behind the colon of a field of this name.
+    #[inline(always)]
+    fn named_by<V: Visitor>(&mut self, text: &str, visitor: &mut V) -> Result<Effect, Reason>
+        requires { self.old.stage ≡ nows.Name }
+        ensures does { (fs : List Frame) → Holds self.old fs [] →
+            Does V.takes (told fs [])
+            (named self.old.start self.old.context fs (Some text.now))
+            result self.new visitor.old visitor.new }
+        ensures setting { SameSetting self.old self.new }
+    {
+        heard(self.filter.text_name(text, visitor))?;
+        self.stage = Now::Ready;
+        Ok(Effect::Goes)
+    }
+
+    /// What stands where a value may come. Of the top level it is an open or an annotation: a value
+    /// without others in it ends there.
+    #[inline(always)]
+    fn take_value<V: Visitor>(
+        &mut self,
+        rest: &mut Rest,
+        octets: &[u8],
+        visitor: &mut V,
+    ) -> Result<usize, Reason>
+        requires now { self.old.stage ≡ nows.Ready }
+        requires more { 1 < length octets.now }
+        requires room { rest.old.used + length octets.now < 2 ^ 63 }
+        ensures { StridesBy V.takes self.old self.new rest.old rest.new octets.now result
+            visitor.old visitor.new }
+    {
+        if let Some(bracket) = bracket_at(octets) {
+            return self.take_open(bracket, rest, octets, visitor);
+        }
+        if begins_symbol(octets) {
+            return self.take_symbol(rest, octets, visitor);
+        }
+        if self.is_top() {
+            return Ok(0);
+        }
+        if begins_number(octets) {
+            return self.take_number(rest, octets, visitor);
+        }
+        self.take_other(rest, octets, visitor)
+    }
+
+    /// The open of a container.
+    #[inline(always)]
+    fn take_open<V: Visitor>(
+        &mut self,
+        bracket: Bracket,
+        rest: &mut Rest,
+        octets: &[u8],
+        visitor: &mut V,
+    ) -> Result<usize, Reason>
+        requires now { self.old.stage ≡ nows.Ready }
+        requires more { 1 < length octets.now }
+        requires opens { OpensAt octets.now bracket }
+        requires room { rest.old.used + length octets.now < 2 ^ 63 }
+        ensures { StridesBy V.takes self.old self.new rest.old rest.new octets.now result
+            visitor.old visitor.new }
+    {
+        if !self.may_deepen() {
+            return Ok(0);
+        }
+        let here = self.place();
+        self.start = self.begun_at(rest.used);
+        match self.open(bracket, visitor) {
+            Ok(Effect::Goes) => {
+                *rest = rest.past_token(here, TokenKind::Mark(open_mark(bracket)), 1);
+                Ok(1)
+            }
+            _ => Err(Reason::Memory),
+        }
+    }
+
+    /// A number in a container.
+    #[inline(always)]
+    fn take_number<V: Visitor>(
+        &mut self,
+        rest: &mut Rest,
+        octets: &[u8],
+        visitor: &mut V,
+    ) -> Result<usize, Reason>
+        requires now { self.old.stage ≡ nows.Ready }
+        requires inner { (fs : List Frame) (ss : Symbols) → Holds self.old fs ss →
+            is_top fs ≡ false }
+        requires more { 1 < length octets.now }
+        requires room { rest.old.used + length octets.now < 2 ^ 63 }
+        ensures { StridesBy V.takes self.old self.new rest.old rest.new octets.now result
+            visitor.old visitor.new }
+    {
+        let Some((token, number)) = number_at(octets) else {
+            return self.take_other(rest, octets, visitor);
+        };
+        let here = self.place();
+        let end = rest.used + token.count as u64;
+        match self.whole_number(number, end, visitor) {
+            Ok(Effect::Goes) => {
+                *rest = rest.past_token(here, token.kind, token.count);
+                Ok(token.count)
+            }
+            _ => Err(Reason::Memory),
+        }
+    }
+
+    /// A short string, an operator or a close in a container.
+    #[inline(always)]
+    fn take_other<V: Visitor>(
+        &mut self,
+        rest: &mut Rest,
+        octets: &[u8],
+        visitor: &mut V,
+    ) -> Result<usize, Reason>
+        requires now { self.old.stage ≡ nows.Ready }
+        requires inner { (fs : List Frame) (ss : Symbols) → Holds self.old fs ss →
+            is_top fs ≡ false }
+        requires more { 1 < length octets.now }
+        requires room { rest.old.used + length octets.now < 2 ^ 63 }
+        ensures { StridesBy V.takes self.old self.new rest.old rest.new octets.now result
+            visitor.old visitor.new }
+    {
+        let here = self.place();
+        if let Some((scalar, said)) = string_at(octets) {
+            return self.take_whole(here, scalar, &said, rest, octets, visitor);
+        }
+        if let Some((scalar, said)) = operator_at(here, octets) {
+            return self.take_whole(here, scalar, &said, rest, octets, visitor);
+        }
+        self.take_close(rest, octets, visitor)
+    }
+
+    /// This token in a container, which is a value at once.
+    #[inline(always)]
+    fn take_whole<V: Visitor>(
+        &mut self,
+        here: Place,
+        scalar: Scalar,
+        said: &Part<'_>,
+        rest: &mut Rest,
+        octets: &[u8],
+        visitor: &mut V,
+    ) -> Result<usize, Reason>
+        requires now { self.old.stage ≡ nows.Ready }
+        requires inner { (fs : List Frame) (ss : Symbols) → Holds self.old fs ss →
+            is_top fs ≡ false }
+        requires here { (fs : List Frame) (ss : Symbols) → Holds self.old fs ss →
+            here ≡ place (reading_of self.old fs ss) }
+        requires found { FoundPart here rest.old octets.now scalar (payload_of said.now) }
+        requires waits { scalar.waits ≡ false }
+        requires room { rest.old.used + length octets.now < 2 ^ 63 }
+        ensures { StridesBy V.takes self.old self.new rest.old rest.new octets.now result
+            visitor.old visitor.new }
+    {
+        let token = scalar.token;
+        if token.count >= octets.len() {
+            return Ok(0);
+        }
+        let end = rest.used + token.count as u64;
+        match self.whole(said, end, visitor) {
+            Ok(Effect::Goes) => {
+                *rest = rest.past_token(here, token.kind, token.count);
+                Ok(token.count)
+            }
+            _ => Err(Reason::Memory),
+        }
+    }
+
+    /// A symbol, a null or a truth in a container, or an annotation, where the octets show which; or
+    /// a long string.
+    #[inline(always)]
+    fn take_symbol<V: Visitor>(
+        &mut self,
+        rest: &mut Rest,
+        octets: &[u8],
+        visitor: &mut V,
+    ) -> Result<usize, Reason>
+        requires now { self.old.stage ≡ nows.Ready }
+        requires more { 1 < length octets.now }
+        requires room { rest.old.used + length octets.now < 2 ^ 63 }
+        ensures { StridesBy V.takes self.old self.new rest.old rest.new octets.now result
+            visitor.old visitor.new }
+    {
+        let Some((scalar, said)) = symbol_at(octets) else {
+            return self.take_long(rest, octets, visitor);
+        };
+        let Some(between) = behind_symbol(octets, scalar.token.count) else {
+            return self.take_note(rest, octets, visitor);
+        };
+        if self.is_top() {
+            return Ok(0);
+        }
+        self.take_word(scalar, &said, between, rest, octets, visitor)
+    }
+
+    /// This symbol, null or truth in a container, with the blank behind it.
+    #[inline(always)]
+    fn take_word<V: Visitor>(
+        &mut self,
+        scalar: Scalar,
+        said: &Part<'_>,
+        between: usize,
+        rest: &mut Rest,
+        octets: &[u8],
+        visitor: &mut V,
+    ) -> Result<usize, Reason>
+        requires now { self.old.stage ≡ nows.Ready }
+        requires inner { (fs : List Frame) (ss : Symbols) → Holds self.old fs ss →
+            is_top fs ≡ false }
+        requires found { (here : AnyPlace) →
+            FoundPart here rest.old octets.now scalar (payload_of said.now) }
+        requires waits { scalar.waits ≡ true }
+        requires passed { IsPassed (drop scalar.token.count octets.now) between }
+        requires within { scalar.token.count + between < length octets.now }
+        requires ends { ends_symbol (get_or octets.now (scalar.token.count + between) 0) ≡ true }
+        requires room { rest.old.used + length octets.now < 2 ^ 63 }
+        ensures { StridesBy V.takes self.old self.new rest.old rest.new octets.now result
+            visitor.old visitor.new }
+    {
+        let here = self.place();
+        let token = scalar.token;
+        let end = rest.used + token.count as u64;
+        match self.whole(said, end, visitor) {
+            Ok(Effect::Goes) => {
+                *rest = rest
+                    .past_token(here, token.kind, token.count)
+                    .past_blank(between);
+                Ok(token.count + between)
+            }
+            _ => Err(Reason::Memory),
+        }
+    }
+
+    /// An annotation with its `::`.
+    #[inline(always)]
+    fn take_note<V: Visitor>(
+        &mut self,
+        rest: &mut Rest,
+        octets: &[u8],
+        visitor: &mut V,
+    ) -> Result<usize, Reason>
+        requires now { self.old.stage ≡ nows.Ready }
+        requires room { rest.old.used + length octets.now < 2 ^ 63 }
+        ensures { StridesBy V.takes self.old self.new rest.old rest.new octets.now result
+            visitor.old visitor.new }
+    {
+        let Some(note) = note_at(octets) else {
+            return Ok(0);
+        };
+        let here = self.place();
+        self.start = self.begun_at(rest.used);
+        self.note_by(note.text, visitor)?;
+        let token = note.token;
+        *rest = rest
+            .past_token(here, token.kind, token.count)
+            .past_blank(note.between)
+            .past_token(here, TokenKind::Mark(Mark::Colons), 2);
+        Ok(token.count + note.between + 2)
+    }
+
+    /// An annotation of this text, which names no local symbol tables, has come.
+    #[inline(always)]
+    fn note_by<V: Visitor>(&mut self, text: &str, visitor: &mut V) -> Result<(), Reason>
+        requires now { self.old.stage ≡ nows.Ready }
+        requires free { names_table (Some text.now) ≡ false }
+        ensures notes { OnOk result ((fs : List Frame) (ss : Symbols) → Holds self.old fs ss →
+            WentOn V.takes (told fs ss) self.new fs (ss ++ Some text.now ∷ [])
+            visitor.old visitor.new) }
+        ensures same { SamePlace self.old self.new }
+        ensures stage { self.new.stage ≡ self.old.stage }
+        ensures memory { IfErr result (λ reason. reason ≡ Memory) }
+    {
+        heard(self.filter.text_annotation(text, visitor))?;
+        self.noted = true;
+        Ok(())
+    }
+
+    /// A long string of one segment in a container.
+    #[inline(never)]
+    fn take_long<V: Visitor>(
+        &mut self,
+        rest: &mut Rest,
+        octets: &[u8],
+        visitor: &mut V,
+    ) -> Result<usize, Reason>
+        requires now { self.old.stage ≡ nows.Ready }
+        requires room { rest.old.used + length octets.now < 2 ^ 63 }
+        ensures { StridesBy V.takes self.old self.new rest.old rest.new octets.now result
+            visitor.old visitor.new }
+    {
+        if self.is_top() {
+            return Ok(0);
+        }
+        let here = self.place();
+        let Some((count, behind, text)) = one_segment(here, *rest, octets) else {
+            return Ok(0);
+        };
+        match self.whole(&Part::Str(text), behind.used, visitor) {
+            Ok(Effect::Goes) => {
+                *rest = behind;
+                Ok(count)
+            }
+            _ => Err(Reason::Memory),
+        }
+    }
+}
