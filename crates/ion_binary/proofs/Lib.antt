@@ -26,3 +26,11 @@ pub mod Pairings
 pub mod Reorderings
 pub mod Calls
 mod Told
+mod BinaryTold
+pub mod Filters
+pub mod Tellings
+pub mod Ending
+pub mod Giving
+pub mod Beginning
+pub mod Judged
+pub mod Shells

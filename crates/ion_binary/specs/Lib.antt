@@ -8,6 +8,7 @@ pub mod Output
 pub mod Writing
 pub mod Carrying
 pub mod machine
+pub mod walking
 pub mod visiting
 pub mod writer
 pub mod laws

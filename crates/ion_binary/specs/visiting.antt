@@ -4,3 +4,4 @@ pub mod Measuring
 pub mod Comparing
 pub mod Transcribing
 pub mod Telling
+pub mod BinaryOut

@@ -17,11 +17,14 @@ ghost use Rattle.ion_atoms.specs.declared.kind.Kind.TheVariants as kinds;
 ghost use Rattle.ion_symtab.specs.Took.{Took};
 ghost use Rattle.ion_binary.specs.declared.form.Opening.TheVariants.{Null, Truth};
 ghost use Rattle.ion_binary.specs.Opening.{opening_of};
-ghost use Rattle.ion_binary.specs.Output.{bin_of, nothing_yet, null_octet, truth_octet, FitsIn};
+ghost use Rattle.ion_binary.specs.Output.{bin_of, names_after, nothing_yet, null_octet, truth_octet, value_octets, FitsIn};
+ghost use Rattle.ion_binary.specs.visiting.BinaryOut.{Encoded, encodes, no_octets, wraps_next};
 ghost use Rattle.ion_binary.specs.writer.Calls.{WritesEach};
+ghost use Rattle.ion_binary.specs.writer.Puts.{puts, behind};
+ghost use Rattle.ion_visiting.specs.Events.{Led, events_of, stream_events};
 ghost use Rattle.ion_binary.specs.laws.reading.Rows.{AreDocuments, worked_documents};
 ghost use Rattle.ion_binary.specs.laws.writing.Rows.{worked};
-ghost use Rattle.std.specs.Prelude.{◌≡◌, ◌⊎◌, ◌<◌, ◌≤◌, ◌++◌, Bool, length, map, take, Some, None, Err};
+ghost use Rattle.std.specs.Prelude.{◌≡◌, false, ◌⊎◌, ◌<◌, ◌≤◌, ◌++◌, Bool, length, map, take, Some, None, Err};
 ghost use Rattle.ion_atoms.specs.declared.refusal.Refusal.{Refusal};
 ghost use Rattle.ion_atoms.specs.declared.refusal.Reason.{Reason};
 ghost use Rattle.ion_atoms.specs.declared.refusal.Reason.TheVariants.{Incomplete};
@@ -104,4 +107,17 @@ pub fn worked_binary()
 /// annotation, the greatest id of the system symbols.
 pub fn worked_documents()
     ensures { (g : List Table) (l : Limits) → AreDocuments g l worked_documents }
+{}
+
+/// A visitor that writes binary values, told values that ended, from nothing, has written what they
+/// add to a document, and has the symbols that have ids there (`values`). Told a value where one
+/// may begin, it has given ids to its symbols and written its octets behind what stood there, and
+/// left those of the values that ended (`value`).
+pub fn binary_told()
+    ensures value { (v : Value) (a b : Encoded) → a.noted ≡ false → wraps_next a.frames ≡ false
+        → Led encodes (events_of v) a b → (b.whole ≡ a.whole) × (b.names ≡ names_after a.names v)
+        × (b.value ≡ a.value ++ value_octets b.names v) × (b.frames ≡ a.frames) }
+    ensures values { (s : List Value) (b : Encoded) → Led encodes (stream_events s) no_octets b
+        → (b.whole ≡ puts nothing_yet s) × (b.names ≡ (behind nothing_yet s).names)
+        × (b.begun ≡ (behind nothing_yet s).begun) }
 {}

@@ -2,6 +2,7 @@
 #![tactic(auto)]
 
 mod alike;
+mod binary_out;
 mod build;
 mod build_scalars;
 mod comparison;
@@ -16,7 +17,9 @@ mod telling;
 mod transcription;
 mod visitor;
 mod walk;
+mod walking;
 mod writer;
 
+pub use binary_out::BinaryOut;
 pub use reader::{BinaryReader, Carried};
 pub use writer::BinaryWriter;

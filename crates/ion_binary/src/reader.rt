@@ -15,7 +15,7 @@ use std::fmt::{self, Debug, Formatter};
 mod advance;
 mod ahead;
 mod bodies;
-mod bounds;
+pub(crate) mod bounds;
 mod built;
 mod frames;
 mod items;

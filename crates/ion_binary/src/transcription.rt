@@ -182,7 +182,7 @@ impl<S: BuildHasher + Drop> Visitor for Transcription<'_, S> {
 
 /// The type code of what stands in brackets (Ion 1.0, "Ion Binary Encoding", "11: List", "12:
 /// S-expression", "13: Structure").
-fn code_of(bracket: Bracket) -> u8
+pub(crate) fn code_of(bracket: Bracket) -> u8
     ensures code { result ≡ code_in bracket }
     ensures small { result < 16 }
 {

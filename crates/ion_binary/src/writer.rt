@@ -36,7 +36,7 @@ pub(crate) mod recent_ids;
 mod table;
 
 /// The marker of Ion 1.0 (Ion 1.0, "Ion Binary Encoding", "Value Streams").
-const MARKER: [u8; 4] = [0xE0, 0x01, 0x00, 0xEA];
+pub(crate) const MARKER: [u8; 4] = [0xE0, 0x01, 0x00, 0xEA];
 
 /// Writes values, one after another, as one binary document (Ion 1.0, "Ion Binary Encoding").
 /// Contracts see the symbols that have ids, whether the marker is out, and the fault that each call
@@ -299,7 +299,7 @@ fn put_opened<W: Outlet>(out: &mut W, begun: bool, octets: &[u8]) -> Result<(), 
 
 // Appends what stands before a value: the marker where none is out, and the table of the names from
 // an id on where there are any. The only fault is `Memory`.
-fn put_front<S: BuildHasher + Drop>(
+pub(crate) fn put_front<S: BuildHasher + Drop>(
     alloc: Global,
     names: &Names<S>,
     known: usize,

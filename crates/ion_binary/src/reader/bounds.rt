@@ -10,7 +10,7 @@ use crate::state::{Frame, Purpose};
 use ion_model::Reason;
 
 /// No reason where it holds, else `Malformed`.
-fn malformed_unless(holds: bool) -> Option<Reason>
+pub(crate) fn malformed_unless(holds: bool) -> Option<Reason>
     ensures { result ≡ malformed_unless holds }
 {
     if holds { None } else { Some(Reason::Malformed) }

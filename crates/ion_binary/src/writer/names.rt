@@ -1,5 +1,5 @@
 //! The ids that a writer has given to symbols (Ion 1.0, "Symbols", "Symbol IDs").
-ghost use Rattle.std.specs.Prelude.{◌≡◌, ◌<◌, ◌≤◌, ◌^◌, ◌+◌, Some, suc, true, length, map, drop, MatchResult, IfErr, IfOk, IfSome, OnOk};
+ghost use Rattle.std.specs.Prelude.{◌≡◌, ◌<◌, ◌≤◌, ◌^◌, ◌+◌, Some, suc, true, length, map, take, drop, MatchResult, IfErr, IfOk, IfSome, OnOk};
 ghost use Rattle.ion_model.specs.Symbols.{symbol_same};
 ghost use Rattle.ion_symtab.specs.Slots.{greatest_id};
 ghost use Rattle.ion_symtab.specs.declared.fault.Fault.TheVariants as faults;
@@ -173,6 +173,13 @@ impl<S: BuildHasher + Drop> Names<S> {
         let key = Symbol::known(alloc, text).map_err(|_| Fault::Memory)?;
         let count = self.len();
         Ok(self.symbols.get_index_of(&key).unwrap_or(count) as u64)
+    }
+
+    /// Takes the ids from the symbols that have one from `count` on.
+    pub(crate) fn truncate(&mut self, count: usize)
+        ensures { self.new ≡ take count self.old }
+    {
+        self.symbols.truncate(count);
     }
 
     /// The symbols from an id on, in the order of their ids.

@@ -1,0 +1,211 @@
+-- Values that begin in a reader that holds no values, and what only moves it on.
+use Rattle.std.proofs.Common.{◌≡◌, ◌≢◌, ℕ, List, [], ◌∷◌, ◌++◌, map, Bool, true, false, Option, Some, None, Result, Ok, Err, refl, ap, sym, subst, ◌∙◌}
+use Rattle.std.specs.Prelude.{nat_lt, if◌then◌else◌}
+use Rattle.std.proofs.lemmas.List.{append-nil}
+use Rattle.std.proofs.lemmas.Bool.{false≢true}
+use Rattle.ion_atoms.specs.declared.refusal.Reason.{Reason}
+use Rattle.ion_atoms.specs.declared.refusal.Reason.TheVariants.{Memory, Malformed, Version}
+use Rattle.ion_model.specs.declared.value.Value.{Value}
+use Rattle.ion_model.specs.declared.value.Payload.{Payload}
+use Rattle.ion_model.specs.Measures.{bare}
+use Rattle.ion_visiting.specs.declared.bracket.Bracket.{Bracket}
+use Rattle.ion_visiting.specs.Events.{Event, part, annotation, name, opens, events_of}
+use Rattle.ion_binary.specs.declared.state.Frame.{Frame}
+use Rattle.ion_binary.specs.declared.state.Frame.TheVariants as frames
+use Rattle.ion_symtab.specs.Slots.{Slot, system_slots}
+use Rattle.ion_binary.specs.declared.state.Mark.{Mark}
+use Rattle.ion_binary.specs.declared.state.Mark.TheVariants.{Fourth}
+use Rattle.ion_binary.specs.declared.state.Phase.{Phase}
+use Rattle.ion_binary.specs.declared.state.Phase.TheVariants.{InMarker, Ready, InNumber, InBody, InPad}
+use Rattle.ion_binary.specs.declared.state.Effect.{Effect}
+use Rattle.ion_binary.specs.declared.state.Effect.TheVariants.{Goes, Gives}
+use Rattle.ion_binary.specs.declared.walking.BinaryWalk.{BinaryWalk}
+use Rattle.ion_binary.specs.declared.walking.Container.{Container}
+use Rattle.ion_binary.specs.declared.walking.Container.TheVariants as containers
+use Rattle.ion_binary.specs.declared.walking.tables.TableFilter.{TableFilter}
+use Rattle.ion_binary.specs.declared.form.Scalar.{Scalar}
+use Rattle.ion_binary.specs.Judge.{judge}
+use Rattle.ion_binary.specs.machine.EachOctet.{Setting, Spot, Outcome, goes, gives, refuses, at, deliver, proceed, judged, anew, on_marker}
+use Rattle.ion_binary.specs.walking.Tables.{Hears, WasTold, heard}
+use Rattle.ion_binary.specs.walking.Holds.{AreAround, AreOpen, Does, DoesAlone, HoldsNoWrapper, Holds, IsBehind, IsInside, IsNamedBy, IsPart, IsTop, Name, container_of, containers_of, is_named, machine_of, name_of, open_containers, setting_of, spot_of, told, told_in}
+use Rattle.ion_binary.proofs.Filters.{hears_none, hears_both}
+use Rattle.ion_binary.proofs.Tellings.{name_told, part_told, does_more}
+use Rattle.ion_binary.proofs.Ending.{does_same, bare_in, is_at}
+
+-- 1. Readers that only move on.
+
+pub goes_alone : (r new : BinaryWalk) (fs : List Frame) (o : Outcome) → o ≡ goes (machine_of new fs) → open_containers new ≡ open_containers r
+    → name_of new ≡ name_of r → new.filter ≡ r.filter → IsInside new.phase fs → Holds r fs → DoesAlone (told fs) o (Ok Goes) new
+goes_alone r new fs o is same named kept inside h = (
+  fs,
+  is,
+  record {
+    containers = same ∙ h.containers;
+    named = subst (λ n. IsNamedBy n fs) (sym named) h.named;
+    open_there = h.open_there;
+    inside = inside;
+    was_told = subst (λ f. WasTold f (told fs)) (sym kept) h.was_told;
+  },
+  refl,
+)
+
+-- 2. The name of the field whose value begins.
+
+untold : (cs : List Container) (fs : List Frame) → is_named cs ≡ false → cs ≡ containers_of fs → told fs ≡ told_in fs
+untold cs [] h same = refl
+untold cs (frames.Items end x vs ∷ fs) h same = refl
+untold cs (frames.Fields end ms ∷ fs) h same = refl
+untold cs (frames.Named end ms n ∷ fs) h same = absurd (false≢true (sym h ∙ ap is_named same))
+untold cs (frames.Annotated end ss ∷ fs) h same = refl
+
+abbrev symbol_in : Option (List ℕ) → Name → Option (List ℕ)
+symbol_in t (Ok s) = s
+symbol_in t (Err e) = t
+
+abbrev IsOk : Name → Type 0
+IsOk (Ok s) = Unit {0}
+IsOk (Err e) = ⊥
+
+module _ {V : Type 0} (takes : V → Event → V → Type 0) where
+  pub value_untold : (r : BinaryWalk) (a : V) → is_named (open_containers r) ≡ false → (fs : List Frame) → Holds r fs → AreAround fs
+      → WasTold r.filter (told_in fs) × Hears takes (heard (told fs)) (heard (told_in fs)) a a
+  value_untold r a none fs h around =
+      let e = untold (open_containers r) fs none h.containers in
+      (subst (λ es. WasTold r.filter es) e h.was_told, hears_none takes (heard (told fs)) (heard (told_in fs)) a (ap heard (sym e)))
+
+  pub value_named : (r : BinaryWalk) (g : TableFilter) (s : Option (List ℕ)) (a b : V) → is_named (open_containers r) ≡ true → name_of r ≡ Ok s
+      → ((es : List Event) → WasTold r.filter es → WasTold g (es ++ name s ∷ []) × Hears takes (heard es) (heard (es ++ name s ∷ [])) a b)
+      → (fs : List Frame) → Holds r fs → AreAround fs → WasTold g (told_in fs) × Hears takes (heard (told fs)) (heard (told_in fs)) a b
+  value_named r g s a b some is tells [] h around = absurd (false≢true (sym (ap is_named h.containers) ∙ some))
+  value_named r g s a b some is tells (frames.Items end x vs ∷ fs) h around = absurd (false≢true (sym (ap is_named h.containers) ∙ some))
+  value_named r g s a b some is tells (frames.Fields end ms ∷ fs) h around = absurd (false≢true (sym (ap is_named h.containers) ∙ some))
+  value_named r g s a b some is tells (frames.Annotated end ss ∷ fs) h around = absurd (false≢true (sym (ap is_named h.containers) ∙ some))
+  value_named r g s a b some is tells (frames.Named end ms (Err e) ∷ fs) h around = absurd around
+  value_named r g s a b some is tells (frames.Named end ms (Ok t) ∷ fs) h around =
+      let same : s ≡ t = ap (symbol_in t) (sym is ∙ sym h.named) in
+      let all = ap (λ x. told (frames.Named end ms (Ok t) ∷ fs) ++ name x ∷ []) same ∙ name_told end fs ms t in
+      let i = tells (told (frames.Named end ms (Ok t) ∷ fs)) h.was_told in (
+        subst (λ es. WasTold g es) all i.0,
+        subst (λ es. Hears takes (heard (told (frames.Named end ms (Ok t) ∷ fs))) (heard es) a b) all i.1,
+      )
+
+pub value_refused : (r : BinaryWalk) (reason : Reason) → is_named (open_containers r) ≡ true → name_of r ≡ Err reason
+    → (fs : List Frame) → Holds r fs → AreAround fs → reason ≡ Memory
+value_refused r reason some is [] h around = absurd (false≢true (sym (ap is_named h.containers) ∙ some))
+value_refused r reason some is (frames.Items end x vs ∷ fs) h around = absurd (false≢true (sym (ap is_named h.containers) ∙ some))
+value_refused r reason some is (frames.Fields end ms ∷ fs) h around = absurd (false≢true (sym (ap is_named h.containers) ∙ some))
+value_refused r reason some is (frames.Annotated end ss ∷ fs) h around = absurd (false≢true (sym (ap is_named h.containers) ∙ some))
+value_refused r reason some is (frames.Named end ms (Err e) ∷ fs) h around = absurd around
+value_refused r reason some is (frames.Named end ms (Ok t) ∷ fs) h around = absurd (subst IsOk (h.named ∙ is) tt)
+
+-- 3. Values and containers whose front was told.
+
+module _ {V : Type 0} (takes : V → Event → V → Type 0) (r : BinaryWalk) (g : TableFilter) (fs : List Frame) (h : Holds r fs) (around : AreAround fs) (a m : V)
+    (begun : WasTold g (told_in fs) × Hears takes (heard (told fs)) (heard (told_in fs)) a m) where
+  -- a value with no value in it
+  pub part_does : (mid new : BinaryWalk) (p : Payload) (o : Outcome) (result : Result Effect Reason) (n b : V) → IsPart p
+      → ((es : List Event) → WasTold g es → WasTold mid.filter (es ++ part p ∷ []) × Hears takes (heard es) (heard (es ++ part p ∷ [])) m n)
+      → open_containers mid ≡ open_containers r → o ≡ deliver (setting_of mid) (spot_of mid) fs (bare p)
+      → ((fs : List Frame) (v : Value) → IsBehind mid fs v → Does takes (told_in fs ++ events_of v) (deliver (setting_of mid) (spot_of mid) fs v) result new n b)
+      → Does takes (told fs) o result new a b
+  part_does mid new p o result n b leaf tells same is ends =
+      let i = tells (told_in fs) begun.0 in
+      let e = part_told fs p leaf in
+      does_same takes (told fs) o _ result new a b is
+      (does_more takes (told fs) (told_in fs ++ events_of (bare p)) _ result new a n b
+      (hears_both takes (heard (told fs)) (heard (told_in fs)) (heard (told_in fs ++ events_of (bare p))) a m n begun.1
+      (subst (λ es. Hears takes (heard (told_in fs)) (heard es) m n) e i.1))
+      (ends fs (bare p) (record {
+        containers = same ∙ h.containers;
+        around = around;
+        bare = bare_in fs p;
+        was_told = subst (λ es. WasTold mid.filter es) e i.0;
+      })))
+
+  -- a container
+  pub front_does : (mid new : BinaryWalk) (f : Frame) (x : Bracket) (o : Outcome) (result : Result Effect Reason) (n b : V)
+      → ((es : List Event) → WasTold g es → WasTold mid.filter (es ++ opens x ∷ []) × Hears takes (heard es) (heard (es ++ opens x ∷ [])) m n)
+      → told (f ∷ fs) ≡ told_in fs ++ opens x ∷ [] → AreAround (f ∷ fs) → AreOpen (f ∷ fs) → IsNamedBy (name_of mid) (f ∷ fs) → IsInside mid.phase (f ∷ fs)
+      → open_containers mid ≡ container_of f ∷ open_containers r
+      → o ≡ proceed (setting_of mid) (spot_of mid) (f ∷ fs)
+      → ((gs : List Frame) → Holds mid gs → Does takes (told gs) (proceed (setting_of mid) (spot_of mid) gs) result new n b)
+      → Does takes (told fs) o result new a b
+  front_does mid new f x o result n b tells e inner opened named inside pushed is goes_on =
+      let i = tells (told_in fs) begun.0 in
+      does_same takes (told fs) o _ result new a b is
+      (does_more takes (told fs) (told (f ∷ fs)) _ result new a n b
+      (hears_both takes (heard (told fs)) (heard (told_in fs)) (heard (told (f ∷ fs))) a m n begun.1
+      (subst (λ es. Hears takes (heard (told_in fs)) (heard es) m n) (sym e) i.1))
+      (goes_on (f ∷ fs) (record {
+        containers = pushed ∙ ap (λ cs. container_of f ∷ cs) h.containers;
+        named = named;
+        open_there = opened;
+        inside = inside;
+        was_told = subst (λ es. WasTold mid.filter es) (sym e) i.0;
+      })))
+
+  -- a wrapper
+  pub wrapper_does : (new : BinaryWalk) (end : ℕ) (o : Outcome) → HoldsNoWrapper fs → new.filter ≡ g
+      → open_containers new ≡ containers.Annotated end ∷ open_containers r → IsInside new.phase (frames.Annotated end [] ∷ fs)
+      → o ≡ goes (machine_of new (frames.Annotated end [] ∷ fs)) → Does takes (told fs) o (Ok Goes) new a m
+  wrapper_does new end o bare_there kept pushed inside is =
+      let e : told_in fs ++ [] ≡ told_in fs = append-nil (told_in fs) in (
+        frames.Annotated end [] ∷ fs,
+        is,
+        record {
+          holds = record {
+            containers = pushed ∙ ap (λ cs. containers.Annotated end ∷ cs) h.containers;
+            named = tt;
+            open_there = (bare_there, around);
+            inside = inside;
+            was_told = subst (λ f. WasTold f (told_in fs ++ [])) (sym kept) (subst (λ es. WasTold g es) (sym e) begun.0);
+          };
+          hears = subst (λ es. Hears takes (heard (told fs)) (heard es) a m) (sym e) begun.1;
+        },
+      )
+
+-- 4. The same where a reader changed but for its filter.
+
+module _ {V : Type 0} (takes : V → Event → V → Type 0) (r s : BinaryWalk) (kept : s ≡ record r { filter = s.filter }) (g : TableFilter) (a m n b : V)
+    (begun : (fs : List Frame) → Holds r fs → AreAround fs → WasTold s.filter (told_in fs) × Hears takes (heard (told fs)) (heard (told_in fs)) a m)
+    (result : Result Effect Reason) (new : BinaryWalk)
+    (ends : (fs : List Frame) (v : Value) → IsBehind (record s { filter = g }) fs v
+    → Does takes (told_in fs ++ events_of v) (deliver (setting_of s) (spot_of s) fs v) result new n b) where
+  pub whole_does : (p : Payload) → IsPart p
+      → ((es : List Event) → WasTold s.filter es → WasTold g (es ++ part p ∷ []) × Hears takes (heard es) (heard (es ++ part p ∷ [])) m n)
+      → (fs : List Frame) → Holds r fs → AreAround fs → Does takes (told fs) (deliver (setting_of r) (spot_of r) fs (bare p)) result new a b
+  whole_does p leaf tells fs h around =
+      part_does takes r s.filter fs h around a m (begun fs h around) (record s { filter = g }) new p (deliver (setting_of r) (spot_of r) fs (bare p)) result n b leaf tells
+      (ap (λ (w : BinaryWalk). open_containers w) kept) (ap (λ (w : BinaryWalk). deliver (setting_of w) (spot_of w) fs (bare p)) (sym kept)) ends
+
+  -- a scalar
+  pub scalar_does : (t : Scalar) (body : List ℕ)
+      → (p : Payload) × (judge s.context t body ≡ Ok p) × IsPart p
+      × ((es : List Event) → WasTold s.filter es → WasTold g (es ++ part p ∷ []) × Hears takes (heard es) (heard (es ++ part p ∷ [])) m n)
+      → (fs : List Frame) → Holds r fs → AreAround fs
+      → Does takes (told fs) (judged (setting_of r) (spot_of r) fs (judge r.context t body)) result new a b
+  scalar_does t body said fs h around =
+      does_same takes (told fs) (judged (setting_of r) (spot_of r) fs (judge r.context t body)) (deliver (setting_of r) (spot_of r) fs (bare said.0)) result new a b
+      (ap (judged (setting_of r) (spot_of r) fs) (ap (λ (w : BinaryWalk). judge w.context t body) (sym kept) ∙ said.1))
+      (whole_does said.0 said.2 said.3 fs h around)
+
+pub scalar_refused : (r s : BinaryWalk) → s ≡ record r { filter = s.filter } → (t : Scalar) (body : List ℕ) (reason : Reason)
+    → judge s.context t body ≡ Err reason → (fs : List Frame) → judged (setting_of r) (spot_of r) fs (judge r.context t body) ≡ refuses reason
+scalar_refused r s kept t body reason e fs =
+    ap (judged (setting_of r) (spot_of r) fs) (ap (λ (w : BinaryWalk). judge w.context t body) (sym kept) ∙ e)
+
+-- 5. A version marker ends.
+
+pub marker_ends : (r : BinaryWalk) (mark : Mark) (good : Bool) (octet : ℕ) (d : List Slot) → mark ≡ Fourth → octet ≡ 234 → good ≡ true → d ≡ system_slots
+    → (fs : List Frame) → Holds r fs → IsTop fs
+    → DoesAlone (told fs) (on_marker (spot_of r) fs mark good octet) (Ok Goes) (record r { start = r.used; context = d; phase = Ready })
+marker_ends r mark good octet d is last fine reset [] h top = (
+  [],
+  ap (λ k. on_marker (spot_of r) [] k good octet) is
+      ∙ (ap (λ b. if b then (if good then goes (at (anew r.used system_slots) [] Ready) else refuses Version) else refuses Malformed) (is_at octet 234 last)
+      ∙ (ap (λ b. if b then goes (at (anew r.used system_slots) [] Ready) else refuses Version) fine
+      ∙ ap (λ x. goes (at (anew r.used x) [] Ready)) (sym reset))),
+  record { containers = h.containers; named = tt; open_there = tt; inside = tt; was_told = h.was_told },
+  refl,
+)
+marker_ends r mark good octet d is last fine reset (f ∷ fs) h top = absurd top

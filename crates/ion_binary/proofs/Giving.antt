@@ -1,0 +1,78 @@
+-- Values of the top level that were told and ended: given, or local symbol tables.
+use Rattle.std.proofs.Common.{◌≡◌, ◌≢◌, ◌⊎◌, inl, inr, ℕ, List, [], ◌∷◌, Bool, true, false, Option, Some, None, Result, Ok, Err, refl, ap, sym, subst, ◌∙◌}
+use Rattle.std.specs.Prelude.{if◌then◌else◌}
+use Rattle.ion_atoms.specs.declared.refusal.Reason.{Reason}
+use Rattle.ion_atoms.specs.declared.refusal.Reason.TheVariants.{Memory}
+use Rattle.ion_model.specs.declared.value.Value.{Value}
+use Rattle.ion_model.specs.Kinds.{is_table}
+use Rattle.ion_symtab.specs.Slots.{Slot}
+use Rattle.ion_symtab.specs.Next.{next}
+use Rattle.ion_visiting.specs.Events.{Event, events_of}
+use Rattle.ion_binary.specs.declared.state.Phase.TheVariants.{Ready}
+use Rattle.ion_binary.specs.declared.state.Effect.TheVariants.{Goes, Gives}
+use Rattle.ion_binary.specs.declared.walking.BinaryWalk.{BinaryWalk}
+use Rattle.ion_binary.specs.declared.walking.tables.Table.TheVariants as tables
+use Rattle.ion_binary.specs.machine.EachOctet.{Setting, Spot, Outcome, goes, gives, refuses, anew, at, deliver, turned}
+use Rattle.ion_binary.specs.walking.Tables.{WasTold, heard, heard_by, table_by, table_of}
+use Rattle.ion_binary.specs.walking.Holds.{DoesAlone, Holds, IsInside, machine_of, open_containers, setting_of, spot_of}
+use Rattle.ion_binary.proofs.Filters.{table_told}
+
+none_of : (b : Bool) (v : Value) → None ≡ (if b then Some v else None) → b ≡ false
+none_of false v h = refl
+none_of true v h = absurd cc
+
+some_of : (b : Bool) (v t : Value) → Some t ≡ (if b then Some v else None) → b ≡ true
+some_of true v t h = refl
+some_of false v t h = absurd cc
+
+abbrev value_or : Value → Option Value → Value
+value_or v None = v
+value_or v (Some w) = w
+
+same_of : (b : Bool) (v t : Value) → Some t ≡ (if b then Some v else None) → t ≡ v
+same_of true v t h = ap (value_or t) h
+same_of false v t h = absurd cc
+
+-- what is no table is heard
+heard_value : (v : Value) → is_table v ≡ false → heard (events_of v) ≡ events_of v
+heard_value v plain = ap (λ t. heard_by t (events_of v)) (table_told v ∙ ap (λ b. if b then tables.Yes else tables.No) plain)
+
+-- a table isn't
+heard_table : (v : Value) → is_table v ≡ true → heard (events_of v) ≡ []
+heard_table v named = ap (λ t. heard_by t (events_of v)) (table_told v ∙ ap (λ b. if b then tables.Yes else tables.No) named)
+
+-- the table that was taken is one
+pub table_is : (v : Value) (taken : Option Value) (t : Value) → taken ≡ Some t → taken ≡ table_of v → is_table t ≡ true
+table_is v taken t is h = ap is_table (same_of (is_table v) v t (sym is ∙ h)) ∙ some_of (is_table v) v t (sym is ∙ h)
+
+module _ (r new : BinaryWalk) (none : open_containers new ≡ []) (phase : new.phase ≡ Ready) (v : Value) where
+  held : WasTold new.filter [] → Holds new []
+  held was = record { containers = none; named = tt; open_there = tt; inside = subst (λ p. IsInside p []) (sym phase) tt; was_told = was }
+
+  -- it is given
+  pub gives_out : (taken : Option Value) → taken ≡ None → (taken ≡ table_of v) × WasTold new.filter []
+      → machine_of new [] ≡ at (anew r.used r.context) [] Ready
+      → DoesAlone (events_of v) (deliver (setting_of r) (spot_of r) [] v) (Ok Gives) new
+  gives_out taken is h machine =
+      let plain = none_of (is_table v) v (sym is ∙ h.0) in (
+        v,
+        ap (λ b. if b then turned r.used (next r.context v r.catalog.now) else gives v (at (anew r.used r.context) [] Ready)) plain
+            ∙ ap (gives v) (sym machine),
+        held h.1,
+        sym (heard_value v plain),
+      )
+
+  -- it changes the context
+  pub table_goes : (taken : Option Value) (t : Value) (d : List Slot) → taken ≡ Some t → (taken ≡ table_of v) × WasTold new.filter []
+      → (is_table t ≡ true → next r.context t r.catalog.now ≡ Ok d) → machine_of new [] ≡ at (anew r.used d) [] Ready
+      → DoesAlone (events_of v) (deliver (setting_of r) (spot_of r) [] v) (Ok Goes) new
+  table_goes taken t d is h applied machine =
+      let named = some_of (is_table v) v t (sym is ∙ h.0) in
+      let same = same_of (is_table v) v t (sym is ∙ h.0) in (
+        [],
+        ap (λ b. if b then turned r.used (next r.context v r.catalog.now) else gives v (at (anew r.used r.context) [] Ready)) named
+            ∙ (ap (λ w. turned r.used (next r.context w r.catalog.now)) (sym same)
+            ∙ (ap (turned r.used) (applied (ap is_table same ∙ named)) ∙ ap goes (sym machine))),
+        held h.1,
+        sym (heard_table v named),
+      )

@@ -1,0 +1,42 @@
+use Rattle.std.proofs.Common.{List, [], ◌∷◌, ◌++◌, refl, ap, sym, subst, ◌∙◌}
+use Rattle.std.specs.Prelude.{◌+◌, if◌then◌else◌}
+use Rattle.ion_atoms.specs.declared.refusal.Reason.TheVariants.{Depth}
+use Rattle.ion_visiting.specs.declared.bracket.Bracket.{Bracket}
+use Rattle.ion_visiting.specs.declared.bracket.Bracket.TheVariants as brackets
+use Rattle.ion_visiting.specs.Events.{Event, opens}
+use Rattle.ion_binary.specs.declared.state.Frame.TheVariants as frames
+use Rattle.ion_binary.specs.declared.state.Phase.TheVariants.{Ready, InNumber}
+use Rattle.ion_binary.specs.declared.state.Purpose.TheVariants as purposes
+use Rattle.ion_binary.specs.declared.walking.BinaryWalk.{BinaryWalk}
+use Rattle.ion_binary.specs.declared.walking.Container.TheVariants as containers
+use Rattle.ion_binary.specs.visiting.Brackets.{bracket_of}
+use Rattle.ion_binary.specs.machine.EachOctet.{at, goes, proceed, refuses}
+use Rattle.ion_binary.specs.walking.Tables.{Hears, WasTold, heard}
+use Rattle.ion_binary.specs.walking.Holds.{open_containers, setting_of, spot_of}
+use Rattle.ion_binary.proofs.Beginning.{front_does, wrapper_does}
+use Rattle.ion_binary.proofs.Ending.{pushed}
+use Rattle.ion_binary.proofs.Shells.{deepens}
+use Rattle.ion_binary.proofs.walking.BinaryWalk.begin_listing.Goals as goal
+
+pub returns-then-not-may_deepen-clause-does : goal.returns-then-not-may_deepen-clause-does
+returns-then-not-may_deepen-clause-does g c = λ fs h around other.
+    let r = c.args.self.now in
+    ap (λ b. if b then proceed (setting_of r) (spot_of r) (frames.Items (r.used + c.args.size) c.args.listing [] ∷ fs) else refuses Depth)
+    (deepens r fs c.may_deepen.result h c.may_deepen.ensures ∙ c.if-not-may_deepen.true)
+
+pub returns-clause-does : goal.returns-clause-does
+returns-clause-does g c = λ fs h around.
+    let r = c.args.self.now in
+    let s = c.begin_value.new.self in
+    let e = c.begin_value.ensures.same in
+    front_does g.V.Visitor.takes r s.filter fs h around c.args.visitor.now c.begin_value.new.visitor (c.in_ok-begin_value.ensures.told fs h around)
+    (record s { filter = c.open.new.self; frames = c.push.new.self; phase = Ready }) c.proceed.new.self (frames.Items (s.used + c.args.size) c.args.listing []) (bracket_of c.args.listing) _
+    c.proceed.result c.open.new.visitor c.proceed.new.visitor (subst (λ (x : Bracket). (es : List Event) → WasTold s.filter es → WasTold c.open.new.self (es ++ opens x ∷ [])
+    × Hears g.V.Visitor.takes (heard es) (heard (es ++ opens x ∷ [])) c.begin_value.new.visitor c.open.new.visitor) c.bracket_of-bracket.ensures
+    (c.open.ensures c.in_ok-heard.ensures.ok)) refl around around tt tt
+    (pushed s.frames.items c.push.new.self.items (containers.Items (s.used + c.args.size) c.args.listing) c.in_ok-push.ensures.items
+    ∙ ap (λ (w : BinaryWalk). containers.Items (s.used + c.args.size) c.args.listing ∷ open_containers w) e)
+    (ap (λ b. if b then proceed (setting_of r) (spot_of r) (frames.Items (r.used + c.args.size) c.args.listing [] ∷ fs) else refuses Depth)
+    (deepens r fs c.may_deepen.result h c.may_deepen.ensures ∙ c.if-not-may_deepen.false)
+    ∙ ap (λ (w : BinaryWalk). proceed (setting_of w) (spot_of w) (frames.Items (w.used + c.args.size) c.args.listing [] ∷ fs)) (sym e))
+    c.proceed.ensures.does

@@ -1,0 +1,20 @@
+use Rattle.std.proofs.Common.{◌≡◌, ◌++◌, List, length}
+use Rattle.ion_model.specs.declared.value.Value.{Value}
+use Rattle.ion_visiting.specs.Events.{events_of}
+use Rattle.ion_binary.specs.declared.state.Frame.{Frame}
+use Rattle.ion_binary.specs.machine.EachOctet.{deliver}
+use Rattle.ion_binary.specs.walking.Holds.{IsBehind, SameSetting, setting_of, spot_of, told_in}
+use Rattle.ion_binary.proofs.Ending.{IsLeft}
+use Rattle.ion_binary.proofs.walking.BinaryWalk.ended.Given as goal
+
+-- What is left to do gives what the whole was to give.
+abbrev pub invariant-loop-container : goal.invariant-loop-container
+invariant-loop-container g l = record {
+  left : (fs : List Frame) (v : Value) → IsBehind l.fn.self fs v →
+      IsLeft g.V.Visitor.takes (deliver (setting_of l.fn.self) (spot_of l.fn.self) fs v) (told_in fs ++ events_of v) l.initial.visitor l.self l.visitor;
+  used : l.self.used ≡ l.fn.self.used;
+  setting : SameSetting l.fn.self l.self;
+}
+
+abbrev pub decreases-loop-container : goal.decreases-loop-container
+decreases-loop-container g l = length l.self.frames.items

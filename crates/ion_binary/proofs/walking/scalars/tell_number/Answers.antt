@@ -1,0 +1,8 @@
+use Rattle.ion_model.specs.declared.value.Payload.TheVariants as payloads
+use Rattle.ion_visiting.specs.declared.part.Part.TheVariants as parts
+use Rattle.ion_visiting.specs.Parts.{number_payload}
+use Rattle.ion_binary.proofs.Judged.{on_ok, part_leaf, number_leaf, symbol_leaf}
+use Rattle.ion_binary.proofs.walking.scalars.tell_number.Goals as goal
+
+pub returns-clause-told : goal.returns-clause-told
+returns-clause-told g c = λ x. on_ok c.heard.result c.heard.ensures.ok (λ w. (number_payload c.in_ok-number.number, c.in_ok-number.ensures x, number_leaf c.in_ok-number.number, c.number.ensures w))

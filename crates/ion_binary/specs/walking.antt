@@ -1,0 +1,3 @@
+-- The reader that holds no values.
+pub mod Tables
+pub mod Holds

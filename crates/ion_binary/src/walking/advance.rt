@@ -1,0 +1,262 @@
+//! Walks over pieces: octets of a body or a pad are taken up at once, else one.
+ghost use Rattle.std.specs.Prelude.{◌≡◌, ◌+◌, ◌-◌, ◌≤◌, ◌<◌, ◌^◌, true, false, length, None, IfOk, IfErr, IfSome, IsNone};
+ghost use Rattle.ion_atoms.specs.declared.refusal.Reason.TheVariants.{Memory};
+ghost use Rattle.ion_binary.specs.machine.Views.{goes_on, is_in_body};
+ghost use Rattle.ion_binary.specs.declared.state.Phase.TheVariants as phases;
+ghost use Rattle.ion_binary.specs.walking.Holds.{SameSetting};
+
+use super::{BinaryWalk, TableFilter};
+use crate::form::Scalar;
+use crate::state::{Effect, Mark, Phase};
+use ion_model::{Reason, Refusal};
+use ion_symtab::{Catalog, Context, Limits};
+use ion_visiting::Visitor;
+use std::alloc::Global;
+
+/// What a walk used of its piece, and whether it ended a value of the top level.
+#[derive(Clone, Copy, Debug, PartialEq, Eq)]
+pub struct Walked {
+    /// How many octets of the piece were used, all of them where no value ended.
+    pub used: usize,
+    /// Whether a value ended, whose events the visitor was told.
+    pub ended: bool,
+}
+
+impl<'a> BinaryWalk<'a> {
+    /// A reader of no octets yet, for a document within these limits that may import the shared
+    /// tables of `catalog`. The only refusal is `Memory`.
+    pub fn new(
+        alloc: Global,
+        catalog: &'a Catalog,
+        limits: Limits,
+    ) -> Result<BinaryWalk<'a>, Reason> {
+        let context = Context::system(alloc)?;
+        Ok(BinaryWalk {
+            catalog,
+            limits,
+            used: 0,
+            start: 0,
+            context,
+            phase: Phase::InMarker(Mark::First, true),
+            body: Vec::new(alloc),
+            frames: Vec::new(alloc),
+            name: 0,
+            filter: TableFilter::new(alloc),
+            failed: None,
+        })
+    }
+}
+
+impl BinaryWalk<'_> {
+    /// Whether a body or a pad goes on behind the next octet.
+    fn goes_on(&self) -> bool
+        ensures { result ≡ goes_on self.now.phase }
+    {
+        match self.phase {
+            Phase::InBody(_, missing) => missing > 0,
+            Phase::InPad(missing) => missing > 0,
+            _ => false,
+        }
+    }
+
+    /// Takes up octets at the front of a piece: how many, and what the last of them did. Where they
+    /// are refused, `used` counts the octet that decided, and nothing else is known of the machine.
+    fn take_up<V: Visitor>(
+        &mut self,
+        piece: &[u8],
+        visitor: &mut V,
+    ) -> Result<(usize, Effect), Reason>
+        requires room { self.old.used + length piece.now < 2 ^ 63 }
+        requires some { 0 < length piece.now }
+        ensures some { IfOk result (λ took. 0 < took.0) }
+        ensures within { IfOk result (λ took. took.0 ≤ length piece.now) }
+        ensures used { IfOk result (λ took. self.new.used ≡ self.old.used + took.0) }
+        ensures setting { SameSetting self.old self.new }
+    {
+        if let Some((scalar, size)) = self.ending(piece) {
+            let effect = self.take_end(scalar, &piece[..size], visitor)?;
+            return Ok((size, effect));
+        }
+        if self.goes_on() {
+            let count = self.take_inside(piece)?;
+            return Ok((count, Effect::Goes));
+        }
+        let effect = self.feed(piece[0], visitor)?;
+        Ok((1, effect))
+    }
+
+    /// The scalar whose body ends in this piece, and how many octets of the piece it ends with.
+    fn ending(&self, piece: &[u8]) -> Option<(Scalar, usize)>
+        requires some { 0 < length piece.now }
+        ensures phase { IfSome result (λ end. self.now.phase ≡ phases.InBody end.0 (end.1 - 1)) }
+        ensures some { IfSome result (λ end. 0 < end.1) }
+        ensures within { IfSome result (λ end. end.1 ≤ length piece.now) }
+        ensures none { IsNone result →
+            goes_on self.now.phase ≡ false → is_in_body self.now.phase ≡ false }
+    {
+        match self.phase {
+            Phase::InBody(scalar, missing) if missing < piece.len() as u64 => {
+                Some((scalar, missing as usize + 1))
+            }
+            _ => None,
+        }
+    }
+
+    /// Takes up the last octets of a scalar's body. A body without earlier octets is judged where
+    /// it stands.
+    fn take_end<V: Visitor>(
+        &mut self,
+        scalar: Scalar,
+        octets: &[u8],
+        visitor: &mut V,
+    ) -> Result<Effect, Reason>
+        requires room { self.old.used + length octets.now < 2 ^ 63 }
+        ensures used { self.new.used ≡ self.old.used + length octets.now }
+        ensures setting { SameSetting self.old self.new }
+    {
+        self.used += octets.len() as u64;
+        if self.body.is_empty() {
+            return self.scalar(scalar, octets, visitor);
+        }
+        self.body.extend_from_slice(octets)?;
+        self.kept_scalar(scalar, visitor)
+    }
+
+    /// Takes up the octets at the front of a piece behind which a body or a pad goes on: how many.
+    /// The only refusal is `Memory`.
+    fn take_inside(&mut self, piece: &[u8]) -> Result<usize, Reason>
+        requires room { self.old.used + length piece.now < 2 ^ 63 }
+        requires some { 0 < length piece.now }
+        requires inside { goes_on self.old.phase ≡ true }
+        ensures within { IfOk result (λ count. count ≤ length piece.now) }
+        ensures some { IfOk result (λ count. 0 < count) }
+        ensures used { IfOk result (λ count. self.new.used ≡ self.old.used + count) }
+        ensures memory { IfErr result (λ reason. reason ≡ Memory) }
+        ensures setting { SameSetting self.old self.new }
+    {
+        match self.phase {
+            Phase::InBody(scalar, missing) => self.take_body(scalar, missing, piece),
+            Phase::InPad(missing) => Ok(self.take_pad(missing, piece)),
+            _ => unreachable!(),
+        }
+    }
+
+    /// Keeps the octets of a body that goes on behind them.
+    fn take_body(&mut self, scalar: Scalar, missing: u64, piece: &[u8]) -> Result<usize, Reason>
+        requires room { self.old.used + length piece.now < 2 ^ 63 }
+        requires some { 0 < length piece.now }
+        requires more { 0 < missing }
+        ensures within { IfOk result (λ count. count ≤ length piece.now) }
+        ensures some { IfOk result (λ count. 0 < count) }
+        ensures used { IfOk result (λ count. self.new.used ≡ self.old.used + count) }
+        ensures memory { IfErr result (λ reason. reason ≡ Memory) }
+        ensures setting { SameSetting self.old self.new }
+    {
+        let count = missing.min(piece.len() as u64);
+        self.body.extend_from_slice(&piece[..count as usize])?;
+        self.used += count;
+        self.phase = Phase::InBody(scalar, missing - count);
+        Ok(count as usize)
+    }
+
+    /// Skips the octets of a pad that goes on behind them.
+    fn take_pad(&mut self, missing: u64, piece: &[u8]) -> usize
+        requires room { self.old.used + length piece.now < 2 ^ 63 }
+        requires some { 0 < length piece.now }
+        requires more { 0 < missing }
+        ensures within { result ≤ length piece.now }
+        ensures some { 0 < result }
+        ensures used { self.new.used ≡ self.old.used + result }
+        ensures setting { SameSetting self.old self.new }
+    {
+        let skipped = missing.min(piece.len() as u64);
+        self.used += skipped;
+        self.phase = Phase::InPad(missing - skipped);
+        skipped as usize
+    }
+
+    /// Takes up the octets of a piece up to the end of the next value. A refusal's offset counts the
+    /// octet that decided; `Memory` has the octets of earlier walks.
+    fn advance<V: Visitor>(&mut self, piece: &[u8], visitor: &mut V) -> Result<Walked, Refusal>
+        requires room { self.old.used + length piece.now < 2 ^ 63 }
+        ensures within { IfOk result (λ walked. walked.used ≤ length piece.now) }
+        ensures used { IfOk result (λ walked. self.new.used ≡ self.old.used + walked.used) }
+        ensures memory { IfErr result (λ refusal.
+            refusal.reason ≡ Memory → refusal.offset ≡ self.old.used) }
+        ensures setting { SameSetting self.old self.new }
+    {
+        let before = self.used;
+        let mut i = 0;
+        while i < piece.len() {
+            match self.take_up(&piece[i..], visitor) {
+                Ok((count, Effect::Goes)) => i += count,
+                Ok((count, Effect::Gives)) => {
+                    return Ok(Walked {
+                        used: i + count,
+                        ended: true,
+                    });
+                }
+                Err(Reason::Memory) => {
+                    return Err(Refusal {
+                        offset: before,
+                        reason: Reason::Memory,
+                    });
+                }
+                Err(reason) => {
+                    let offset = self.used;
+                    return Err(Refusal { offset, reason });
+                }
+            }
+        }
+        Ok(Walked {
+            used: piece.len(),
+            ended: false,
+        })
+    }
+
+    /// Takes up the octets of a piece up to the end of the next value of the top level, and tells a
+    /// visitor what comes of them.
+    ///
+    /// The first refusal comes again with each call. `Memory` comes where memory was refused, or
+    /// where the visitor can't go on.
+    pub fn walk<V: Visitor>(&mut self, piece: &[u8], visitor: &mut V) -> Result<Walked, Refusal>
+        requires room { self.old.used + length piece.now < 2 ^ 63 }
+        ensures within { IfOk result (λ walked. walked.used ≤ length piece.now) }
+    {
+        if let Some(refusal) = self.failed {
+            return Err(refusal);
+        }
+        let result = self.advance(piece, visitor);
+        if let Err(refusal) = &result {
+            self.failed = Some(*refusal);
+        }
+        result
+    }
+
+    /// Whether the octets so far are whole pieces.
+    fn is_whole(&self) -> bool {
+        match self.phase {
+            Phase::Ready => self.frames.is_empty(),
+            _ => false,
+        }
+    }
+
+    /// Ends the octets, which end no value that hasn't ended: whether one ended, so never. A refusal
+    /// has the octets of all pieces, `Incomplete` where they end inside a value, a pad or a marker.
+    pub fn finish_by<V: Visitor>(self, _visitor: &mut V) -> Result<bool, Refusal> {
+        let failed = self.failed;
+        let whole = self.is_whole();
+        let end = self.used;
+        drop(self);
+        if let Some(refusal) = failed {
+            return Err(refusal);
+        }
+        if whole {
+            return Ok(false);
+        }
+        Err(Refusal {
+            offset: end,
+            reason: Reason::Incomplete,
+        })
+    }
+}

@@ -1,0 +1,204 @@
+//! Bodies: of scalars, pads and containers.
+ghost use Rattle.std.specs.Prelude.{◌≡◌, ◌<◌, ◌^◌, List, []};
+ghost use Rattle.ion_binary.specs.declared.form.Form.TheVariants as forms;
+ghost use Rattle.ion_binary.specs.declared.state.Frame.{Frame as AnyFrame};
+ghost use Rattle.ion_binary.specs.machine.EachOctet.{begin, judged, on_pad, open_struct, sized};
+ghost use Rattle.ion_binary.specs.walking.Holds.{AreAround, Does, Holds, HoldsNoWrapper, SameSetting, setting_of, spot_of, told};
+
+use super::{BinaryWalk, Container, heard};
+use crate::form::{Form, Listing, Scalar, bracket_of, hollow};
+use crate::state::{Effect, Phase, Purpose};
+use crate::walking::scalars::tell_scalar;
+use ion_model::Reason;
+use ion_visiting::{Bracket, Visitor};
+
+impl BinaryWalk<'_> {
+    /// Tells the scalar that a body is, whose last octet was taken up. A body without earlier octets
+    /// is judged where it stands.
+    pub(super) fn scalar<V: Visitor>(
+        &mut self,
+        scalar: Scalar,
+        octets: &[u8],
+        visitor: &mut V,
+    ) -> Result<Effect, Reason>
+        ensures used { self.new.used ≡ self.old.used }
+        ensures setting { SameSetting self.old self.new }
+    {
+        self.begin_value(visitor)?;
+        tell_scalar(&self.context, scalar, octets, &mut self.filter, visitor)?;
+        self.ended(visitor)
+    }
+
+    /// The same where earlier octets of the body were kept.
+    pub(super) fn kept_scalar<V: Visitor>(
+        &mut self,
+        scalar: Scalar,
+        visitor: &mut V,
+    ) -> Result<Effect, Reason>
+        ensures used { self.new.used ≡ self.old.used }
+        ensures setting { SameSetting self.old self.new }
+    {
+        self.begin_value(visitor)?;
+        tell_scalar(&self.context, scalar, &self.body, &mut self.filter, visitor)?;
+        self.ended(visitor)
+    }
+
+    /// Begins a body of this size, which the form may have, behind its header.
+    fn begin<V: Visitor>(
+        &mut self,
+        form: Form,
+        size: u64,
+        visitor: &mut V,
+    ) -> Result<Effect, Reason>
+        requires used { self.old.used < 2 ^ 63 }
+        requires size { size < 2 ^ 63 }
+        ensures used { self.new.used ≡ self.old.used }
+        ensures setting { SameSetting self.old self.new }
+    {
+        match form {
+            Form::Pad => self.begin_pad(size, visitor),
+            Form::Scalar(scalar) => self.begin_scalar(scalar, size, visitor),
+            Form::Listing(listing) => self.begin_listing(listing, size, visitor),
+            Form::Struct | Form::OrderedStruct => self.begin_struct(size, visitor),
+            Form::Wrapper => self.begin_wrapper(size, visitor),
+        }
+    }
+
+    fn begin_pad<V: Visitor>(&mut self, size: u64, visitor: &mut V) -> Result<Effect, Reason>
+        ensures does { (fs : List AnyFrame) → Holds self.old fs →
+            Does V.takes (told fs)
+            (begin (setting_of self.old) (spot_of self.old) fs forms.Pad size)
+            result self.new visitor.old visitor.new }
+        ensures used { self.new.used ≡ self.old.used }
+        ensures setting { SameSetting self.old self.new }
+    {
+        if size == 0 {
+            return self.proceed(visitor);
+        }
+        self.phase = Phase::InPad(size - 1);
+        Ok(Effect::Goes)
+    }
+
+    fn begin_scalar<V: Visitor>(
+        &mut self,
+        scalar: Scalar,
+        size: u64,
+        visitor: &mut V,
+    ) -> Result<Effect, Reason>
+        ensures used { self.new.used ≡ self.old.used }
+        ensures setting { SameSetting self.old self.new }
+    {
+        if size == 0 {
+            return self.scalar(scalar, &[], visitor);
+        }
+        self.body.clear();
+        self.phase = Phase::InBody(scalar, size - 1);
+        Ok(Effect::Goes)
+    }
+
+    fn begin_listing<V: Visitor>(
+        &mut self,
+        listing: Listing,
+        size: u64,
+        visitor: &mut V,
+    ) -> Result<Effect, Reason>
+        requires used { self.old.used < 2 ^ 63 }
+        requires size { size < 2 ^ 63 }
+        ensures does { (fs : List AnyFrame) → Holds self.old fs → AreAround fs →
+            Does V.takes (told fs)
+            (begin (setting_of self.old) (spot_of self.old) fs (forms.Listing listing) size)
+            result self.new visitor.old visitor.new }
+        ensures used { self.new.used ≡ self.old.used }
+        ensures setting { SameSetting self.old self.new }
+    {
+        if !self.may_deepen() {
+            return Err(Reason::Depth);
+        }
+        self.begin_value(visitor)?;
+        let bracket = bracket_of(listing);
+        heard(self.filter.open(bracket, visitor))?;
+        let end = self.used + size;
+        self.frames.push(Container::Items { end, listing })?;
+        self.phase = Phase::Ready;
+        self.proceed(visitor)
+    }
+
+    fn begin_struct<V: Visitor>(&mut self, size: u64, visitor: &mut V) -> Result<Effect, Reason>
+        requires used { self.old.used < 2 ^ 63 }
+        requires size { size < 2 ^ 63 }
+        ensures does { (fs : List AnyFrame) → Holds self.old fs → AreAround fs →
+            Does V.takes (told fs)
+            (open_struct (setting_of self.old) (spot_of self.old) fs size)
+            result self.new visitor.old visitor.new }
+        ensures used { self.new.used ≡ self.old.used }
+        ensures setting { SameSetting self.old self.new }
+    {
+        if !self.may_deepen() {
+            return Err(Reason::Depth);
+        }
+        self.begin_value(visitor)?;
+        heard(self.filter.open(Bracket::Fields, visitor))?;
+        let end = self.used + size;
+        self.frames.push(Container::Fields { end })?;
+        self.phase = Phase::Ready;
+        self.proceed(visitor)
+    }
+
+    fn begin_wrapper<V: Visitor>(&mut self, size: u64, visitor: &mut V) -> Result<Effect, Reason>
+        requires used { self.old.used < 2 ^ 63 }
+        requires size { size < 2 ^ 63 }
+        ensures does { (fs : List AnyFrame) → Holds self.old fs → HoldsNoWrapper fs → AreAround fs →
+            Does V.takes (told fs)
+            (begin (setting_of self.old) (spot_of self.old) fs forms.Wrapper size)
+            result self.new visitor.old visitor.new }
+        ensures used { self.new.used ≡ self.old.used }
+        ensures setting { SameSetting self.old self.new }
+    {
+        self.begin_value(visitor)?;
+        let end = self.used + size;
+        self.frames.push(Container::Annotated { end })?;
+        self.phase = Phase::InNumber(Purpose::AnnotationsLength, 0);
+        Ok(Effect::Goes)
+    }
+
+    /// Begins a body of this size, if it may stand here.
+    pub(super) fn sized<V: Visitor>(
+        &mut self,
+        form: Form,
+        size: u64,
+        visitor: &mut V,
+    ) -> Result<Effect, Reason>
+        requires used { self.old.used < 2 ^ 63 }
+        requires size { size < 2 ^ 63 }
+        ensures used { self.new.used ≡ self.old.used }
+        ensures setting { SameSetting self.old self.new }
+    {
+        if let Some(reason) = hollow(form, size) {
+            return Err(reason);
+        }
+        match self.unfit(form, self.used + size) {
+            Some(reason) => Err(reason),
+            None => self.begin(form, size, visitor),
+        }
+    }
+
+    /// Takes up an octet of a pad.
+    pub(super) fn on_pad<V: Visitor>(
+        &mut self,
+        missing: u64,
+        visitor: &mut V,
+    ) -> Result<Effect, Reason>
+        ensures does { (fs : List AnyFrame) → Holds self.old fs →
+            Does V.takes (told fs)
+            (on_pad (setting_of self.old) (spot_of self.old) fs missing)
+            result self.new visitor.old visitor.new }
+        ensures used { self.new.used ≡ self.old.used }
+        ensures setting { SameSetting self.old self.new }
+    {
+        if missing == 0 {
+            return self.proceed(visitor);
+        }
+        self.phase = Phase::InPad(missing - 1);
+        Ok(Effect::Goes)
+    }
+}

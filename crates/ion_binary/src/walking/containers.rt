@@ -1,0 +1,211 @@
+//! Containers that end.
+ghost use Rattle.std.specs.Prelude.{◌≡◌, ◌⊎◌, List, [], ◌∷◌, ◌++◌, IfErr, IfOk, OnOk, Ok, Err, Result, true};
+ghost use Rattle.ion_atoms.specs.declared.refusal.Reason.TheVariants.{Memory};
+ghost use Rattle.ion_model.specs.Kinds.{is_table};
+ghost use Rattle.ion_symtab.specs.Next.{next};
+ghost use Rattle.ion_model.specs.declared.value.Field.{Field as AnyField};
+ghost use Rattle.ion_model.specs.declared.value.Value.{Value as AnyValue};
+ghost use Rattle.ion_visiting.specs.Events.{Event, events_of};
+ghost use Rattle.ion_binary.specs.declared.state.Frame.{Frame as AnyFrame};
+ghost use Rattle.ion_binary.specs.declared.state.Frame.TheVariants as frames;
+ghost use Rattle.ion_binary.specs.declared.state.Effect.TheVariants as effects;
+ghost use Rattle.ion_binary.specs.declared.state.Phase.TheVariants as phases;
+ghost use Rattle.ion_binary.specs.machine.EachOctet.{Outcome, deliver, proceed};
+ghost use Rattle.ion_binary.specs.walking.Tables.{WasTold};
+ghost use Rattle.ion_binary.specs.walking.Holds.{AreAround, Closes, Does, DoesAlone, Holds, IsBareIn, IsBehind, SameSetting, container_of, containers_of, open_containers, setting_of, spot_of, told, told_in};
+
+use super::{BinaryWalk, Container, heard};
+use crate::form::{Listing, bracket_of};
+use crate::state::{Effect, Phase, Purpose};
+use ion_model::{Reason, Value};
+use ion_visiting::{Bracket, Visitor};
+
+impl BinaryWalk<'_> {
+    /// A value that was told ended here, and with it each container that ends here.
+    pub(super) fn ended<V: Visitor>(&mut self, visitor: &mut V) -> Result<Effect, Reason>
+        ensures does { (fs : List AnyFrame) (v : AnyValue) → IsBehind self.old fs v →
+            Does V.takes (told_in fs ++ events_of v)
+            (deliver (setting_of self.old) (spot_of self.old) fs v)
+            result self.new visitor.old visitor.new }
+        ensures used { self.new.used ≡ self.old.used }
+        ensures setting { SameSetting self.old self.new }
+    {
+        while let Some(container) = self.frames.pop() {
+            match self.behind_value(container, visitor) {
+                Err(reason) => return Err(reason),
+                Ok(false) => return Ok(Effect::Goes),
+                Ok(true) => {}
+            }
+        }
+        self.give()
+    }
+
+    /// A value of the top level that was told ended here. A local symbol table changes the context
+    /// (Ion 1.0, "Symbols", "Local Symbol Tables").
+    fn give(&mut self) -> Result<Effect, Reason>
+        requires top { open_containers self.old ≡ [] }
+        ensures does { (v : AnyValue) → WasTold self.old.filter (events_of v) →
+            DoesAlone (events_of v)
+            (deliver (setting_of self.old) (spot_of self.old) [] v) result self.new }
+        ensures used { self.new.used ≡ self.old.used }
+        ensures setting { SameSetting self.old self.new }
+    {
+        self.start = self.used;
+        self.phase = Phase::Ready;
+        match self.filter.end() {
+            None => Ok(Effect::Gives),
+            Some(table) => {
+                let applied = self.apply(&table);
+                drop(table);
+                applied?;
+                Ok(Effect::Goes)
+            }
+        }
+    }
+
+    // A local symbol table changes the context.
+    fn apply(&mut self, table: &Value) -> Result<(), Reason>
+        ensures ok { is_table table.now ≡ true → OnOk result
+            ((next self.old.context table.now self.old.catalog.now ≡ Ok self.new.context)
+            × (self.new ≡ record self.old { context = self.new.context })) }
+        ensures refused { is_table table.now ≡ true → IfErr result (λ r.
+            (r ≡ Memory) ⊎ (next self.old.context table.now self.old.catalog.now ≡ Err r)) }
+        ensures used { self.new.used ≡ self.old.used }
+        ensures setting { SameSetting self.old self.new }
+    {
+        if !table.is_table() {
+            return Ok(());
+        }
+        self.context.apply(table, self.catalog)
+    }
+
+    /// Whether a container that was the innermost one ends behind a value in it; else it is the
+    /// innermost one again.
+    fn behind_value<V: Visitor>(
+        &mut self,
+        container: Container,
+        visitor: &mut V,
+    ) -> Result<bool, Reason>
+        ensures does { (f : AnyFrame) (fs : List AnyFrame) (v : AnyValue) →
+            container ≡ container_of f → open_containers self.old ≡ containers_of fs →
+            AreAround (f ∷ fs) → IsBareIn (f ∷ fs) v →
+            WasTold self.old.filter (told_in (f ∷ fs) ++ events_of v) →
+            Closes V.takes (told_in (f ∷ fs) ++ events_of v)
+            (deliver (setting_of self.old) (spot_of self.old) (f ∷ fs) v)
+            result self.new visitor.old visitor.new }
+        ensures frames { IfOk result (λ closed.
+            closed ≡ true → self.new.frames.items ≡ self.old.frames.items) }
+        ensures used { self.new.used ≡ self.old.used }
+        ensures setting { SameSetting self.old self.new }
+    {
+        match container {
+            Container::Items { end, listing } => self.close_items(end, listing, visitor),
+            Container::Fields { .. } => Err(Reason::Malformed),
+            Container::Named { end } => self.close_fields(end, visitor),
+            Container::Annotated { .. } => Ok(true),
+        }
+    }
+
+    /// Whether a list or an s-expression that was the innermost container ends here; else it is the
+    /// innermost one again.
+    fn close_items<V: Visitor>(
+        &mut self,
+        end: u64,
+        listing: Listing,
+        visitor: &mut V,
+    ) -> Result<bool, Reason>
+        ensures does { (fs : List AnyFrame) (vs : List AnyValue) →
+            open_containers self.old ≡ containers_of fs → AreAround fs →
+            WasTold self.old.filter (told_in (frames.Items end listing vs ∷ fs)) →
+            Closes V.takes (told_in (frames.Items end listing vs ∷ fs))
+            (proceed (setting_of self.old) (spot_of self.old) (frames.Items end listing vs ∷ fs))
+            result self.new visitor.old visitor.new }
+        ensures frames { IfOk result (λ closed.
+            closed ≡ true → self.new.frames.items ≡ self.old.frames.items) }
+        ensures used { self.new.used ≡ self.old.used }
+        ensures setting { SameSetting self.old self.new }
+    {
+        if self.used == end {
+            let bracket = bracket_of(listing);
+            heard(self.filter.close(bracket, visitor))?;
+            return Ok(true);
+        }
+        self.phase = Phase::Ready;
+        self.frames.push(Container::Items { end, listing })?;
+        Ok(false)
+    }
+
+    /// The same of a struct, where the name of a field comes next.
+    fn close_fields<V: Visitor>(&mut self, end: u64, visitor: &mut V) -> Result<bool, Reason>
+        ensures does { (fs : List AnyFrame) (ms : List AnyField) →
+            open_containers self.old ≡ containers_of fs → AreAround fs →
+            WasTold self.old.filter (told_in (frames.Fields end ms ∷ fs)) →
+            Closes V.takes (told_in (frames.Fields end ms ∷ fs))
+            (proceed (setting_of self.old) (spot_of self.old) (frames.Fields end ms ∷ fs))
+            result self.new visitor.old visitor.new }
+        ensures frames { IfOk result (λ closed.
+            closed ≡ true → self.new.frames.items ≡ self.old.frames.items) }
+        ensures used { self.new.used ≡ self.old.used }
+        ensures setting { SameSetting self.old self.new }
+    {
+        if self.used == end {
+            heard(self.filter.close(Bracket::Fields, visitor))?;
+            return Ok(true);
+        }
+        self.phase = Phase::InNumber(Purpose::FieldName, 0);
+        self.frames.push(Container::Fields { end })?;
+        Ok(false)
+    }
+
+    /// Goes on behind a pad, or into a container that begins. The innermost container may be whole
+    /// here: where it is empty, or the pad was its last.
+    pub(super) fn proceed<V: Visitor>(&mut self, visitor: &mut V) -> Result<Effect, Reason>
+        ensures does { (fs : List AnyFrame) → Holds self.old fs → Does V.takes (told fs)
+            (proceed (setting_of self.old) (spot_of self.old) fs)
+            result self.new visitor.old visitor.new }
+        ensures used { self.new.used ≡ self.old.used }
+        ensures setting { SameSetting self.old self.new }
+    {
+        match self.frames.pop() {
+            None => Ok(self.proceed_at_top()),
+            Some(Container::Items { end, listing }) => {
+                let closed = self.close_items(end, listing, visitor)?;
+                self.behind(closed, visitor)
+            }
+            Some(Container::Fields { end }) => {
+                let closed = self.close_fields(end, visitor)?;
+                self.behind(closed, visitor)
+            }
+            Some(Container::Named { end }) => {
+                let closed = self.close_fields(end, visitor)?;
+                self.behind(closed, visitor)
+            }
+            Some(Container::Annotated { .. }) => Err(Reason::Malformed),
+        }
+    }
+
+    /// Behind a container that may have ended here.
+    fn behind<V: Visitor>(&mut self, closed: bool, visitor: &mut V) -> Result<Effect, Reason>
+        ensures does { (es : List Event) (outcome : Outcome) (first : V) →
+            Closes V.takes es outcome (Result.Ok closed) self.old first visitor.old →
+            Does V.takes es outcome result self.new first visitor.new }
+        ensures used { self.new.used ≡ self.old.used }
+        ensures setting { SameSetting self.old self.new }
+    {
+        if closed {
+            return self.ended(visitor);
+        }
+        Ok(Effect::Goes)
+    }
+
+    /// The same where no container is open.
+    fn proceed_at_top(&mut self) -> Effect
+        ensures goes { result ≡ effects.Goes }
+        ensures new { self.new
+            ≡ record self.old { phase = phases.Ready; start = self.old.used } }
+    {
+        self.phase = Phase::Ready;
+        self.start = self.used;
+        Effect::Goes
+    }
+}

@@ -1,0 +1,160 @@
+//! VarUInts: lengths, and the ids of field names and annotations.
+ghost use Rattle.std.specs.Prelude.{◌≡◌, ◌<◌, ◌^◌, List};
+ghost use Rattle.ion_binary.specs.declared.state.Frame.{Frame as AnyFrame};
+ghost use Rattle.ion_binary.specs.machine.EachOctet.{longer, unsized, name_came, count_came, annotation_came, number_came, on_number};
+ghost use Rattle.ion_binary.specs.walking.Holds.{Does, DoesAlone, Holds, SameSetting, setting_of, spot_of, told};
+
+use super::{BinaryWalk, Container, heard};
+use crate::form::Form;
+use crate::state::{Effect, Phase, Purpose};
+use ion_model::Reason;
+use ion_visiting::Visitor;
+
+impl BinaryWalk<'_> {
+    /// Goes on in a VarUInt, whose octets make `so_far` up to here.
+    fn longer(&mut self, purpose: Purpose, so_far: u64) -> Result<Effect, Reason>
+        ensures does { (fs : List AnyFrame) → Holds self.old fs →
+            DoesAlone (told fs)
+            (longer (setting_of self.old) (spot_of self.old) fs purpose so_far)
+            result self.new }
+        ensures used { self.new.used ≡ self.old.used }
+        ensures setting { SameSetting self.old self.new }
+    {
+        match self.past(purpose) {
+            Some(reason) => Err(reason),
+            None => {
+                self.phase = Phase::InNumber(purpose, so_far);
+                Ok(Effect::Goes)
+            }
+        }
+    }
+
+    /// Begins the length of a form, if the form may stand here.
+    pub(super) fn length_follows(&mut self, form: Form) -> Result<Effect, Reason>
+        ensures does { (fs : List AnyFrame) → Holds self.old fs →
+            DoesAlone (told fs)
+            (unsized (setting_of self.old) (spot_of self.old) fs form)
+            result self.new }
+        ensures used { self.new.used ≡ self.old.used }
+        ensures setting { SameSetting self.old self.new }
+    {
+        if let Some(reason) = self.stray(form) {
+            return Err(reason);
+        }
+        if let Some(reason) = self.unending(form) {
+            return Err(reason);
+        }
+        if let Some(reason) = self.nameless(form) {
+            return Err(reason);
+        }
+        self.phase = Phase::InNumber(Purpose::Length(form), 0);
+        Ok(Effect::Goes)
+    }
+
+    /// Takes up an octet of a VarUInt (Ion 1.0, "Ion Binary Encoding", "VarUInt and VarInt
+    /// Fields"); `TooLarge` from 2^63 on.
+    pub(super) fn on_number<V: Visitor>(
+        &mut self,
+        purpose: Purpose,
+        so_far: u64,
+        octet: u8,
+        visitor: &mut V,
+    ) -> Result<Effect, Reason>
+        requires used { self.old.used < 2 ^ 63 }
+        ensures used { self.new.used ≡ self.old.used }
+        ensures setting { SameSetting self.old self.new }
+    {
+        if so_far >= 1 << 56 {
+            return Err(Reason::TooLarge);
+        }
+        if octet < 128 {
+            return self.longer(purpose, 128 * so_far + u64::from(octet));
+        }
+        self.number_came(purpose, 128 * so_far + u64::from(octet - 128), visitor)
+    }
+
+    /// Does what a VarUInt that has ended is for.
+    fn number_came<V: Visitor>(
+        &mut self,
+        purpose: Purpose,
+        number: u64,
+        visitor: &mut V,
+    ) -> Result<Effect, Reason>
+        requires used { self.old.used < 2 ^ 63 }
+        requires number { number < 2 ^ 63 }
+        ensures used { self.new.used ≡ self.old.used }
+        ensures setting { SameSetting self.old self.new }
+    {
+        match purpose {
+            Purpose::Length(form) => self.sized(form, number, visitor),
+            Purpose::FieldName => self.name_came(number),
+            Purpose::AnnotationsLength => self.count_came(number),
+            Purpose::Annotation(stop) => self.annotation_came(stop, number, visitor),
+        }
+    }
+
+    /// Takes the id of a field name, behind which an octet has to be left of the struct. Whether
+    /// the id has a symbol counts only if a value follows.
+    fn name_came(&mut self, id: u64) -> Result<Effect, Reason>
+        ensures used { self.new.used ≡ self.old.used }
+        ensures setting { SameSetting self.old self.new }
+    {
+        let Some(end) = self.fields_end() else {
+            return Err(Reason::Malformed);
+        };
+        if self.used >= end {
+            return Err(Reason::Malformed);
+        }
+        self.frames.pop();
+        self.frames.push(Container::Named { end })?;
+        self.name = id;
+        self.phase = Phase::Ready;
+        Ok(Effect::Goes)
+    }
+
+    /// Takes the number of the octets of a wrapper's annotations: there is one at least, and one
+    /// behind them.
+    fn count_came(&mut self, count: u64) -> Result<Effect, Reason>
+        requires used { self.old.used < 2 ^ 63 }
+        requires count { count < 2 ^ 63 }
+        ensures does { (fs : List AnyFrame) → Holds self.old fs →
+            DoesAlone (told fs)
+            (count_came (spot_of self.old) fs count)
+            result self.new }
+        ensures used { self.new.used ≡ self.old.used }
+        ensures setting { SameSetting self.old self.new }
+    {
+        let Some(end) = self.wrapper_end() else {
+            return Err(Reason::Malformed);
+        };
+        let stop = self.used + count;
+        if count == 0 || stop >= end {
+            return Err(Reason::Malformed);
+        }
+        self.phase = Phase::InNumber(Purpose::Annotation(stop), 0);
+        Ok(Effect::Goes)
+    }
+
+    /// Takes the id of an annotation; the annotations end at the octet `stop`.
+    fn annotation_came<V: Visitor>(
+        &mut self,
+        stop: u64,
+        id: u64,
+        visitor: &mut V,
+    ) -> Result<Effect, Reason>
+        ensures used { self.new.used ≡ self.old.used }
+        ensures setting { SameSetting self.old self.new }
+    {
+        if self.wrapper_end().is_none() {
+            return Err(Reason::Malformed);
+        }
+        let symbol = self.context.resolve(id)?;
+        heard(self.filter.annotation(symbol, visitor))?;
+        self.phase = if self.used == stop {
+            Phase::Ready
+        } else {
+            Phase::InNumber(Purpose::Annotation(stop), 0)
+        };
+        Ok(Effect::Goes)
+    }
+}

@@ -1,0 +1,148 @@
+//! Scalars, whose octets are their body: told apart here alone.
+ghost use Rattle.std.specs.Prelude.{◌≡◌, ◌≢◌, List, ℕ, Ok, Err, MatchResult, OnOk, IfErr};
+ghost use Rattle.ion_atoms.specs.declared.refusal.Reason.TheVariants.{Memory};
+ghost use Rattle.ion_model.specs.declared.value.Payload.TheVariants as payloads;
+ghost use Rattle.ion_visiting.specs.Parts.{number_payload};
+ghost use Rattle.ion_scalar.specs.binary.Fields.{uint_field};
+ghost use Rattle.ion_symtab.specs.Slots.{Slot};
+ghost use Rattle.ion_binary.specs.Judge.{judge, int_of, symbol_of, text_of};
+ghost use Rattle.ion_binary.specs.declared.form.Scalar.TheVariants as scalars;
+ghost use Rattle.ion_binary.specs.walking.Holds.{IsNumber, TellsAs};
+
+use super::heard;
+use super::tables::TableFilter;
+use crate::form::Scalar;
+use ion_model::{Reason, Symbol, Whole};
+use ion_scalar::{Number, decimal_of, timestamp_of, uint_of};
+use ion_symtab::Context;
+use ion_visiting::{Part, Visitor};
+
+/// Tells the scalar that a body is (Ion 1.0, "Ion Binary Encoding", typed value formats).
+///
+/// `TooLarge` for an int of magnitude 2^127 and more, `Malformed` for a negative zero, `BadUtf8`
+/// for a string that isn't UTF-8; for a symbol what `Context::symbol` says of its id, and
+/// `TooLarge` from 2^127 on; for a decimal or timestamp what its body is refused for; `Memory` where
+/// the visitor can't go on.
+#[tactic(auto, unfolding(crate::specs::Judge::judge))]
+pub(super) fn tell_scalar<V: Visitor>(
+    context: &Context,
+    scalar: Scalar,
+    body: &[u8],
+    filter: &mut TableFilter,
+    visitor: &mut V,
+) -> Result<(), Reason>
+    ensures told { OnOk result (TellsAs V.takes (judge context.now scalar body.now)
+        filter.old filter.new visitor.old visitor.new) }
+    ensures refused { IfErr result (λ reason. reason ≢ Memory →
+        judge context.now scalar body.now ≡ Err reason) }
+{
+    match scalar {
+        Scalar::Symbol => tell_symbol(context, body, filter, visitor),
+        Scalar::Str => tell_text(body, filter, visitor),
+        Scalar::Clob => heard(filter.part(&Part::Clob(body), visitor)),
+        Scalar::Blob => heard(filter.part(&Part::Blob(body), visitor)),
+        _ => tell_number(scalar, body, filter, visitor),
+    }
+}
+
+fn tell_symbol<V: Visitor>(
+    context: &Context,
+    body: &[u8],
+    filter: &mut TableFilter,
+    visitor: &mut V,
+) -> Result<(), Reason>
+    ensures told { OnOk result (TellsAs V.takes (symbol_of context.now (uint_field body.now))
+        filter.old filter.new visitor.old visitor.new) }
+    ensures refused { IfErr result (λ reason. reason ≢ Memory →
+        symbol_of context.now (uint_field body.now) ≡ Err reason) }
+{
+    let symbol = symbol_of(context, body)?;
+    heard(filter.symbol(symbol, visitor))
+}
+
+fn tell_text<V: Visitor>(
+    body: &[u8],
+    filter: &mut TableFilter,
+    visitor: &mut V,
+) -> Result<(), Reason>
+    ensures told { OnOk result (TellsAs V.takes (text_of body.now)
+        filter.old filter.new visitor.old visitor.new) }
+    ensures refused { IfErr result (λ reason. reason ≢ Memory →
+        text_of body.now ≡ Err reason) }
+{
+    let text = text_of(body)?;
+    heard(filter.part(&Part::Str(text), visitor))
+}
+
+fn tell_number<V: Visitor>(
+    scalar: Scalar,
+    body: &[u8],
+    filter: &mut TableFilter,
+    visitor: &mut V,
+) -> Result<(), Reason>
+    requires { IsNumber scalar }
+    ensures told { (c : List Slot) → OnOk result (TellsAs V.takes (judge c scalar body.now)
+        filter.old filter.new visitor.old visitor.new) }
+    ensures refused { (c : List Slot) → IfErr result (λ reason. reason ≢ Memory →
+        judge c scalar body.now ≡ Err reason) }
+{
+    let number = number_of(scalar, body)?;
+    heard(filter.number(number, visitor))
+}
+
+// The number of a body.
+#[tactic(auto, unfolding(crate::specs::Judge::judge))]
+fn number_of(scalar: Scalar, body: &[u8]) -> Result<Number, Reason>
+    requires { IsNumber scalar }
+    ensures { (c : List Slot) → MatchResult result
+        (λ n. judge c scalar body.now ≡ Ok (number_payload n))
+        (λ reason. judge c scalar body.now ≡ Err reason) }
+{
+    match scalar {
+        Scalar::Decimal => Ok(Number::Decimal(decimal_of(body)?)),
+        Scalar::Timestamp => Ok(Number::Timestamp(timestamp_of(body)?)),
+        _ => Ok(Number::Int(int_of(scalar == Scalar::NegativeInt, body)?)),
+    }
+}
+
+// The int of a sign and a magnitude.
+fn int_of(negative: bool, body: &[u8]) -> Result<Whole, Reason>
+    ensures { MatchResult result
+        (λ z. int_of negative (uint_field body.now) ≡ Ok (payloads.Int z))
+        (λ reason. int_of negative (uint_field body.now) ≡ Err reason) }
+{
+    let magnitude = uint_of(body)?;
+    if negative && magnitude == 0 {
+        return Err(Reason::Malformed);
+    }
+    let value = magnitude as i128;
+    match Whole::new(if negative { -value } else { value }) {
+        Some(whole) => Ok(whole),
+        None => unreachable!(),
+    }
+}
+
+// The symbol of an id.
+fn symbol_of<'a>(context: &'a Context, body: &[u8]) -> Result<&'a Symbol, Reason>
+    ensures { MatchResult result
+        (λ s. symbol_of context.now (uint_field body.now) ≡ Ok (payloads.Symbol s.now))
+        (λ reason. symbol_of context.now (uint_field body.now) ≡ Err reason) }
+{
+    let id = uint_of(body)?;
+    if id > context.max_id() as u128 {
+        return Err(Reason::SymbolRange);
+    }
+    context.symbol(id as u64)
+}
+
+// The text of a string.
+fn text_of(body: &[u8]) -> Result<&str, Reason>
+    ensures { MatchResult result (λ t. text_of body.now ≡ Ok (payloads.Str t.now))
+        (λ reason. text_of body.now ≡ Err reason) }
+{
+    if !simdutf8::is_utf8(body) {
+        return Err(Reason::BadUtf8);
+    }
+    // checked just now
+    Ok(unsafe { str::from_utf8_unchecked(body) })
+}
