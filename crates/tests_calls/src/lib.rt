@@ -11,6 +11,8 @@ mod alike_texts;
 #[cfg(test)]
 mod answers;
 #[cfg(test)]
+mod binary_out;
+#[cfg(test)]
 mod errors;
 #[cfg(test)]
 mod faults;
@@ -35,6 +37,8 @@ mod starved;
 mod steps;
 #[cfg(test)]
 mod streams;
+#[cfg(test)]
+mod text_out;
 mod wanted;
 #[cfg(test)]
 mod writers;

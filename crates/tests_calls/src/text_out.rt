@@ -1,0 +1,106 @@
+//! Values written as text as they are told, beside what they are written as once they are built.
+//! What is owned is let go by a call of `drop`: on each way out it would be let go part by part.
+use crate::answers::same;
+use ion_docs::read_all;
+use ion_model::{Reason, Value};
+use ion_symtab::{Catalog, Limits};
+use ion_text::{TextOut, text_of};
+use ion_visiting::{Bracket, Part, Visitor, tell};
+use std::alloc::Global;
+use std::test::Fail;
+
+/// Values in the writer's spelling, each on a line.
+static WRITTEN: [&[u8]; 8] = [
+    b"null\nnull.int\nnull.struct\ntrue\nfalse\n",
+    b"0\n-12\n15d-1\n15d-30\n-0d0\n2007T\n2007-02-23T12:14:33.079-08:00\n",
+    b"\"\"\n\"a'\\x07\\n\"\nabc\n'null'\n''\n'+'\n'a b'\n'\\''\n$0\n",
+    b"{{AQIDBA==}}\n{{}}\n{{\"\\x00\\\"\\xc8\"}}\n{{\"\"}}\n",
+    b"[]\n()\n{}\n[[]]\n(())\n[{}]\n[[],[]]\n(() ())\n",
+    b"[1,2,3]\n('+' 1 (2 3) [4,5])\n{a:1,a:2,'':{b:[x,y]},$0:null}\n",
+    b"a::1\na::$0::'b c'::[d::1,e::f::()]\n(a::b c::d)\n{x:a::b::1,y:{z:c::null}}\n",
+    b"a::$0\n$0::$0\n[$0,$0]\n(a $0)\n{$0:$0}\n\"\xE2\x82\xAC\"\n'\xE2\x82\xAC'::1\n",
+];
+
+/// Appends the lines that a value is written as once it is built.
+fn put_built(alloc: Global, value: &Value, lines: &mut Vec<u8>) -> Result<(), Reason> {
+    let text = text_of(alloc, value)?;
+    let put = lines.extend_from_slice(text.as_bytes());
+    drop(text);
+    put?;
+    lines.push(b'\n')?;
+    Ok(())
+}
+
+/// Whether values are written, told, as they are once they are built, and that is `wanted`.
+fn are_written(alloc: Global, values: &[Value], wanted: &[u8]) -> Result<bool, Reason> {
+    let mut lines = Vec::new(alloc);
+    let mut out = TextOut::new(alloc);
+    let mut told = true;
+    for value in values {
+        put_built(alloc, value, &mut lines)?;
+        told = told && tell(value, &mut out) && out.ended();
+    }
+    let found = told && out.lines() == lines.as_slice() && out.lines() == wanted;
+    drop(out);
+    drop(lines);
+    Ok(found)
+}
+
+/// Whether a document is written again as it stands.
+fn is_written(alloc: Global, document: &[u8]) -> Result<bool, Reason> {
+    if document.len() > 200 {
+        return Err(Reason::TooLarge);
+    }
+    let catalog = Catalog::new(alloc);
+    let values = match read_all(alloc, document, &catalog, Limits::usual()) {
+        Ok(values) => values,
+        Err(refusal) => return Err(refusal.reason),
+    };
+    let found = are_written(alloc, values.as_slice(), document);
+    drop(values);
+    drop(catalog);
+    found
+}
+
+#[test]
+fn values_are_written_as_they_are_told(rt: HostRuntime) -> Result<(), Fail> {
+    for document in &WRITTEN {
+        same(&rt, *document, is_written(rt.alloc(), document)?, true);
+    }
+    Ok(())
+}
+
+/// Tells a front of a list.
+fn begin(out: &mut TextOut) -> bool {
+    out.annotation(Some("a")) && out.open(Bracket::List) && out.part(&Part::Truth(true))
+}
+
+/// Tells what is left of it.
+fn end(out: &mut TextOut) -> bool {
+    out.unknown_symbol() && out.close(Bracket::List) && out.ended()
+}
+
+/// What is handed over of a value that isn't ended, of it behind one that was, of one begun anew,
+/// and of one that goes on while the lines before it are handed over.
+#[test]
+fn lines_are_of_values_that_ended(rt: HostRuntime) {
+    let mut out = TextOut::new(rt.alloc());
+    let told = begin(&mut out);
+    same(&rt, "begun", (told, out.lines()), (true, b""));
+    let told = end(&mut out) && begin(&mut out);
+    same(&rt, "ended", (told, out.lines()), (true, b"a::[true,$0]\n"));
+    out.forget_begun();
+    let told = begin(&mut out) && end(&mut out) && begin(&mut out);
+    let lines: &[u8] = b"a::[true,$0]\na::[true,$0]\n";
+    same(&rt, "begun anew", (told, out.lines()), (true, lines));
+    out.forget_lines();
+    same(&rt, "handed over", out.lines(), b"");
+    let told = end(&mut out);
+    same(
+        &rt,
+        "gone on",
+        (told, out.lines()),
+        (true, b"a::[true,$0]\n"),
+    );
+    drop(out);
+}
