@@ -10,7 +10,7 @@ passed=0
 failed=0
 cc=${CC:-cc}
 warnings='-Wall -Wextra -Wpedantic -Werror'
-library=$folder/libpureefjord.a
+library=$folder/lib/libpureefjord.a
 
 # tried NAME COMMAND..: counts what its last line tells, `N passed, M failed`, or else its status.
 tried() {
@@ -40,11 +40,10 @@ same() { tried "$1" test "$2" = "$3"; }
 
 build() {
     tried 'the objects' env PROVED=1 "$top/bindings/build.sh" "$folder"
-    same 'what is exported' "$(nm -D --defined-only "$folder/libpureefjord.so" | sed 's/.* //' | LC_ALL=C sort | tr '\n' ' ')" \
+    same 'what is exported' "$(nm -D --defined-only "$folder/lib/libpureefjord.so" | sed 's/.* //' | LC_ALL=C sort | tr '\n' ' ')" \
         "$(sed -n 's/^[a-z0-9_]* \(pureefjord_[a-z_]*\)(.*/\1/p' "$top/bindings/pureefjord.h" | LC_ALL=C sort | tr '\n' ' ')"
     version=$(cat "$top/VERSION")
     same 'the version of the header' "$(sed -n 's/^#define PUREEFJORD_VERSION "\(.*\)"/\1/p' "$top/bindings/pureefjord.h")" "$version"
-    same 'the version of the package' "$(sed -n 's/^version = "\(.*\)"/\1/p' "$top/bindings/python/pyproject.toml")" "$version"
 }
 
 # calls NAME COMPILER OPTION..: builds the calls in C with these options, and runs them.
@@ -97,7 +96,7 @@ examples() {
     same 'the example, equivalent' "$("$folder/example" "$top/examples/short.10n" "$top/examples/short.ion"; echo $?)" "equivalent 1
 0"
     # shellcheck disable=SC2086
-    tried 'the example, shared' "$cc" $warnings -I"$top/bindings" -o "$folder/shared" "$top/bindings/c/example.c" -L"$folder" -lpureefjord -Wl,-rpath,"$folder"
+    tried 'the example, shared' "$cc" $warnings -I"$top/bindings" -o "$folder/shared" "$top/bindings/c/example.c" -L"$folder/lib" -lpureefjord -Wl,-rpath,"$folder/lib"
     same 'the example, different' "$("$folder/shared" "$top/examples/short.ion" "$top/examples/other.ion"; echo $?)" "different 1 [2]
 1"
     same 'the example, refused' "$("$folder/shared" "$top/examples/short.ion" "$top/examples/cut.10n" 2>&1; echo $?)" "refused right 7 Incomplete
@@ -108,10 +107,33 @@ in_other_languages() {
     tried Python python3 "$top/tests/bindings/calls.py" "$folder/python"
     tried 'few documents of every kind' python3 "$top/tests/exhaustive.py" "$folder/python" --few
     if has rustc; then
-        tried 'Rust, built' rustc --edition 2024 -D warnings -o "$folder/calls_rs" "$top/tests/bindings/calls.rs" -L "native=$folder" -l static=pureefjord
+        tried 'Rust, built' rustc --edition 2024 -D warnings -o "$folder/calls_rs" "$top/tests/bindings/calls.rs" -L "native=$folder/lib" -l static=pureefjord
         tried Rust "$folder/calls_rs"
     else
         left_out Rust
+    fi
+}
+
+# The command lines of docs/BINDINGS.md as they stand, but the one that builds, and its lines for CMake.
+page() {
+    mkdir -p "$folder/page"
+    ln -s "$top/bindings" "$top/examples" "$folder/page"
+    awk '/^## Link it/ { on = 1; next } /^## / { on = 0 } on && /^    / { sub(/^    /, ""); print }' "$top/docs/BINDINGS.md" > "$folder/lines"
+    if ! has pkg-config; then sed -i '/pkg-config/d' "$folder/lines"; left_out 'the page: pkg-config'; fi
+    if ! has cargo || ! has rustc; then sed -i -e '/cargo/d' -e '/main\.rs/d' "$folder/lines"; left_out 'the page: Rust'; fi
+    if ! python3 -m venv "$folder/venv" > /dev/null 2>&1; then sed -i '/venv/d' "$folder/lines"; left_out 'the page: pip'; fi
+    sed -i "s|^P=.*|P='$folder'|" "$folder/lines"
+    tried 'the lines of the page' sh -c 'cd "$1" && CARGO_NET_OFFLINE=true bash -e ../lines' - "$folder/page"
+    if has cmake; then
+        mkdir "$folder/cmake"
+        {
+            printf 'cmake_minimum_required(VERSION 3.16)\nproject(user C)\nadd_executable(example %s/bindings/c/example.c)\n' "$top"
+            sed -n '/^```cmake/,/^```$/p' "$top/docs/BINDINGS.md" | grep -v '^```'
+        } > "$folder/cmake/CMakeLists.txt"
+        tried 'the page: CMake' sh -c 'cd "$1" && cmake -S . -B out -DCMAKE_PREFIX_PATH="$2" && cmake --build out && out/example "$3/short.ion" "$3/short.10n"' - \
+            "$folder/cmake" "$folder" "$top/examples"
+    else
+        left_out 'the page: CMake'
     fi
 }
 
@@ -124,5 +146,6 @@ in_c
 in_little_stack
 examples
 in_other_languages
+page
 echo "$passed passed, $failed failed"
 [ "$failed" = 0 ]

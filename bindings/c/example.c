@@ -1,4 +1,4 @@
-/* Compares two files: example LEFT RIGHT. cc example.c -I.. libpureefjord.a */
+/* Compares two files: example LEFT RIGHT. docs/BINDINGS.md says how it is linked. */
 #include "pureefjord.h"
 #include <stdio.h>
 #include <stdlib.h>

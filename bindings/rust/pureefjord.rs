@@ -1,6 +1,6 @@
 //! Whole Amazon Ion 1.0 documents in memory, from Rust: what `pureefjord.h` declares, and a safe wrapper over it.
 //!
-//! Take this file up as a module, and link `libpureefjord.a` (docs/BINDINGS.md). The answers are those of the command
+//! Take it as a crate, or this file as a module and link `libpureefjord.a` (docs/BINDINGS.md). The answers are those of the command
 //! `ion_cmd`, whose code is proved; of this file only tests speak. A call needs 256 KiB of stack, whatever the depth.
 #![allow(dead_code)]
 

@@ -115,6 +115,7 @@ def asserts():
     is_("a difference", asserted(b'1 {n:[1,x::"old"]}', b'1 {n:[1,x::"new"]}'), 'value 2 at n [2] differs\nleft:  x::"old"\nright: x::"new"')
     is_("fields that stand twice", asserted(b"{a:1,a:2}", b"{a:2}"), "value 1 at a differs\nleft:  1\nleft:  2\nright: 2")
     is_("a value that is missing", asserted(b"1 2", b"1"), "value 2 differs\nleft:  2\nright: (nothing)")
+    is_("a float", asserted(b"1 1e0", b"1"), "left can't be read: Float at octet 5: a float (1e0, nan, +inf); it is Ion, but this program reads null.float alone")
     is_("a refused side", asserted(b"1", b"1 ]"), "right is no Ion document: Unexpected at octet 3")
 
 

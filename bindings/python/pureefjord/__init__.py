@@ -16,7 +16,7 @@ may go (1 to 128), and `item`, how many octets a top-level value may have (1 to 
 from __future__ import annotations
 
 from dataclasses import dataclass
-from typing import List, Sequence, Tuple, Union
+from typing import Callable, List, Sequence, Tuple, Union
 
 from . import _library
 from ._library import Document
@@ -115,19 +115,19 @@ def _raise(answer: _library.Answer, before: bytes = b"") -> None:
 
 def check(document: Document, *, catalog: Document = b"", depth: int = _DEPTH, item: int = _ITEM) -> int:
     """How many values the document has. Raises Refused, Fault, MemoryError; ValueError where the limits are none."""
-    told = _library.call("check", (document,), catalog, depth, item, -1)
-    _raise(told.answer)
-    return told.answer.number
+    answer, _ = _library.call(_library.check, (document,), catalog, depth, item, -1)
+    _raise(answer)
+    return answer.number
 
 
 def show(document: Document, *, catalog: Document = b"", depth: int = _DEPTH, item: int = _ITEM) -> str:
     """A line for each value, `INDEX KIND depth DEPTH nodes NODES`, and `accepted VALUES`. Raises what `check` does."""
-    return _written("show", document, catalog, depth, item).decode()
+    return _written(_library.show, document, catalog, depth, item).decode()
 
 
 def to_text(document: Document, *, catalog: Document = b"", depth: int = _DEPTH, item: int = _ITEM) -> bytes:
     """A text document of the same stream, a line for each value. Raises what `check` does."""
-    return _written("to_text", document, catalog, depth, item)
+    return _written(_library.to_text, document, catalog, depth, item)
 
 
 def to_binary(document: Document, *, catalog: Document = b"", depth: int = _DEPTH, item: int = _ITEM) -> bytes:
@@ -135,14 +135,14 @@ def to_binary(document: Document, *, catalog: Document = b"", depth: int = _DEPT
 
     It finds symbols by a hash whose seed this process drew at random, so no document can be made to be slow by it.
     """
-    return _written("to_binary", document, catalog, depth, item)
+    return _written(_library.to_binary, document, catalog, depth, item)
 
 
-def _written(name: str, document: Document, catalog: Document, depth: int, item: int) -> bytes:
+def _written(function: Callable[..., int], document: Document, catalog: Document, depth: int, item: int) -> bytes:
     length = 0 if hasattr(document, "__fspath__") else len(document)  # type: ignore[arg-type]
-    told = _library.call(name, (document,), catalog, depth, item, 2 * length + 256)
-    _raise(told.answer, told.text)
-    return told.text
+    answer, text = _library.call(function, (document,), catalog, depth, item, 2 * length + 256)
+    _raise(answer, text)
+    return text
 
 
 def compare(
@@ -152,8 +152,7 @@ def compare(
 
     Only Equivalent is true. Raises Refused of the catalog, Fault, MemoryError; ValueError where the limits are none.
     """
-    told = _library.call("compare", (left, right), catalog, depth, item, 256)
-    return _verdict(told.answer, told.text)
+    return _verdict(*_library.call(_library.compare, (left, right), catalog, depth, item, 256))
 
 
 def _verdict(answer: _library.Answer, path: bytes) -> Union[Equivalent, Different, Refused]:
@@ -194,11 +193,20 @@ def assert_same_ion(
     if isinstance(verdict, Equivalent):
         return
     if isinstance(verdict, Refused):
-        raise AssertionError(f"{verdict.side} is no Ion document: {verdict.reason} at octet {verdict.offset}")
+        raise AssertionError(_why_refused(verdict))
     lines = [f"value {verdict.index}" + (f" at {verdict.path}" if verdict.path else "") + " differs"]
     for side, document in (("left", left), ("right", right)):
         lines += [f"{side + ':':<6} {text}" for text in _texts_at(to_text(document, **limits), verdict)]  # type: ignore[arg-type]
     raise AssertionError("\n".join(lines))
+
+
+def _why_refused(refused: Refused) -> str:
+    """Whether a side is no Ion, or Ion that this library doesn't read, or may be."""
+    from .ion_places import BEYOND, in_words
+
+    if refused.reason in BEYOND:
+        return f"{refused.side} can't be read: {refused.reason} at octet {refused.offset}: {in_words(refused.reason)}"
+    return f"{refused.side} is no Ion document: {refused.reason} at octet {refused.offset}"
 
 
 def _texts_at(text: bytes, difference: Different) -> List[str]:

@@ -2,11 +2,12 @@
 from __future__ import annotations
 
 import ctypes
+import functools
 import mmap
 import os
 import pathlib
 import secrets
-from typing import Any, Callable, List, NamedTuple, Sequence, Tuple, Union
+from typing import Any, Callable, List, Sequence, Tuple, Union
 
 Document = Union[bytes, bytearray, memoryview, mmap.mmap, "os.PathLike[str]", "os.PathLike[bytes]"]
 
@@ -90,6 +91,12 @@ def _loaded() -> ctypes.CDLL:
 
 
 _library = _loaded()
+check = _library.pureefjord_check
+show = _library.pureefjord_show
+compare = _library.pureefjord_compare
+to_text = _library.pureefjord_to_text
+to_binary = _library.pureefjord_to_binary
+_NOTHING = ctypes.cast(b"", ctypes.c_void_p)  # a place of no octets
 
 
 def _short(call: Callable[..., int], *words: int) -> str:
@@ -119,7 +126,7 @@ class _Lent:
             return
         self._buffer = _Buffer()
         _get_buffer(document, self._buffer, 0)
-        self.place, self.length = self._buffer.buf or ctypes.cast(b"", ctypes.c_void_p), self._buffer.len
+        self.place, self.length = self._buffer.buf or _NOTHING, self._buffer.len
 
     def _mapped(self, path: "os.PathLike[Any]") -> Union[bytes, mmap.mmap]:
         """A file's octets: mapped where it has some and can be, as a pipe can't."""
@@ -160,35 +167,41 @@ class _LentAll:
             lent.release()
 
 
-class Told(NamedTuple):
-    """What a call told: its answer and its text."""
-
-    answer: Answer
-    text: bytes
-
-
-def _options(catalog: _Lent, depth: int, item: int) -> _Options:
+def _options(place: Any, length: int, depth: int, item: int) -> _Options:
     if not (1 <= depth <= 128 and 1 <= item <= 1 << 30):
         raise ValueError("depth is 1 to 128, and item 1 to 2**30")
-    return _Options(catalog.place, catalog.length, item, depth, *_SEED)
+    return _Options(place, length, item, depth, *_SEED)
 
 
-def call(name: str, documents: Sequence[Document], catalog: Document, depth: int, item: int, room: int) -> Told:
-    """Makes the call of this name, and again with more room where the text didn't fit; `room` -1 is a call without a text."""
-    function = getattr(_library, "pureefjord_" + name)
-    answer = Answer()
+@functools.lru_cache(maxsize=16)
+def _without_catalog(depth: int, item: int) -> _Options:
+    """Options that calls share, since none writes to them."""
+    return _options(_NOTHING, 0, depth, item)
+
+
+def call(
+    function: Callable[..., int], documents: Sequence[Document], catalog: Document, depth: int, item: int, room: int
+) -> Tuple[Answer, bytes]:
+    """The answer and the text of a call, made again with more room where the text didn't fit; `room` -1 is a call without a text."""
+    if catalog == b"" and all(type(it) is bytes for it in documents):  # ctypes lends bytes as they are, sooner than _Lent
+        words = [word for it in documents for word in (it, len(it))]  # type: ignore[arg-type]
+        return _told(function, words, _without_catalog(depth, item), room)
     with _LentAll([catalog, *documents]) as (lent_catalog, *lent):
-        options = _options(lent_catalog, depth, item)
         words = [word for it in lent for word in (it.place, it.length)]
-        if room < 0:
-            function(*words, options, answer)
-            return Told(answer, b"")
-        while True:
-            buffer = ctypes.create_string_buffer(room)
-            function(*words, options, buffer, room, answer)
-            if answer.length <= room:
-                return Told(answer, ctypes.string_at(buffer, answer.length))
-            room = answer.length
+        return _told(function, words, _options(lent_catalog.place, lent_catalog.length, depth, item), room)
+
+
+def _told(function: Callable[..., int], words: List[Any], options: _Options, room: int) -> Tuple[Answer, bytes]:
+    answer = Answer()
+    if room < 0:
+        function(*words, options, answer)
+        return answer, b""
+    while True:
+        buffer = (ctypes.c_char * room)()
+        function(*words, options, buffer, room, answer)
+        if answer.length <= room:
+            return answer, ctypes.string_at(buffer, answer.length) if answer.length else b""
+        room = answer.length
 
 
 def compare_each(pairs: Sequence[Tuple[Document, Document]], catalog: Document, depth: int, item: int) -> Sequence[Answer]:
@@ -196,7 +209,7 @@ def compare_each(pairs: Sequence[Tuple[Document, Document]], catalog: Document, 
     count = len(pairs)
     answers = (Answer * count)()
     with _LentAll([catalog, *(document for pair in pairs for document in pair)]) as (lent_catalog, *lent):
-        options = _options(lent_catalog, depth, item)
+        options = _options(lent_catalog.place, lent_catalog.length, depth, item)
         lent_pairs = (_Pair * count)()
         for at, pair in enumerate(lent_pairs):
             left, right = lent[2 * at], lent[2 * at + 1]
