@@ -1,6 +1,7 @@
 #!/usr/bin/env python3
 """Does what the documents cite stand where they say? Of docs/PROVED.md each row's functions, clauses and definitions in the
-files of the row; of README and all of docs/ each path. Prints what it doesn't find, and ends with 1 then."""
+files of the row; of README and all of docs/ each path, and each link with its heading. Prints what it doesn't find, and ends with 1
+then."""
 import functools
 import os
 import re
@@ -8,7 +9,7 @@ import subprocess
 import sys
 
 ROOT = os.path.dirname(os.path.dirname(os.path.abspath(__file__)))
-SKIPPED = re.compile(r"(^|/)out(/|$)|[^\w./-]|^/|\.\.|NAME|PATH|FUNCTION|^-|^1/2$|^small\.10n$")  # no files of the repository
+SKIPPED = re.compile(r"(^|/)out(/|$)|[^\w./-]|^/|\.\.|NAME|PATH|FUNCTION|^-|^1/2$|^small\.10n$|^PROOF\.txt$|^(include|lib)/|^dist/")  # no files of the repository
 PATH = re.compile(r"(^[\w.-]*/[\w./-]*$)|\.(rt|antt|py|sh|md|txt|rs|yml|h|c|10n|ion|1)$")
 FUNCTION = re.compile(r"\s*(?:pub(?:\([a-z]+\))? )?(?:const )?(?:extern \"C\" )?fn (\w+)")
 
@@ -106,6 +107,22 @@ def cited_paths():
                         yield f"{document}:{number}: no such file: {path}"
 
 
-missing = [*proved(), *cited_paths()]
+def anchors(path):
+    """The headings of a page, as links name them."""
+    headings = re.findall(r"^#+ (.*)$", open(f"{ROOT}/{path}").read(), re.M)
+    return {re.sub(r"[^\w -]", "", heading.lower()).replace(" ", "-") for heading in headings}
+
+
+def links():
+    for document in ["README.md", "CHANGELOG.md"] + sorted(p for p in FILES if re.fullmatch(r"(docs|bench)/\w+\.md", p)):
+        for number, line in enumerate(open(f"{ROOT}/{document}"), 1):
+            for target in re.findall(r"\]\(([^)\s]+)\)", re.sub(r"`[^`]*`", "", line)):
+                path, _, anchor = target.partition("#")
+                path = os.path.normpath(os.path.join(os.path.dirname(document), path)) if path else document
+                if not re.match(r"https?:", target) and (path not in FILES or (anchor and anchor not in anchors(path))):
+                    yield f"{document}:{number}: no such place: {target}"
+
+
+missing = [*proved(), *cited_paths(), *links()]
 print("\n".join(missing) or "each name and path that is cited stands there")
 sys.exit(1 if missing else 0)

@@ -8,8 +8,8 @@ these a token decides, and with which octet, or that the end does.
 
 What is proved (`deciding` in crates/ion_text/src/laws.rt) is tried of the program. A refusal for one of the nine is a row. Octets show
 one row at most. Where a row decides, the program refuses there or before, and for no other of the nine: before the row's octet only as
-`ItemTooLong`, and at that octet only for a reason with a smaller number. A document has no row. What isn't proved is tried too: where
-the end decides, another reason comes only as `ItemTooLong`, before the end. Where another reason comes is told, by reasons.
+`ItemTooLong`, and at that octet only for a reason with a smaller number. Where the end decides, another reason comes only as
+`ItemTooLong`, by an octet, which may be the last one. A document has no row. Where another reason comes is told, by reasons.
 
 Documents: soups of tokens, random values behind tables, whole documents with some octets changed or cut off, under small limits, with
 and without a catalog; and some with all their fronts. Not judged are refusals for other reasons where no row decides, and how many
@@ -188,12 +188,12 @@ def judged(octets, limits, told):
     if reason in NINE and not decided & {((offset, False), reason), ((offset, True), reason)}:
         wrong.append("no row is that")
     first = None
-    for (at, _), wanted in decided:
+    for (at, by_end), wanted in decided:
         if reason is None or offset > at or reason in NINE and (offset, reason) != (at, wanted):
             wrong.append(f"a row decides at {at} for {wanted}")
         elif reason not in NINE:
             first = ("at" if offset == at else "before", reason, wanted)
-            if not (smaller(reason, wanted) if offset == at else reason == "ItemTooLong"):
+            if not (smaller(reason, wanted) if offset == at and not by_end else reason == "ItemTooLong"):
                 wrong.append(f"{reason} may not come first where a row decides at {at} for {wanted}")
     return wrong, first
 
@@ -315,6 +315,7 @@ def documents(count, chance):
     for octets in EDGES:
         for end in range(1, len(octets) + 1):
             yield octets[:end], Limits(3, 2**24, CATALOG)
+            yield octets[:end], Limits(3, max(1, end - 1), {})  # the last octet passes the limit, if all are one item
     for _ in range(count):
         octets = chance.choice([soup, whole, mutant, mutant])(chance)
         if chance.random() < 0.5:

@@ -75,6 +75,15 @@ cat lists/list.* | check_list - > told.once
 is 'one run, its status' $? 75
 is 'one run' "$(summed told.once)" "$wanted"
 
+runs 'xargs' 'One machine, with xargs' 1p; is 'xargs, its status' "$status" 0
+runs 'xargs, summed' 'One machine, with xargs' 2p; is xargs "$(printf '%s\n' "$out" | sort_last)" "$wanted"
+is 'xargs, what is tried again' "$(tr '\0' '\n' < again | LC_ALL=C sort)" "$(for list in lists/list.*; do check_list "$list" > /dev/null || echo "$list"; done)"
+
+sed -n "s/^ *command: \[sh, -c, '\(.*\)'\]$/\1/p" "$EXAMPLES/kubernetes_job.yaml" > "$folder/pod"
+is 'Kubernetes, its pods' "$(sed -n 's/^  completions: //p' "$EXAMPLES/kubernetes_job.yaml")" "$(ls lists | wc -l)"
+for index in $(seq 0 $(($(ls lists | wc -l) - 1))); do JOB_COMPLETION_INDEX=$index sh "$folder/pod"; done > told.pods
+is 'Kubernetes, the command of each pod' "$(summed told.pods)" "$wanted"
+
 if command -v parallel > /dev/null; then
     runs 'one machine' 'One machine' 1p; summed told > sum
     is 'one machine: lists that ended with 75' "$status" "$(awk 'FNR > 1 && $7 == 75' joblog | wc -l | tr -d ' ')"

@@ -177,8 +177,8 @@ ION
     at 2 "'a b' [5]" '"}\\\""'
     at 2 "'a b' [6]" "'\\''"
     at 3 '' 'a::b::{}'
-    at 3 x ''
-    at 4 '' ''
+    run ion_at values.ion 3 x; gives 'ion_at, a wrong path' 1 'ion_at: nothing stands at 3 x of values.ion'
+    run ion_at values.ion 4; gives 'ion_at, a number beyond the last' 1 'ion_at: nothing stands at 4 of values.ion'
 }
 
 conformance() {
@@ -257,8 +257,8 @@ versions() {
     binary '{id:1} {id:2} {id:3} {id:4} {id:5}' doc.10n && git add . && git commit -qm one
     printf '\340\001\000\352\041\005\110\077\360\000\000\000\000\000\000' > doc.10n && git commit -qam float
     binary '{id:1} {id:2} {id:3} {id:4} {id:6}' doc.10n && git commit -qam three
-    run git log -p --format=%s; is 'git log goes on past a refused version' "$status $(printf '%s\n' "$out" | grep -c -e '^three$' -e '^float$' -e '^one$' -e '^+{id:1}$' -e '^+// refused 7 Float$')" '0 6'
-    run git diff HEAD~2 HEAD; is 'git diff of binary' "$status $(printf '%s\n' "$out" | grep '^[-+]{' | tr '\n' ' ')" '0 -{id:5} +{id:6} '
+    run git log -p --format=%s; is 'git log goes on past a refused version' "$status $(printf '%s\n' "$out" | grep -c -e '^three$' -e '^float$' -e '^one$' -e '^+  id: 1$' -e '^+// refused 7 Float$')" '0 6'
+    run git diff HEAD~2 HEAD; is 'git diff of binary' "$status $(printf '%s\n' "$out" | grep '^[-+] ' | tr '\n' ' ')" '0 -  id: 5 +  id: 6 '
     run git show HEAD~1:./doc.10n --textconv; is 'git show of a refused version' "$status" 0
     git checkout -qb side HEAD; binary '{id:0} {id:2} {id:3} {id:4} {id:6}' doc.10n; git commit -qam side
     git checkout -q -; binary '{id:1} {id:2} {id:3} {id:4} {id:7}' doc.10n; git commit -qam main
@@ -334,21 +334,23 @@ installed() {
     clean
     run install.sh prefix "$program"
     begins 'install.sh' 0 "installed in $folder/work/prefix: "
-    is 'install.sh, what it wrote' "$(cd prefix && find . -type f | LC_ALL=C sort | tr '\n' ' ')" './bin/check_list ./bin/compare_list ./bin/ion_at ./bin/ion_check_all ./bin/ion_cmd ./bin/ion_compare_trees ./bin/ion_conformance ./bin/ion_floats_to_decimals ./bin/ion_lines.py ./bin/ion_merge ./bin/ion_textconv ./bin/ion_to ./bin/ion_where ./share/bash-completion/completions/ion_cmd ./share/man/man1/ion_cmd.1 ./share/zsh/site-functions/_ion_cmd '
-    is 'every script is installed' "$(cd "$top/tools" && ls -p | grep -v / | grep -vx 'install.sh\|vendor.sh' | sort | tr '\n' ' ')" "$(cd prefix/bin && ls | grep -vx ion_cmd | sort | tr '\n' ' ')"
+    is 'install.sh, what it wrote' "$(cd prefix && find . -type f ! -name '*.py' | LC_ALL=C sort | tr '\n' ' ')" './bin/check_list ./bin/compare_list ./bin/ion_at ./bin/ion_check_all ./bin/ion_cmd ./bin/ion_compare_trees ./bin/ion_conformance ./bin/ion_floats_to_decimals ./bin/ion_json ./bin/ion_merge ./bin/ion_pretty ./bin/ion_textconv ./bin/ion_to ./bin/ion_where ./bin/pureefjord ./share/bash-completion/completions/ion_cmd ./share/bash-completion/completions/pureefjord ./share/man/man1/ion_cmd.1 ./share/man/man1/pureefjord.1 ./share/pureefjord/VERSION ./share/zsh/site-functions/_ion_cmd ./share/zsh/site-functions/_pureefjord '
+    is 'every script is installed' "$(cd "$top/tools" && ls -p | grep -v / | grep -vx 'install.sh\|vendor.sh\|release.sh\|clean\|progress' | grep -v '\.py$' | sort | tr '\n' ' ')" "$(cd prefix/bin && ls | grep -vx ion_cmd | sort | tr '\n' ' ')"
+    is 'every module is installed' "$(cd prefix/share/pureefjord && ls *.py)" "$(cd "$top/tools" && ls *.py)"
     echo '1 2' > a.ion
     out=$(PATH=$folder/work/prefix/bin:/usr/bin:/bin ion_at a.ion 2); status=$?; gives 'an installed script' 0 2
     run install.sh prefix absent; is 'install.sh, no program' "$status" 4
 }
 
 completed() {
-    for case in 'ion_cmd co|convert compare' 'ion_cmd convert a --t|--to' 'ion_cmd convert a --to |text binary' 'ion_cmd check --|--catalog --depth --item'; do
-        words=${case%%|*}
-        out=$(bash -c 'source "$1"; IFS=" "; COMP_WORDS=($2); [ "${2% }" = "$2" ] || COMP_WORDS+=(""); COMP_CWORD=$((${#COMP_WORDS[@]} - 1)); _ion_cmd; echo "${COMPREPLY[*]}"' bash "$top/tools/completion/ion_cmd.bash" "$words" 2>/dev/null)
+    for case in 'ion_cmd co|convert compare' 'ion_cmd convert a --t|--to' 'ion_cmd convert a --to |text binary' 'ion_cmd check --|--catalog --depth --item' \
+        'pureefjord p|pretty' 'pureefjord to |text binary' 'pureefjord diff --format |text json' 'pureefjord json --d|--depth --down-convert' 'pureefjord help f|floats'; do
+        words=${case%%|*} command=${case%% *}
+        out=$(bash -c 'source "$1"; IFS=" "; COMP_WORDS=($2); [ "${2% }" = "$2" ] || COMP_WORDS+=(""); COMP_CWORD=$((${#COMP_WORDS[@]} - 1)); _$3; echo "${COMPREPLY[*]}"' bash "$top/tools/completion/$command.bash" "$words" "$command" 2>/dev/null)
         is "completion in bash: $words" "$out" "${case#*|}"
     done
     if command -v zsh > /dev/null; then
-        zsh -n "$top/tools/completion/_ion_cmd"; is 'completion in zsh' $? 0
+        for command in ion_cmd pureefjord; do zsh -n "$top/tools/completion/_$command"; is "completion of $command in zsh" $? 0; done
     else
         echo 'left out: completion in zsh (no zsh)'
     fi
@@ -369,18 +371,22 @@ pipes() {
 
 page() {
     cd "$top" || exit 1
-    is 'the version of the manual page' "$(sed -n '1s/.*Pureefjord \([0-9.]*\).*/\1/p' docs/ion_cmd.1)" "$(cat VERSION)"
+    for page in ion_cmd pureefjord; do
+        is "the version of the manual page $page" "$(sed -n '1s/.*Pureefjord \([0-9.]*\).*/\1/p' "docs/$page.1")" "$(cat VERSION)"
+    done
     is 'the version of the changes' "$(sed -n 's/^## \([0-9.]*\),.*/\1/p' CHANGELOG.md | head -n 1)" "$(cat VERSION)"
     if command -v groff > /dev/null; then
-        is 'the manual page is set without a warning' "$(groff -ww -man -Tutf8 docs/ion_cmd.1 2>&1 > /dev/null)" ''
+        for page in ion_cmd pureefjord; do
+            is "the manual page $page is set without a warning" "$(groff -ww -man -Tutf8 "docs/$page.1" 2>&1 > /dev/null)" ''
+        done
     else
         echo 'left out: the manual page, set (no groff)'
     fi
     for reason in $(sed -n 's/^ *Reason::\([A-Za-z0-9]*\) => "\([A-Za-z0-9]*\)",$/\2/p' crates/ion_atoms/src/refusal.rt); do
         is "the manual page has $reason" "$(grep -cx "\.B $reason" docs/ion_cmd.1 | sed 's/[12]/there/')" there
-        is "ion_where has $reason" "$(grep -c "^    $reason) echo" tools/ion_where)" 1
+        is "the scripts have $reason in words" "$(grep -c "^    \"$reason\": \"" tools/ion_places.py)" 1
     done
-    sed -n '/^\.EX$/,/^\.EE$/p' docs/ion_cmd.1 | grep -v '^\.E[XE]$' > "$folder/examples"
+    cat docs/ion_cmd.1 docs/pureefjord.1 | sed -n '/^\.EX$/,/^\.EE$/p' | grep -v '^\.E[XE]$' > "$folder/examples"
     command=
     wanted=
     try() { [ -z "$command" ] || is "manual page: $command" "$(sh -c "$command" 2>&1 < /dev/null)" "$wanted"; }

@@ -1,6 +1,6 @@
 #!/bin/sh
 # install.sh PREFIX [PROGRAM]: copies the built program (usually crates/ion_cmd/out/ion_cmd) to PREFIX/bin, with the scripts of
-# this folder, the manual page and the completions for bash and zsh to PREFIX/share. It says what to add to PATH where
+# this folder, the manual pages and the completions for bash and zsh to PREFIX/share. It says what to add to PATH where
 # PREFIX/bin isn't on it; it needs no rights but those to write there, and changes nothing else.
 set -eu
 [ $# -eq 1 ] || [ $# -eq 2 ] || { echo 'usage: install.sh PREFIX [PROGRAM]' >&2; exit 3; }
@@ -18,15 +18,18 @@ put() {
     install -m "$1" "$3" "$prefix/$2/${4-${3##*/}}"
 }
 put 755 bin "$program" ion_cmd
-for script in ion_where ion_check_all ion_compare_trees ion_conformance ion_at ion_to ion_textconv ion_merge \
-    ion_floats_to_decimals check_list compare_list; do
+for script in pureefjord ion_where ion_check_all ion_compare_trees ion_conformance ion_at ion_to ion_pretty ion_json \
+    ion_textconv ion_merge ion_floats_to_decimals check_list compare_list; do
     put 755 bin "$tools/$script"
 done
-put 644 bin "$tools/ion_lines.py"
-put 644 share/man/man1 "$tools/../docs/ion_cmd.1"
-put 644 share/bash-completion/completions "$tools/completion/ion_cmd.bash" ion_cmd
-put 644 share/zsh/site-functions "$tools/completion/_ion_cmd"
-printf 'installed in %s: bin/ion_cmd, its scripts, the manual page and the completions\n' "$prefix"
+for module in "$tools"/*.py; do put 644 share/pureefjord "$module"; done
+put 644 share/pureefjord "$tools/../VERSION"
+for command in ion_cmd pureefjord; do
+    put 644 share/man/man1 "$tools/../docs/$command.1"
+    put 644 share/bash-completion/completions "$tools/completion/$command.bash" "$command"
+    put 644 share/zsh/site-functions "$tools/completion/_$command"
+done
+printf 'installed in %s: bin/ion_cmd, its scripts, the manual pages and the completions\n' "$prefix"
 case :$PATH: in
 *:"$prefix/bin":*) ;;
 *) printf 'add it to PATH: export PATH="%s/bin:$PATH"\n' "$prefix" ;;

@@ -1,10 +1,8 @@
 """The lines that `ion_cmd convert --to text` writes, one value each: the values inside them and the places where they stand.
 
-Read by ion_at and ion_conformance; it reads the one spelling that the program writes, and no other text.
+It reads the one spelling that the program writes, and no other text.
 """
-import os
 import re
-import subprocess
 
 TOKEN = re.compile(
     r"""'(?:\\.|[^'\\])*'|"(?:\\.|[^"\\])*"|\{\{"(?:\\.|[^"\\])*"\}\}|\{\{[A-Za-z0-9+/=]*\}\}"""
@@ -66,15 +64,3 @@ def string_of(token):
     """What a string's token stands for."""
     spelled = lambda found: chr(int(found[1][1:], 16)) if found[1][0] == "x" and len(found[1]) == 3 else ESCAPED.get(found[1], found[1])
     return ESCAPE.sub(spelled, token[1:-1])
-
-
-def command(word, *names):
-    """The words that run the program; a name that begins with `-` is no option."""
-    named = ["./" + name if name.startswith("-") and name != "-" else name for name in names]
-    return [os.environ.get("ION_CMD", "ion_cmd"), word, *named]
-
-
-def told(*words, **more):
-    """The status, what went out, and what was told on the errors."""
-    ran = subprocess.run(words, stdin=subprocess.DEVNULL, capture_output=True, **more)
-    return ran.returncode, ran.stdout.decode(), ran.stderr.decode().strip()
