@@ -1,6 +1,6 @@
 //! Decimals.
-ghost use Rattle.std.specs.Prelude.{◌≡◌, ◌<◌, ◌^◌, SomeIff};
-ghost use Rattle.ion_atoms.specs.Decimals.{DecimalParts, IsDecimal, decimal_same, decimal_cmp};
+ghost use Rattle.std.specs.Prelude.{◌≡◌, ◌<◌, ◌≤ℤ◌, ◌-ℤ◌, ◌*◌, ◌^◌, SomeIff, unsigned_abs};
+ghost use Rattle.ion_atoms.specs.Decimals.{DecimalParts, IsDecimal, decimal_same, decimal_cmp, decimal_sum, sum_at};
 
 use crate::halves::Halves;
 use std::cmp::Ordering;
@@ -90,6 +90,55 @@ impl Decimal {
         ensures { result ≡ self.exponent }
     {
         self.exponent
+    }
+
+    /// The exact sum of both, at the smaller of their exponents; `None` exactly where its magnitude
+    /// is 2^127 or more. A sum of zero has a minus where both decimals have one. Takes no memory.
+    #[tactic(auto, using(crate::proofs::Sums::first_too_great, crate::proofs::Sums::second_too_great))]
+    pub fn checked_add(self, other: Decimal) -> Option<Decimal>
+        ensures { SomeIff result (IsDecimal (decimal_sum self other)) (decimal_sum self other) }
+    {
+        let exponent = self.exponent.min(other.exponent);
+        let magnitude = self.magnitude_at(exponent)?;
+        let added = other.magnitude_at(exponent)?;
+        Decimal::sum_at(exponent, self.negative, magnitude, other.negative, added)
+    }
+
+    // The sum of two coefficients.
+    #[tactic(auto, using(crate::proofs::Sums::same_signs, crate::proofs::Sums::second_greater, crate::proofs::Sums::first_greater, crate::proofs::Sums::neither_greater))]
+    fn sum_at(
+        exponent: i32,
+        negative: bool,
+        magnitude: u128,
+        other_negative: bool,
+        other_magnitude: u128,
+    ) -> Option<Decimal>
+        ensures { let sum = sum_at exponent negative magnitude other_negative other_magnitude in
+            SomeIff result (IsDecimal sum) sum }
+    {
+        if negative == other_negative {
+            let magnitude = magnitude.checked_add(other_magnitude)?;
+            return Decimal::new(negative, magnitude, exponent);
+        }
+        let negative = match magnitude.cmp(&other_magnitude) {
+            Ordering::Less => other_negative,
+            Ordering::Equal => false,
+            Ordering::Greater => negative,
+        };
+        Decimal::new(negative, magnitude.abs_diff(other_magnitude), exponent)
+    }
+
+    // The magnitude as it is written at an exponent that isn't above the decimal's own.
+    fn magnitude_at(self, exponent: i32) -> Option<u128>
+        requires { exponent ≤ℤ self.exponent }
+        ensures { let magnitude = self.magnitude * 10 ^ unsigned_abs (self.exponent -ℤ exponent) in
+            SomeIff result (magnitude < 2 ^ 128) magnitude }
+    {
+        if self.magnitude.get() == 0 {
+            return Some(0);
+        }
+        let power = 10u128.checked_pow(self.exponent.abs_diff(exponent))?;
+        self.magnitude.get().checked_mul(power)
     }
 
     /// Whether both agree in sign, magnitude and exponent.
