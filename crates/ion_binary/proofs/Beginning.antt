@@ -22,13 +22,13 @@ use Rattle.ion_binary.specs.declared.state.Effect.TheVariants.{Goes, Gives}
 use Rattle.ion_binary.specs.declared.walking.BinaryWalk.{BinaryWalk}
 use Rattle.ion_binary.specs.declared.walking.Container.{Container}
 use Rattle.ion_binary.specs.declared.walking.Container.TheVariants as containers
-use Rattle.ion_binary.specs.declared.walking.tables.TableFilter.{TableFilter}
+use Rattle.ion_visiting.specs.declared.table_filter.TableFilter.{TableFilter}
 use Rattle.ion_binary.specs.declared.form.Scalar.{Scalar}
 use Rattle.ion_binary.specs.Judge.{judge}
 use Rattle.ion_binary.specs.machine.EachOctet.{Setting, Spot, Outcome, goes, gives, refuses, at, deliver, proceed, judged, anew, on_marker}
-use Rattle.ion_binary.specs.walking.Tables.{Hears, WasTold, heard}
+use Rattle.ion_visiting.specs.Tables.{Hears, WasTold, heard}
 use Rattle.ion_binary.specs.walking.Holds.{AreAround, AreOpen, Does, DoesAlone, HoldsNoWrapper, Holds, IsBehind, IsInside, IsNamedBy, IsPart, IsTop, Name, container_of, containers_of, is_named, machine_of, name_of, open_containers, setting_of, spot_of, told, told_in}
-use Rattle.ion_binary.proofs.Filters.{hears_none, hears_both}
+use Rattle.ion_visiting.specs.laws.Filters.{hears_none, hears_both}
 use Rattle.ion_binary.proofs.Tellings.{name_told, part_told, does_more}
 use Rattle.ion_binary.proofs.Ending.{does_same, bare_in, is_at}
 

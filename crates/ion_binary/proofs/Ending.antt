@@ -23,13 +23,13 @@ use Rattle.ion_binary.specs.declared.state.Effect.TheVariants.{Goes, Gives}
 use Rattle.ion_binary.specs.declared.walking.BinaryWalk.{BinaryWalk}
 use Rattle.ion_binary.specs.declared.walking.Container.{Container}
 use Rattle.ion_binary.specs.declared.walking.Container.TheVariants as containers
-use Rattle.ion_binary.specs.declared.walking.tables.TableFilter.{TableFilter}
+use Rattle.ion_visiting.specs.declared.table_filter.TableFilter.{TableFilter}
 use Rattle.ion_binary.specs.Grammar.{listed}
 use Rattle.ion_binary.specs.visiting.Brackets.{bracket_of}
 use Rattle.ion_binary.specs.machine.EachOctet.{Setting, Spot, Outcome, goes, gives, refuses, at, deliver, proceed}
-use Rattle.ion_binary.specs.walking.Tables.{Hears, WasTold, heard}
+use Rattle.ion_visiting.specs.Tables.{Hears, WasTold, heard}
 use Rattle.ion_binary.specs.walking.Holds.{AreAround, AreOpen, Closes, Does, DoesAlone, EndedIn, HoldsNoWrapper, Holds, IsBareIn, IsBehind, IsInside, IsNamedBy, IsPart, WentOn, container_of, containers_of, is_named, machine_of, name_of, open_containers, setting_of, spot_of, told, told_in}
-use Rattle.ion_binary.proofs.Filters.{hears_none, hears_both}
+use Rattle.ion_visiting.specs.laws.Filters.{hears_none, hears_both}
 use Rattle.ion_binary.proofs.Tellings.{item_told, field_told, wrapped_told, items_told, fields_told, name_told, part_told, does_more, does_behind, closes_more}
 
 -- 1. The same with other words for what comes.

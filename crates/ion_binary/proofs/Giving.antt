@@ -11,11 +11,11 @@ use Rattle.ion_visiting.specs.Events.{Event, events_of}
 use Rattle.ion_binary.specs.declared.state.Phase.TheVariants.{Ready}
 use Rattle.ion_binary.specs.declared.state.Effect.TheVariants.{Goes, Gives}
 use Rattle.ion_binary.specs.declared.walking.BinaryWalk.{BinaryWalk}
-use Rattle.ion_binary.specs.declared.walking.tables.Table.TheVariants as tables
+use Rattle.ion_visiting.specs.declared.table_filter.Table.TheVariants as tables
 use Rattle.ion_binary.specs.machine.EachOctet.{Setting, Spot, Outcome, goes, gives, refuses, anew, at, deliver, turned}
-use Rattle.ion_binary.specs.walking.Tables.{WasTold, heard, heard_by, table_by, table_of}
+use Rattle.ion_visiting.specs.Tables.{WasTold, heard, heard_by, table_by, table_of}
 use Rattle.ion_binary.specs.walking.Holds.{DoesAlone, Holds, IsInside, machine_of, open_containers, setting_of, spot_of}
-use Rattle.ion_binary.proofs.Filters.{table_told}
+use Rattle.ion_visiting.specs.laws.Filters.{table_told}
 
 none_of : (b : Bool) (v : Value) → None ≡ (if b then Some v else None) → b ≡ false
 none_of false v h = refl

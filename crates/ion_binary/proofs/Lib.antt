@@ -27,7 +27,6 @@ pub mod Reorderings
 pub mod Calls
 mod Told
 mod BinaryTold
-pub mod Filters
 pub mod Tellings
 pub mod Ending
 pub mod Giving

@@ -24,9 +24,9 @@ use Rattle.ion_binary.specs.declared.walking.BinaryWalk.{BinaryWalk}
 use Rattle.ion_binary.specs.Grammar.{listed}
 use Rattle.ion_binary.specs.visiting.Brackets.{bracket_of}
 use Rattle.ion_binary.specs.machine.EachOctet.{Outcome}
-use Rattle.ion_binary.specs.walking.Tables.{Hears, WasTold, heard}
+use Rattle.ion_visiting.specs.Tables.{Hears, WasTold, heard}
 use Rattle.ion_binary.specs.walking.Holds.{told, told_in, Does, DoesAlone, Closes, EndedIn, WentOn, GaveOut}
-use Rattle.ion_binary.proofs.Filters.{hears_none, hears_both}
+use Rattle.ion_visiting.specs.laws.Filters.{hears_none, hears_both}
 
 -- 1. Events.
 

@@ -1,3 +1,2 @@
 -- The reader that holds no values.
-pub mod Tables
 pub mod Holds

@@ -6,16 +6,15 @@ ghost use Rattle.ion_model.specs.Measures.{bare};
 ghost use Rattle.ion_binary.specs.declared.state.Frame.{Frame as AnyFrame};
 ghost use Rattle.ion_binary.specs.machine.EachOctet.{deliver, feed, marks, on_descriptor, on_marker, one_octet};
 ghost use Rattle.ion_binary.specs.machine.Views.{is_in_body};
-ghost use Rattle.ion_binary.specs.walking.Tables.{Hears, WasTold, heard};
+ghost use Rattle.ion_visiting.specs.Tables.{Hears, WasTold, heard};
 ghost use Rattle.ion_binary.specs.walking.Holds.{AreAround, Does, DoesAlone, Holds, IsTop, SameSetting, setting_of, spot_of, told, told_in};
 
 use crate::form::{Form, Listing, Opening, opening_of};
 use crate::state::{Effect, Mark, Phase};
-use crate::walking::tables::TableFilter;
 use ion_model::{Reason, Refusal};
 use ion_scalar::Size;
 use ion_symtab::{Catalog, Context, Limits};
-use ion_visiting::{Part, Visitor};
+use ion_visiting::{Part, TableFilter, Visitor};
 use std::fmt::{self, Debug, Formatter};
 
 mod advance;
@@ -24,7 +23,6 @@ mod bounds;
 mod containers;
 mod numbers;
 mod scalars;
-mod tables;
 
 pub use advance::Walked;
 

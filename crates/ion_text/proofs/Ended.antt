@@ -21,12 +21,12 @@ use Rattle.ion_text.specs.declared.state.Now.TheVariants as nows
 use Rattle.ion_text.specs.declared.state.Effect.{Effect as Turned}
 use Rattle.ion_text.specs.declared.state.Effect.TheVariants.{Goes, Gives, Late}
 use Rattle.ion_text.specs.declared.walk.TextWalk.{TextWalk}
-use Rattle.ion_text.specs.declared.walk.tables.TableFilter.{TableFilter}
+use Rattle.ion_visiting.specs.declared.table_filter.TableFilter.{TableFilter}
 use Rattle.ion_text.specs.machine.Run.{is_top}
 use Rattle.ion_text.specs.machine.EachToken.{Setting, Spot, Symbols, Turn, goes, gives, refuses, at, ended, fresh, turned, within, on_comma, named}
-use Rattle.ion_text.specs.declared.walk.tables.Table.TheVariants as tables
-use Rattle.ion_text.specs.walk.Tables.{WasTold, Hears, heard, heard_by, table_by, table_of}
-use Rattle.ion_text.proofs.Filters.{table_told}
+use Rattle.ion_visiting.specs.declared.table_filter.Table.TheVariants as tables
+use Rattle.ion_visiting.specs.Tables.{WasTold, Hears, heard, heard_by, table_by, table_of}
+use Rattle.ion_visiting.specs.laws.Filters.{table_told}
 use Rattle.ion_text.specs.walk.Holds.{AreAround, AreOpen, Does, DoesAlone, Holds, IsShape, behind_value, bracket_of, brackets_of, calm, has_notes, is_inside, open_brackets, reading_of, setting_of, spot_of, told, told_in}
 use Rattle.ion_text.proofs.Holding.{part_told, item_told, field_told}
 use Rattle.ion_text.proofs.Taking.{does_behind}

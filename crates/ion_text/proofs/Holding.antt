@@ -28,7 +28,7 @@ use Rattle.ion_text.specs.declared.state.Now.TheVariants as nows
 use Rattle.ion_text.specs.declared.state.Effect.{Effect as Turned}
 use Rattle.ion_text.specs.declared.state.Effect.TheVariants.{Goes, Gives, Late}
 use Rattle.ion_text.specs.machine.EachToken.{Symbols, opened}
-use Rattle.ion_text.specs.walk.Tables.{WasTold, Hears, heard}
+use Rattle.ion_visiting.specs.Tables.{WasTold, Hears, heard}
 use Rattle.ion_text.specs.walk.Holds.{told, told_in, bracket_for}
 
 -- a part is told as one event

@@ -42,9 +42,9 @@ use Rattle.ion_text.specs.machine.Pieces.{drive, go_on, led, Quiet}
 use Rattle.ion_text.specs.machine.Run.{State, Effect, eats, is_top, leaves, on_said, on_scan, on_settled, behind_left, run, takes as takes_up, token_of, unsettled, with_scan}
 use Rattle.ion_text.specs.walk.Holds.{Does, Holds, SameSetting, reading_of, state_of, told}
 use Rattle.ion_text.specs.walk.Strides.{Ahead, Ended, EndsBy, EndsSo, Strode, TookSo, resting_at}
-use Rattle.ion_text.specs.walk.Tables.{heard}
+use Rattle.ion_visiting.specs.Tables.{heard}
 use Rattle.ion_text.proofs.Strides.{front_same, settings_none, strides_there, strode_none, strode_on, take_short, with_moved}
-use Rattle.ion_text.proofs.Filters.{hears_both}
+use Rattle.ion_visiting.specs.laws.Filters.{hears_both}
 use Rattle.ion_text.proofs.Arms.{blank_used, given_found, left_found, mark_says}
 use Rattle.ion_text.proofs.Nested.{close_found, closing}
 use Rattle.ion_text.proofs.Passing.{NoticesNothing, blank_quiet, blank_waits}

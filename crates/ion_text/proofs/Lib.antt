@@ -35,7 +35,6 @@ pub mod Built
 mod Wrote
 pub mod Calls
 pub mod QuotedRuns
-pub mod Filters
 pub mod Holding
 pub mod Taking
 pub mod Ended

@@ -19,10 +19,10 @@ use Rattle.ion_text.specs.declared.state.Now.TheVariants as nows
 use Rattle.ion_text.specs.declared.state.Effect.{Effect as Turned}
 use Rattle.ion_text.specs.declared.state.Effect.TheVariants.{Goes, Gives, Late}
 use Rattle.ion_text.specs.declared.walk.TextWalk.{TextWalk}
-use Rattle.ion_text.specs.declared.walk.tables.TableFilter.{TableFilter}
+use Rattle.ion_visiting.specs.declared.table_filter.TableFilter.{TableFilter}
 use Rattle.ion_text.specs.machine.EachToken.{Setting, Spot, Reading, Symbols, Turn, first_now, goes, refuses, late, at, ended, opened, opening, deeper, beyond_depth, closed, on_comma, named, unexpected}
 use Rattle.ion_symtab.specs.Slots.{Slot}
-use Rattle.ion_text.specs.walk.Tables.{WasTold, Hears, Tells, heard, is_fields}
+use Rattle.ion_visiting.specs.Tables.{WasTold, Hears, Tells, heard, is_fields}
 use Rattle.ion_text.specs.walk.Holds.{AreAround, AreOpen, Does, DoesAlone, Enters, Holds, IsShape, MayClose, WentOn, bracket_of, brackets_of, behind_comma, calm, closes_in, has_notes, is_same, open_brackets, reading_of, setting_of, spot_of, told, told_in}
 use Rattle.ion_text.proofs.Holding.{note_told, open_told, list_told, sexp_told, fields_told, name_told}
 use Rattle.ion_text.proofs.Taking.{does_behind}

@@ -51,11 +51,11 @@ use Rattle.ion_text.specs.machine.Walked.{behind_note, FoundNote}
 use Rattle.ion_text.specs.machine.Nested.{close_mark, close_octet, closes, open_mark, OpensAt}
 use Rattle.ion_text.specs.machine.Run.{State, is_top, token_of, with_scan}
 use Rattle.ion_text.specs.machine.Views.{IsCalm}
-use Rattle.ion_text.specs.walk.Tables.{Hears, heard}
+use Rattle.ion_visiting.specs.Tables.{Hears, heard}
 use Rattle.ion_text.specs.walk.Holds.{AreAround, AreOpen, Does, DoesAlone, Holds, SameSetting, WentOn, bracket_of, brackets_of, calm, open_brackets, reading_of, told}
 use Rattle.ion_text.specs.walk.Strides.{Ahead, resting_at, Strides, Strode, StrodeFrom, StridesBy}
 use Rattle.ion_text.proofs.Arms.{StaysIn, after_turns, blank_used, comma_stays, ended_stays, mark_says, named_stays, ready_turns, went}
-use Rattle.ion_text.proofs.Filters.{hears_both, hears_none}
+use Rattle.ion_visiting.specs.laws.Filters.{hears_both, hears_none}
 use Rattle.ion_text.proofs.Taking.{does_alone}
 use Rattle.ion_text.proofs.Nested.{close_found, close_stays, closing, is_open_left, open_found, opened_stays}
 use Rattle.ion_text.proofs.Passing.{inner_notices, passes_blank, passes_none, passes_on}

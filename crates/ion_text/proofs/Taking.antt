@@ -26,10 +26,10 @@ use Rattle.ion_tokens.specs.declared.scanner.Scanner.{Scanner}
 use Rattle.ion_tokens.specs.declared.token.Token.{Token as Found}
 use Rattle.ion_tokens.specs.machine.Steps.{Stepped, Answers}
 use Rattle.ion_text.proofs.Meetings.{no_token, given_token, left_token, on_given, on_left}
-use Rattle.ion_text.specs.walk.Tables.{Hears, heard}
+use Rattle.ion_visiting.specs.Tables.{Hears, heard}
 use Rattle.ion_text.specs.walk.Holds.{Does, DoesAlone, Holds, WentOn, GaveOut, SameSetting, told, reading_of, state_of}
 use Rattle.ion_text.specs.walk.Takes.{DidTake, DidMeet, MeetsWith, IsMet}
-use Rattle.ion_text.proofs.Filters.{hears_none, hears_both}
+use Rattle.ion_visiting.specs.laws.Filters.{hears_none, hears_both}
 use Rattle.ion_text.proofs.Octets.{least, one_octet, same_scan, same_takes, goes_on_takes, settles}
 
 module _ {V : Type 0} (leads : V → Event → V → Type 0) where

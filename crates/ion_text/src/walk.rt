@@ -12,16 +12,15 @@ ghost use Rattle.ion_text.specs.declared.state.Frame.{Frame};
 ghost use Rattle.ion_text.specs.declared.state.Now.TheVariants as nows;
 ghost use Rattle.ion_text.specs.machine.EachToken.{Symbols, place, begun_at, ended};
 ghost use Rattle.ion_text.specs.machine.Run.{is_top};
-ghost use Rattle.ion_text.specs.walk.Tables.{WasTold};
+ghost use Rattle.ion_visiting.specs.Tables.{WasTold};
 ghost use Rattle.ion_text.specs.walk.Holds.{AreAround, Does, DoesAlone, Holds, SameSetting, behind_value, brackets_of, calm, is_inside, open_brackets, reading_of, setting_of, spot_of, told, told_in};
 
 use crate::state::{Effect, Now};
-use crate::walk::tables::TableFilter;
 use ion_model::{Reason, Refusal, Symbol, Value};
 use ion_scalar::Number;
 use ion_symtab::{Catalog, Context, Limits};
 use ion_tokens::{Place, Scanner};
-use ion_visiting::{Bracket, Part, RecentSymbols, Visitor};
+use ion_visiting::{Bracket, Part, RecentSymbols, TableFilter, Visitor};
 use std::alloc::Global;
 use std::fmt::{self, Debug, Formatter};
 use std::mem;
@@ -32,7 +31,6 @@ mod octets;
 mod on_token;
 mod settling;
 mod stride;
-mod tables;
 
 /// A reader of a text document that comes in pieces (Ion 1.0, "Ion Text Encoding"). It tells a
 /// visitor the values event by event, and holds none of them.

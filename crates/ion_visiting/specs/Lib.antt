@@ -4,6 +4,7 @@ pub mod Events
 pub mod Count
 pub mod Outlining
 pub mod Building
+pub mod Tables
 pub mod Tapes
 pub mod Following
 pub mod laws

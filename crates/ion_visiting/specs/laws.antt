@@ -3,3 +3,4 @@ pub mod Led
 pub mod Built
 pub mod Counted
 pub mod Outlined
+pub mod Filters

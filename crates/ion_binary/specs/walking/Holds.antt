@@ -21,13 +21,13 @@ use Rattle.ion_binary.specs.declared.state.Phase.TheVariants.{InMarker, Ready, I
 use Rattle.ion_binary.specs.declared.state.Effect.{Effect}
 use Rattle.ion_binary.specs.declared.state.Effect.TheVariants.{Goes, Gives}
 use Rattle.ion_binary.specs.declared.walking.BinaryWalk.{BinaryWalk}
-use Rattle.ion_binary.specs.declared.walking.tables.TableFilter.{TableFilter}
+use Rattle.ion_visiting.specs.declared.table_filter.TableFilter.{TableFilter}
 use Rattle.ion_binary.specs.declared.walking.Container.{Container}
 use Rattle.ion_binary.specs.declared.walking.Container.TheVariants as containers
 use Rattle.ion_binary.specs.visiting.Brackets.{bracket_of}
 use Rattle.ion_binary.specs.machine.EachOctet.{Setting, Spot, under, spot_at, Machine, Outcome, goes, gives, refuses, deliver}
 use Rattle.ion_binary.specs.machine.Views.{body_so_far}
-use Rattle.ion_binary.specs.walking.Tables.{WasTold, Hears, Tells, heard}
+use Rattle.ion_visiting.specs.Tables.{WasTold, Hears, Tells, heard}
 
 -- what a field's id stands for, or why it is none
 abbrev pub Name : Type 0

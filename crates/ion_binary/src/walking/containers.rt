@@ -11,7 +11,7 @@ ghost use Rattle.ion_binary.specs.declared.state.Frame.TheVariants as frames;
 ghost use Rattle.ion_binary.specs.declared.state.Effect.TheVariants as effects;
 ghost use Rattle.ion_binary.specs.declared.state.Phase.TheVariants as phases;
 ghost use Rattle.ion_binary.specs.machine.EachOctet.{Outcome, deliver, proceed};
-ghost use Rattle.ion_binary.specs.walking.Tables.{WasTold};
+ghost use Rattle.ion_visiting.specs.Tables.{WasTold};
 ghost use Rattle.ion_binary.specs.walking.Holds.{AreAround, Closes, Does, DoesAlone, Holds, IsBareIn, IsBehind, SameSetting, container_of, containers_of, open_containers, setting_of, spot_of, told, told_in};
 
 use super::{BinaryWalk, Container, heard};

@@ -10,12 +10,11 @@ ghost use Rattle.ion_binary.specs.declared.form.Scalar.TheVariants as scalars;
 ghost use Rattle.ion_binary.specs.walking.Holds.{IsNumber, TellsAs};
 
 use super::heard;
-use super::tables::TableFilter;
 use crate::form::Scalar;
 use ion_model::{Reason, Symbol, Whole};
 use ion_scalar::{Number, decimal_of, timestamp_of, uint_of};
 use ion_symtab::Context;
-use ion_visiting::{Part, Visitor};
+use ion_visiting::{Part, TableFilter, Visitor};
 
 /// Tells the scalar that a body is (Ion 1.0, "Ion Binary Encoding", typed value formats).
 ///

@@ -20,7 +20,7 @@ use Rattle.ion_text.specs.declared.state.Effect.TheVariants.{Goes, Gives, Late}
 use Rattle.ion_text.specs.declared.walk.TextWalk.{TextWalk}
 use Rattle.ion_text.specs.machine.EachToken.{Setting, Spot, under, spot_at, Reading, Symbols, Turn, goes, gives, refuses, late, at, opened, first_now}
 use Rattle.ion_text.specs.machine.Run.{State}
-use Rattle.ion_text.specs.walk.Tables.{WasTold, Hears, heard}
+use Rattle.ion_visiting.specs.Tables.{WasTold, Hears, heard}
 
 -- the brackets of containers
 

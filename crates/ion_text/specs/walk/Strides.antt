@@ -15,7 +15,7 @@ use Rattle.ion_text.specs.machine.AtOnce.{Passes, IsStill}
 use Rattle.ion_text.specs.machine.EachToken.{Symbols, begun_at}
 use Rattle.ion_text.specs.machine.Pieces.{led}
 use Rattle.ion_text.specs.machine.Run.{State, eats, leaves, run, with_scan}
-use Rattle.ion_text.specs.walk.Tables.{Hears, heard}
+use Rattle.ion_visiting.specs.Tables.{Hears, heard}
 use Rattle.ion_text.specs.walk.Holds.{GaveOut, Holds, SameSetting, reading_of, state_of, told}
 
 -- a scanner that rests there, before a reader with these containers and annotations

@@ -6,11 +6,10 @@ ghost use Rattle.ion_text.specs.declared.state.Now.TheVariants as nows;
 ghost use Rattle.ion_text.specs.machine.EachToken.{Symbols, first_now, opening, closed, on_comma, named};
 ghost use Rattle.ion_text.specs.walk.Holds.{Does, DoesAlone, Enters, Holds, MayClose, SameSetting, behind_comma, calm, closes_in, open_brackets, setting_of, spot_of, told};
 
-use super::tables::is_fields;
 use super::{TextWalk, heard};
 use crate::state::{Effect, Now};
 use ion_model::{Reason, Symbol};
-use ion_visiting::{Bracket, Visitor};
+use ion_visiting::{Bracket, Visitor, is_fields};
 
 // What may come behind what opens such a container.
 #[inline(always)]

@@ -11,7 +11,7 @@ use Rattle.ion_binary.specs.declared.walking.BinaryWalk.{BinaryWalk}
 use Rattle.ion_binary.specs.declared.walking.Container.TheVariants as containers
 use Rattle.ion_binary.specs.visiting.Brackets.{bracket_of}
 use Rattle.ion_binary.specs.machine.EachOctet.{at, goes, proceed, refuses}
-use Rattle.ion_binary.specs.walking.Tables.{Hears, WasTold, heard}
+use Rattle.ion_visiting.specs.Tables.{Hears, WasTold, heard}
 use Rattle.ion_binary.specs.walking.Holds.{open_containers, setting_of, spot_of}
 use Rattle.ion_binary.proofs.Beginning.{front_does, wrapper_does}
 use Rattle.ion_binary.proofs.Ending.{pushed}

@@ -1,7 +1,7 @@
 use Rattle.std.proofs.Common.{List, [], ◌∷◌, ◌++◌, refl, subst}
 use Rattle.ion_visiting.specs.declared.bracket.Bracket.{Bracket}
 use Rattle.ion_visiting.specs.Events.{Event, closes}
-use Rattle.ion_binary.specs.walking.Tables.{Hears, WasTold, heard}
+use Rattle.ion_visiting.specs.Tables.{Hears, WasTold, heard}
 use Rattle.ion_binary.specs.declared.state.Phase.TheVariants.{Ready}
 use Rattle.ion_binary.specs.declared.walking.Container.TheVariants as containers
 use Rattle.ion_binary.proofs.Ending.{items_go, items_end, is_at, isnt_at, pushed}

@@ -1,7 +1,7 @@
 use Rattle.std.proofs.Common.{reverse, refl, ap, sym, subst, ◌∙◌}
 use Rattle.ion_visiting.specs.Events.{opens}
 use Rattle.ion_text.specs.declared.walk.TextWalk.{TextWalk}
-use Rattle.ion_text.specs.walk.Tables.{Tells}
+use Rattle.ion_visiting.specs.Tables.{Tells}
 use Rattle.ion_text.proofs.Opened.{entered}
 use Rattle.ion_text.proofs.walk.TextWalk.enter.Goals as goal
 

@@ -1,7 +1,7 @@
 use Rattle.std.proofs.Common.{[], ◌∷◌, ◌++◌, None, refl, ap, sym, subst}
 use Rattle.ion_atoms.specs.declared.refusal.Reason.TheVariants as reasons
 use Rattle.ion_visiting.specs.Events.{annotation}
-use Rattle.ion_text.specs.walk.Tables.{Tells}
+use Rattle.ion_visiting.specs.Tables.{Tells}
 use Rattle.ion_text.specs.machine.EachToken.{at, late}
 use Rattle.ion_text.proofs.Opened.{notes_went}
 use Rattle.ion_text.proofs.walk.TextWalk.note_keyword.Goals as goal

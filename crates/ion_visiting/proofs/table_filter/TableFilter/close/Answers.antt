@@ -1,0 +1,14 @@
+use Rattle.std.proofs.Common.{refl, sym, ◌∙◌}
+use Rattle.ion_visiting.specs.Events.{closes}
+use Rattle.ion_visiting.specs.laws.Filters.{table_tells, visitor_tells}
+use Rattle.ion_visiting.proofs.table_filter.TableFilter.close.Goals as goal
+
+pub returns-then-enter_table : goal.returns-then-enter_table
+returns-then-enter_table g c = λ is.
+    table_tells g.V.Visitor.takes (closes c.args.bracket) c.args.self.now c.enter_table.new.self _ c.args.visitor.now tt
+    (sym c.is_table.ensures ∙ c.if-is_table.true) (c.enter_table.ensures c.if-enter_table.true) refl refl (c.close.ensures is)
+
+pub returns-then-let_pass : goal.returns-then-let_pass
+returns-then-let_pass g c = λ is.
+    visitor_tells g.V.Visitor.takes (closes c.args.bracket) c.args.self.now c.let_pass.new.self c.args.visitor.now c.let_pass.new.visitor _ tt
+    (sym c.is_table.ensures ∙ c.if-is_table.false) (c.let_pass.ensures c.if-let_pass.true) (c.close-then-let_pass.ensures is)

@@ -1,0 +1,412 @@
+-- What a filter of local symbol tables was told, and what a visitor heard.
+use Rattle.std.proofs.Common.{◌≡◌, ℕ, ◌+◌, ◌<◌, length, take, get_or, List, [], ◌∷◌, ◌++◌, map, Bool, true, false, Option, Some, None, refl, ap, sym, subst, ◌∙◌}
+use Rattle.std.specs.Prelude.{◌&&◌, if◌then◌else◌}
+use Rattle.std.specs.List.{flat_map}
+use Rattle.std.proofs.lemmas.List.{append-nil, append_assoc, map-append, take_more}
+use Rattle.ion_atoms.specs.declared.kind.Kind.{Kind}
+use Rattle.ion_atoms.specs.declared.kind.Kind.TheVariants as kinds
+use Rattle.ion_model.specs.declared.value.Value.{Value}
+use Rattle.ion_model.specs.declared.value.Payload.{Payload}
+use Rattle.ion_model.specs.declared.value.Payload.TheVariants as payloads
+use Rattle.ion_model.specs.declared.value.Payload.TheOpen.{Payload-F}
+use Rattle.ion_model.specs.declared.value.Payload.TheViews.{out-Payload}
+use Rattle.ion_model.specs.Measures.{Layer}
+use Rattle.ion_model.specs.Kinds.{names_table, is_fields, layer_kind, is_table_of, is_table}
+use Rattle.ion_scalar.specs.declared.number.Number.{Number}
+use Rattle.ion_scalar.specs.declared.number.Number.TheVariants as numbers
+use Rattle.ion_visiting.specs.declared.bracket.Bracket.{Bracket}
+use Rattle.ion_visiting.specs.declared.bracket.Bracket.TheVariants as brackets
+use Rattle.ion_visiting.specs.declared.building.Open.TheVariants as places
+use Rattle.ion_visiting.specs.Building.{Built, builds, fresh, value_in, without_value}
+use Rattle.ion_visiting.specs.Events.{Event, part, annotation, name, opens, closes, ended, within, events_of, field_events, layer_events, Led}
+use Rattle.ion_visiting.specs.Parts.{number_payload}
+use Rattle.ion_visiting.specs.laws.Led.{led_both, led_more, events_out}
+use Rattle.ion_visiting.specs.laws.Built.{value_built}
+use Rattle.ion_visiting.specs.declared.table_filter.Table.{Table}
+use Rattle.ion_visiting.specs.declared.table_filter.Table.TheVariants as tables
+use Rattle.ion_visiting.specs.declared.table_filter.TableFilter.{TableFilter}
+use Rattle.ion_visiting.specs.Tables.{Symbols, table_behind, table_after, is_of_table, begins_struct, table_by, heard_by, heard, AreKept, WasTold, Hears, IsTable, LetsPass, is_null_struct, table_of}
+
+-- 1. What is known behind events.
+
+pub after_append : (t : Table) (es fs : List Event) → table_after t (es ++ fs) ≡ table_after (table_after t es) fs
+after_append t [] fs = refl
+after_append t (e ∷ es) fs = after_append (table_behind t e) es fs
+
+pub by_more : (es : List Event) (e : Event) → table_by (es ++ e ∷ []) ≡ table_behind (table_by es) e
+by_more es e = after_append tables.Unknown es (e ∷ [])
+
+behind_no : (e : Event) → table_behind tables.No e ≡ tables.No
+behind_no (part p) = refl
+behind_no (annotation s) = refl
+behind_no (name s) = refl
+behind_no (opens x) = refl
+behind_no (closes x) = refl
+behind_no ended = refl
+
+behind_yes : (e : Event) → table_behind tables.Yes e ≡ tables.Yes
+behind_yes (part p) = refl
+behind_yes (annotation s) = refl
+behind_yes (name s) = refl
+behind_yes (opens x) = refl
+behind_yes (closes x) = refl
+behind_yes ended = refl
+
+after_no : (es : List Event) → table_after tables.No es ≡ tables.No
+after_no [] = refl
+after_no (e ∷ es) = ap (λ t. table_after t es) (behind_no e) ∙ after_no es
+
+after_yes : (es : List Event) → table_after tables.Yes es ≡ tables.Yes
+after_yes [] = refl
+after_yes (e ∷ es) = ap (λ t. table_after t es) (behind_yes e) ∙ after_yes es
+
+after_notes : (ss : Symbols) → table_after tables.Noted (map annotation ss) ≡ tables.Noted
+after_notes [] = refl
+after_notes (s ∷ ss) = after_notes ss
+
+-- behind one event of a payload
+if_fields : (k : Kind) → table_behind tables.Noted (part (payloads.Null k)) ≡ (if is_fields k then tables.Yes else tables.No)
+if_fields kinds.Null = refl
+if_fields kinds.Bool = refl
+if_fields kinds.Int = refl
+if_fields kinds.Float = refl
+if_fields kinds.Decimal = refl
+if_fields kinds.Timestamp = refl
+if_fields kinds.Symbol = refl
+if_fields kinds.Str = refl
+if_fields kinds.Clob = refl
+if_fields kinds.Blob = refl
+if_fields kinds.List = refl
+if_fields kinds.Sexp = refl
+if_fields kinds.Fields = refl
+
+noted_layer : (d : Layer) → table_after tables.Noted (layer_events d) ≡ (if is_fields (layer_kind d) then tables.Yes else tables.No)
+noted_layer (Payload-F.Null k) = if_fields k
+noted_layer (Payload-F.Truth b) = refl
+noted_layer (Payload-F.Int z) = refl
+noted_layer (Payload-F.Decimal d) = refl
+noted_layer (Payload-F.Timestamp t) = refl
+noted_layer (Payload-F.Symbol s) = refl
+noted_layer (Payload-F.Str w) = refl
+noted_layer (Payload-F.Clob w) = refl
+noted_layer (Payload-F.Blob w) = refl
+noted_layer (Payload-F.List vs) = after_no (flat_map events_of vs ++ closes brackets.List ∷ [])
+noted_layer (Payload-F.Sexp vs) = after_no (flat_map events_of vs ++ closes brackets.Sexp ∷ [])
+noted_layer (Payload-F.Fields fs) = after_yes (flat_map field_events fs ++ closes brackets.Fields ∷ [])
+
+unknown_layer : (d : Layer) → table_after tables.Unknown (layer_events d) ≡ tables.No
+unknown_layer (Payload-F.Null k) = refl
+unknown_layer (Payload-F.Truth b) = refl
+unknown_layer (Payload-F.Int z) = refl
+unknown_layer (Payload-F.Decimal d) = refl
+unknown_layer (Payload-F.Timestamp t) = refl
+unknown_layer (Payload-F.Symbol s) = refl
+unknown_layer (Payload-F.Str w) = refl
+unknown_layer (Payload-F.Clob w) = refl
+unknown_layer (Payload-F.Blob w) = refl
+unknown_layer (Payload-F.List vs) = after_no (flat_map events_of vs ++ closes brackets.List ∷ [])
+unknown_layer (Payload-F.Sexp vs) = after_no (flat_map events_of vs ++ closes brackets.Sexp ∷ [])
+unknown_layer (Payload-F.Fields fs) = after_no (flat_map field_events fs ++ closes brackets.Fields ∷ [])
+
+-- a table, or none, by the first annotation
+abbrev by_first : Bool → Bool → Table
+by_first names fields = if names && fields then tables.Yes else tables.No
+
+first_told : (names : Bool) (ss : Symbols) (d : Layer)
+    → table_after (if names then tables.Noted else tables.No) (map annotation ss ++ layer_events d) ≡ by_first names (is_fields (layer_kind d))
+first_told true ss d =
+    after_append tables.Noted (map annotation ss) (layer_events d) ∙ (ap (λ t. table_after t (layer_events d)) (after_notes ss) ∙ noted_layer d)
+first_told false ss d = after_no (map annotation ss ++ layer_events d)
+
+layers_told : (ss : Symbols) (d : Layer)
+    → table_by (map annotation ss ++ layer_events d) ≡ (if is_table_of ss (layer_kind d) then tables.Yes else tables.No)
+layers_told [] d = unknown_layer d
+layers_told (s ∷ ss) d = first_told (names_table s) ss d
+
+-- the events of a value tell whether it is a table
+pub table_told : (v : Value) → table_by (events_of v) ≡ (if is_table v then tables.Yes else tables.No)
+table_told v = ap table_by (events_out v) ∙ layers_told v.annotations (out-Payload v.payload)
+
+yes_where : (b : Bool) → tables.Yes ≡ (if b then tables.Yes else tables.No) → b ≡ true
+yes_where true e = refl
+yes_where false e = absurd cc
+
+no_where : (b : Bool) → tables.No ≡ (if b then tables.Yes else tables.No) → b ≡ false
+no_where true e = absurd cc
+no_where false e = refl
+
+unknown_nowhere : (b : Bool) → tables.Unknown ≡ (if b then tables.Yes else tables.No) → ⊥
+unknown_nowhere true e = absurd cc
+unknown_nowhere false e = absurd cc
+
+noted_nowhere : (b : Bool) → tables.Noted ≡ (if b then tables.Yes else tables.No) → ⊥
+noted_nowhere true e = absurd cc
+noted_nowhere false e = absurd cc
+
+pub of_yes : (t : Table) (b : Bool) → is_of_table t b ≡ true → is_of_table t true ≡ true
+of_yes tables.Yes b h = refl
+of_yes tables.Noted b h = refl
+of_yes tables.Unknown b h = absurd cc
+of_yes tables.No b h = absurd cc
+
+pub of_no : (t : Table) (b : Bool) → is_of_table t b ≡ false → is_of_table t false ≡ false
+of_no tables.Yes b h = absurd cc
+of_no tables.Noted b h = refl
+of_no tables.Unknown b h = refl
+of_no tables.No b h = refl
+
+-- a number is no null
+pub number_null : (n : Number) → is_null_struct (number_payload n) ≡ false
+number_null (numbers.Int z) = refl
+number_null (numbers.Decimal d) = refl
+number_null (numbers.Timestamp t) = refl
+
+-- an event that is no annotation
+abbrev pub IsOther : Event → Type 0
+IsOther (annotation s) = ⊥
+IsOther _ = Unit {0}
+
+behind_other : (t : Table) (e : Event) → IsOther e → table_behind t e ≡ (if is_of_table t (begins_struct e) then tables.Yes else tables.No)
+behind_other t (part p) h = refl
+behind_other t (annotation s) h = absurd h
+behind_other t (name s) h = refl
+behind_other t (opens x) h = refl
+behind_other t (closes x) h = refl
+behind_other t ended h = refl
+
+-- 2. What a visitor heard.
+
+module _ {V : Type 0} (takes : V → Event → V → Type 0) where
+  pub hears_none : (es fs : List Event) (a : V) → fs ≡ es → Hears takes es fs a a
+  hears_none es fs a e = record { more = []; is = e ∙ sym (append-nil es); led = refl }
+
+  pub hears_one : (es : List Event) (e : Event) (a b : V) → takes a e b → Hears takes es (es ++ e ∷ []) a b
+  hears_one es e a b h = record { more = e ∷ []; is = refl; led = (b, h, refl) }
+
+  pub hears_both : (es fs gs : List Event) (a m b : V) → Hears takes es fs a m → Hears takes fs gs m b → Hears takes es gs a b
+  hears_both es fs gs a m b h k = record {
+    more = h.more ++ k.more;
+    is = k.is ∙ (ap (λ x. x ++ k.more) h.is ∙ append_assoc es h.more k.more);
+    led = led_both takes h.more k.more a m b h.led k.led;
+  }
+
+  -- 3. What a filter was told.
+
+  module _ (es : List Event) (e : Event) where
+    -- an event of a table is built
+    table_takes : (f g : TableFilter) (a : V) → IsTable f es → g.table ≡ tables.Yes → g.notes ≡ [] → table_behind (table_by es) e ≡ tables.Yes
+        → heard es ≡ [] → builds f.tables e g.tables → WasTold g (es ++ e ∷ []) × Hears takes (heard es) (heard (es ++ e ∷ [])) a a
+    table_takes f g a h table notes is none k =
+        let by = by_more es e ∙ is in (
+          record {
+            table = table ∙ sym by;
+            kept = subst (λ t. AreKept t (es ++ e ∷ []) g.notes g.tables) (sym table) (notes, led_more builds es e fresh f.tables g.tables h.built k);
+          },
+          hears_none (heard es) (heard (es ++ e ∷ [])) a (ap (λ t. heard_by t (es ++ e ∷ [])) by ∙ sym none),
+        )
+
+    -- what a visitor heard is told on
+    heard_on : (f : TableFilter) (a b : V) → LetsPass f → table_behind (table_by es) e ≡ tables.No → Hears takes (heard es) (es ++ e ∷ []) a b
+        → WasTold f (es ++ e ∷ []) × Hears takes (heard es) (heard (es ++ e ∷ [])) a b
+    heard_on f a b h is told =
+        let by = by_more es e ∙ is in (
+          record {
+            table = h.table ∙ sym by;
+            kept = subst (λ t. AreKept t (es ++ e ∷ []) f.notes f.tables) (sym h.table) (h.notes, h.tables);
+          },
+          subst (λ fs. Hears takes (heard es) fs a b) (sym (ap (λ t. heard_by t (es ++ e ∷ [])) by)) told,
+        )
+
+    behind_is : (f : TableFilter) (b : Bool) → IsOther e → WasTold f es → is_of_table f.table (begins_struct e) ≡ b
+        → table_behind (table_by es) e ≡ (if b then tables.Yes else tables.No)
+    behind_is f b other h test =
+        ap (λ t. table_behind t e) (sym h.table) ∙ (behind_other f.table e other ∙ ap (λ x. if x then tables.Yes else tables.No) test)
+
+  -- an event of a table, which is begun by it or before it
+  pub table_tells : (e : Event) (f mid g : TableFilter) (a : V) → IsOther e → is_of_table f.table (begins_struct e) ≡ true
+      → ((es : List Event) → WasTold f es → IsTable mid es × (heard es ≡ [])) → g.table ≡ mid.table → g.notes ≡ mid.notes
+      → builds mid.tables e g.tables
+      → (es : List Event) → WasTold f es → WasTold g (es ++ e ∷ []) × Hears takes (heard es) (heard (es ++ e ∷ [])) a a
+  table_tells e f mid g a other test enters table notes k es h =
+      let i = enters es h in
+      table_takes es e mid g a i.0 (table ∙ i.0.table) (notes ∙ i.0.notes) (behind_is es e f true other h test) i.1 k
+
+  -- an event of no table
+  pub visitor_tells : (e : Event) (f mid : TableFilter) (a m b : V) → IsOther e → is_of_table f.table (begins_struct e) ≡ false
+      → ((es : List Event) → WasTold f es → LetsPass mid × Hears takes (heard es) es a m) → takes m e b
+      → (es : List Event) → WasTold f es → WasTold mid (es ++ e ∷ []) × Hears takes (heard es) (heard (es ++ e ∷ [])) a b
+  visitor_tells e f mid a m b other test passes k es h =
+      let i = passes es h in
+      heard_on es e mid a b i.0 (behind_is es e f false other h test)
+      (hears_both (heard es) es (es ++ e ∷ []) a m b i.1 (hears_one es e m b k))
+
+  -- 4. Annotations.
+
+  -- what is told is no table
+  pub none_passes : (f : TableFilter) (a : V) → f.table ≡ tables.No → (es : List Event) → WasTold f es → LetsPass f × Hears takes (heard es) es a a
+  none_passes f a is es h =
+      let k = subst (λ t. AreKept t es f.notes f.tables) is h.kept in (
+        record { table = is; notes = k.0; tables = k.1 },
+        hears_none (heard es) es a (ap (λ t. heard_by t es) (sym is ∙ h.table)),
+      )
+
+  pub unknown_passes : (f g : TableFilter) (a : V) → f.table ≡ tables.Unknown → g.table ≡ tables.No → g.notes ≡ f.notes → g.tables ≡ f.tables
+      → (es : List Event) → WasTold f es → LetsPass g × Hears takes (heard es) es a a
+  unknown_passes f g a is table notes built es h =
+      let k = subst (λ t. AreKept t es f.notes f.tables) is h.kept in (
+        record { table = table; notes = notes ∙ k.1; tables = built ∙ k.2 },
+        hears_none (heard es) es a (k.0 ∙ sym (ap (λ t. heard_by t es) (sym h.table ∙ is))),
+      )
+
+  pub noted_passes : (f g : TableFilter) (ss : Symbols) (a b : V) → f.table ≡ tables.Noted → g.table ≡ tables.No → g.notes ≡ [] → g.tables ≡ f.tables
+      → ss ≡ f.notes → Led takes (map annotation ss) a b
+      → (es : List Event) → WasTold f es → LetsPass g × Hears takes (heard es) es a b
+  noted_passes f g ss a b is table notes built same led es h =
+      let k = subst (λ t. AreKept t es f.notes f.tables) is h.kept in
+      let none : heard es ≡ [] = ap (λ t. heard_by t es) (sym h.table ∙ is) in
+      let all : es ≡ map annotation ss = k.0 ∙ ap (map annotation) (sym same) in (
+        record { table = table; notes = notes; tables = built ∙ k.1 },
+        subst (λ fs. Hears takes fs es a b) (sym none) (record { more = map annotation ss; is = all; led = led }),
+      )
+
+  -- an annotation of what is no table is told on
+  pub note_passes : (s : Option (List ℕ)) (f mid : TableFilter) (a m b : V)
+      → ((es : List Event) → WasTold f es → LetsPass mid × Hears takes (heard es) es a m) → takes m (annotation s) b
+      → (es : List Event) → WasTold f es → LetsPass mid × Hears takes (heard es) (es ++ annotation s ∷ []) a b
+  note_passes s f mid a m b passes k es h =
+      let i = passes es h in
+      (i.0, hears_both (heard es) es (es ++ annotation s ∷ []) a m b i.1 (hears_one es (annotation s) m b k))
+
+  no_tells : (s : Option (List ℕ)) (f g : TableFilter) (a b : V) (t : Table) → f.table ≡ t → table_behind t (annotation s) ≡ tables.No
+      → ((es : List Event) → WasTold f es → LetsPass g × Hears takes (heard es) (es ++ annotation s ∷ []) a b)
+      → (es : List Event) → WasTold f es
+      → WasTold g (es ++ annotation s ∷ []) × Hears takes (heard es) (heard (es ++ annotation s ∷ [])) a b
+  no_tells s f g a b t is behind passes es h =
+      let i = passes es h in
+      heard_on es (annotation s) g a b i.0 (ap (λ t. table_behind t (annotation s)) (sym h.table ∙ is) ∙ behind) i.1
+
+  pub none_noted : (s : Option (List ℕ)) (f g : TableFilter) (a b : V) → f.table ≡ tables.No
+      → ((es : List Event) → WasTold f es → LetsPass g × Hears takes (heard es) (es ++ annotation s ∷ []) a b)
+      → (es : List Event) → WasTold f es
+      → WasTold g (es ++ annotation s ∷ []) × Hears takes (heard es) (heard (es ++ annotation s ∷ [])) a b
+  none_noted s f g a b is = no_tells s f g a b tables.No is refl
+
+  pub unknown_noted : (s : Option (List ℕ)) (f g : TableFilter) (a b : V) → f.table ≡ tables.Unknown → names_table s ≡ false
+      → ((es : List Event) → WasTold f es → LetsPass g × Hears takes (heard es) (es ++ annotation s ∷ []) a b)
+      → (es : List Event) → WasTold f es
+      → WasTold g (es ++ annotation s ∷ []) × Hears takes (heard es) (heard (es ++ annotation s ∷ [])) a b
+  unknown_noted s f g a b is names = no_tells s f g a b tables.Unknown is (ap (λ x. if x then tables.Noted else tables.No) names)
+
+  -- it is kept
+  kept_tells : (s : Option (List ℕ)) (es : List Event) (g : TableFilter) (a : V) → g.table ≡ tables.Noted
+      → table_by (es ++ annotation s ∷ []) ≡ tables.Noted → heard es ≡ [] → es ++ annotation s ∷ [] ≡ map annotation g.notes → g.tables ≡ fresh
+      → WasTold g (es ++ annotation s ∷ []) × Hears takes (heard es) (heard (es ++ annotation s ∷ [])) a a
+  kept_tells s es g a table by none notes built = (
+    record {
+      table = table ∙ sym by;
+      kept = subst (λ t. AreKept t (es ++ annotation s ∷ []) g.notes g.tables) (sym table) (notes, built);
+    },
+    hears_none (heard es) (heard (es ++ annotation s ∷ [])) a (ap (λ t. heard_by t (es ++ annotation s ∷ [])) by ∙ sym none),
+  )
+
+  pub first_kept : (s : Option (List ℕ)) (f g : TableFilter) (a : V) → f.table ≡ tables.Unknown → names_table s ≡ true → g.table ≡ tables.Noted
+      → g.notes ≡ f.notes ++ s ∷ [] → g.tables ≡ f.tables
+      → (es : List Event) → WasTold f es
+      → WasTold g (es ++ annotation s ∷ []) × Hears takes (heard es) (heard (es ++ annotation s ∷ [])) a a
+  first_kept s f g a is names table notes built es h =
+      let k = subst (λ t. AreKept t es f.notes f.tables) is h.kept in
+      let by = by_more es (annotation s) ∙ (ap (λ t. table_behind t (annotation s)) (sym h.table ∙ is)
+      ∙ ap (λ x. if x then tables.Noted else tables.No) names) in
+      kept_tells s es g a table by (ap (λ t. heard_by t es) (sym h.table ∙ is))
+      (ap (λ x. x ++ annotation s ∷ []) k.0 ∙ sym (ap (map annotation) (notes ∙ ap (λ x. x ++ s ∷ []) k.1))) (built ∙ k.2)
+
+  pub further_kept : (s : Option (List ℕ)) (f g : TableFilter) (a : V) → f.table ≡ tables.Noted → g.table ≡ f.table
+      → g.notes ≡ f.notes ++ s ∷ [] → g.tables ≡ f.tables
+      → (es : List Event) → WasTold f es
+      → WasTold g (es ++ annotation s ∷ []) × Hears takes (heard es) (heard (es ++ annotation s ∷ [])) a a
+  further_kept s f g a is table notes built es h =
+      let k = subst (λ t. AreKept t es f.notes f.tables) is h.kept in
+      let by = by_more es (annotation s) ∙ ap (λ t. table_behind t (annotation s)) (sym h.table ∙ is) in
+      kept_tells s es g a (table ∙ is) by (ap (λ t. heard_by t es) (sym h.table ∙ is))
+      (ap (λ x. x ++ annotation s ∷ []) k.0 ∙ (sym (map-append annotation f.notes (s ∷ [])) ∙ ap (map annotation) (sym notes))) (built ∙ k.1)
+
+  -- it is built, where a table is told
+  pub yes_noted : (s : Option (List ℕ)) (f g : TableFilter) (a : V) → f.table ≡ tables.Yes → g.table ≡ f.table → g.notes ≡ f.notes
+      → builds f.tables (annotation s) g.tables
+      → (es : List Event) → WasTold f es
+      → WasTold g (es ++ annotation s ∷ []) × Hears takes (heard es) (heard (es ++ annotation s ∷ [])) a a
+  yes_noted s f g a is table notes k es h =
+      let i = subst (λ t. AreKept t es f.notes f.tables) is h.kept in
+      table_takes es (annotation s) f g a (record { table = is; notes = i.0; built = i.1 }) (table ∙ is) (notes ∙ i.0)
+      (ap (λ t. table_behind t (annotation s)) (sym h.table ∙ is)) (ap (λ t. heard_by t es) (sym h.table ∙ is)) k
+
+-- 5. A table is entered.
+
+pub yes_enters : (f : TableFilter) → f.table ≡ tables.Yes → (es : List Event) → WasTold f es → IsTable f es × (heard es ≡ [])
+yes_enters f is es h =
+    let k = subst (λ t. AreKept t es f.notes f.tables) is h.kept in
+    (record { table = is; notes = k.0; built = k.1 }, ap (λ t. heard_by t es) (sym h.table ∙ is))
+
+pub noted_enters : (f g : TableFilter) (ss : Symbols) → f.table ≡ tables.Noted → g.table ≡ tables.Yes → g.notes ≡ [] → ss ≡ f.notes
+    → Led builds (map annotation ss) f.tables g.tables → (es : List Event) → WasTold f es → IsTable g es × (heard es ≡ [])
+noted_enters f g ss is table notes same led es h =
+    let k = subst (λ t. AreKept t es f.notes f.tables) is h.kept in
+    let all : map annotation ss ≡ es = ap (map annotation) same ∙ sym k.0 in (
+      record {
+        table = table;
+        notes = notes;
+        built = subst (λ b. Led builds es b g.tables) k.1 (subst (λ w. Led builds w f.tables g.tables) all led);
+      },
+      ap (λ t. heard_by t es) (sym h.table ∙ is),
+    )
+
+-- 6. The end of a value.
+
+module _ (v : Value) (f : TableFilter) (h : WasTold f (events_of v)) where
+  known : f.table ≡ (if is_table v then tables.Yes else tables.No)
+  known = h.table ∙ table_told v
+
+  pub yes_ends : (g : TableFilter) (taken : Option Value) → f.table ≡ tables.Yes → taken ≡ value_in f.tables.place → g.table ≡ tables.Unknown
+      → g.notes ≡ f.notes → g.tables ≡ record { notes = f.tables.notes; place = without_value f.tables.place; outer = f.tables.outer }
+      → (taken ≡ table_of v) × WasTold g []
+  yes_ends g taken is value table notes left =
+      let k = subst (λ t. AreKept t (events_of v) f.notes f.tables) is h.kept in
+      let whole = value_built v f.tables k.1 in
+      let yes = yes_where (is_table v) (sym is ∙ known) in (
+        value ∙ (ap (λ (b : Built). value_in b.place) whole ∙ sym (ap (λ x. if x then Some v else None) yes)),
+        record {
+          table = table;
+          kept = subst (λ t. AreKept t [] g.notes g.tables) (sym table) (
+            refl,
+            notes ∙ k.0,
+            left ∙ ap (λ (b : Built). record { notes = b.notes; place = without_value b.place; outer = b.outer }) whole,
+          );
+        },
+      )
+
+  pub no_ends : (g : TableFilter) → f.table ≡ tables.No → g.table ≡ tables.Unknown → g.notes ≡ f.notes → g.tables ≡ f.tables
+      → (None ≡ table_of v) × WasTold g []
+  no_ends g is table notes built =
+      let k = subst (λ t. AreKept t (events_of v) f.notes f.tables) is h.kept in
+      let no = no_where (is_table v) (sym is ∙ known) in (
+        sym (ap (λ x. if x then Some v else None) no),
+        record {
+          table = table;
+          kept = subst (λ t. AreKept t [] g.notes g.tables) (sym table) (refl, notes ∙ k.0, built ∙ k.1);
+        },
+      )
+
+  pub unknown_ends : f.table ≡ tables.Unknown → ⊥
+  unknown_ends is = unknown_nowhere (is_table v) (sym is ∙ known)
+
+  pub noted_ends : f.table ≡ tables.Noted → ⊥
+  noted_ends is = noted_nowhere (is_table v) (sym is ∙ known)
+
+-- 7. Annotations that were kept are told one by one.
+
+pub notes_next : {V : Type 0} (takes : V → Event → V → Type 0) (ss : Symbols) (i : ℕ) (s : Option (List ℕ)) (a m b : V) → i < length ss
+    → s ≡ get_or ss i s → Led takes (map annotation (take i ss)) a m → takes m (annotation s) b → Led takes (map annotation (take (i + 1) ss)) a b
+notes_next takes ss i s a m b small is before one =
+    let cut : take (i + 1) ss ≡ take i ss ++ s ∷ [] = take_more ss i s small ∙ ap (λ y. take i ss ++ y ∷ []) (sym is) in
+    subst (λ es. Led takes es a b) (sym (ap (map annotation) cut ∙ map-append annotation (take i ss) (s ∷ [])))
+    (led_more takes (map annotation (take i ss)) (annotation s) a m b before one)
