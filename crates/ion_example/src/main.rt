@@ -1,5 +1,6 @@
-//! The library in use: two documents compared, the values of one summed, one built and written in
-//! either encoding, and one that needs shared symbol tables.
+//! The library in use: two documents compared, the numbers of one summed, one built and written in
+//! either encoding, and one that needs shared symbol tables. `ion_example FIELD FILE` sums the numbers
+//! in a field of the values of a file.
 #![tactic(auto)]
 
 mod building;
@@ -7,8 +8,10 @@ mod catalogs;
 mod comparing;
 mod summing;
 
-use anyhow::Result;
+use anyhow::{Context, Result, bail};
 use ion::Target;
+use std::env;
+use std::fs::File;
 
 const LEFT: &[u8] = b"{name: \"a\", tags: [1, 2]}";
 
@@ -16,7 +19,7 @@ const RIGHT: &[u8] = b"{tags: [1, 3], name: \"a\"}";
 
 const CUT: &[u8] = b"{name:";
 
-const ORDERS: &[u8] = b"{item: nails, count: 20} {item: glue, count: 3} {item: none}";
+const ORDERS: &[u8] = b"{item: nails, price: 12.50} {item: glue, price: 3} {item: none}";
 
 const TABLES: &[u8] =
     b"$ion_shared_symbol_table::{name: \"shop\", version: 1, symbols: [\"nails\"]}";
@@ -25,13 +28,23 @@ const USES: &[u8] =
     b"$ion_symbol_table::{imports: [{name: \"shop\", version: 1, max_id: 1}]} $10 $10";
 
 fn main(rt: HostRuntime) -> Result<()> {
+    let words = env::args(&rt)?.skip(1).collect::<Vec<String>>(rt.alloc())?;
+    match words.as_slice() {
+        [] => shown(&rt),
+        [field, name] => summed(&rt, field, name),
+        _ => bail!("usage: ion_example [FIELD FILE]"),
+    }
+}
+
+/// Shows the calls over documents that stand above.
+fn shown(rt: &HostRuntime) -> Result<()> {
     let alloc = rt.alloc();
     for right in [LEFT, RIGHT, CUT] {
         let line = comparing::told(alloc, LEFT, right)?;
         println!(rt; "{line}")?;
     }
-    let sum = summing::sum_of(alloc, ORDERS, "count")?;
-    println!(rt; "{sum} pieces")?;
+    let sum = summing::sum_of(alloc, ORDERS, "price")?;
+    println!(rt; "{sum} in all")?;
     let text = building::spelled(alloc)?;
     println!(rt; "{text}")?;
     for target in [Target::Text, Target::Binary] {
@@ -40,5 +53,15 @@ fn main(rt: HostRuntime) -> Result<()> {
     }
     let count = catalogs::counted(alloc, TABLES, USES)?;
     println!(rt; "{count} values under the catalog")?;
+    Ok(())
+}
+
+/// Prints the sum of the numbers in a field of the values of a file.
+fn summed(rt: &HostRuntime, field: &str, name: &str) -> Result<()> {
+    let file = File::open(rt, name).context(format_args!("opening {name}"))?;
+    let sum = summing::sum_of(rt.alloc(), file, field).context(format_args!(
+        "summing {field} of {name}"
+    ))?;
+    println!(rt; "{sum}")?;
     Ok(())
 }
