@@ -15,6 +15,10 @@ mod model;
 #[cfg(test)]
 mod scanner;
 #[cfg(test)]
+mod sums;
+#[cfg(test)]
+mod tables;
+#[cfg(test)]
 mod tapes;
 #[cfg(test)]
 mod tokens;

@@ -1,0 +1,223 @@
+//! Values told to a visitor by way of what keeps local symbol tables from it, event by event. What is
+//! owned is let go by a call of `drop`, as in `model.rt`.
+use crate::answers::same;
+use ion_model::{Kind, Outline, Reason, Symbol, Value, Whole};
+use ion_scalar::Number;
+use ion_visiting::{Bracket, Building, Count, Outlining, Part, TableFilter, Visitor};
+use std::alloc::Global;
+use std::test::Fail;
+
+/// An event.
+#[derive(Clone, Copy)]
+enum Told {
+    Note(&'static str),
+    Open(Bracket),
+    Name(&'static str),
+    Part(Part<'static>),
+    Symbol(&'static str),
+    Number(i128),
+    Close(Bracket),
+}
+
+/// `$ion_symbol_table::{symbols:["a"],max_id:7}`.
+const TABLE: &[Told] = &[
+    Told::Note("$ion_symbol_table"),
+    Told::Open(Bracket::Fields),
+    Told::Name("symbols"),
+    Told::Open(Bracket::List),
+    Told::Part(Part::Str("a")),
+    Told::Close(Bracket::List),
+    Told::Name("max_id"),
+    Told::Number(7),
+    Told::Close(Bracket::Fields),
+];
+
+/// `$ion_symbol_table::note::null.struct`.
+const NULL_TABLE: &[Told] = &[
+    Told::Note("$ion_symbol_table"),
+    Told::Note("note"),
+    Told::Part(Part::Null(Kind::Fields)),
+];
+
+/// `$ion_symbol_table::note::[word,8]`.
+const NOTED_LIST: &[Told] = &[
+    Told::Note("$ion_symbol_table"),
+    Told::Note("note"),
+    Told::Open(Bracket::List),
+    Told::Symbol("word"),
+    Told::Number(8),
+    Told::Close(Bracket::List),
+];
+
+/// `note::$ion_symbol_table::{a:$ion_symbol_table::{}}`.
+const NOTED_STRUCT: &[Told] = &[
+    Told::Note("note"),
+    Told::Note("$ion_symbol_table"),
+    Told::Open(Bracket::Fields),
+    Told::Name("a"),
+    Told::Note("$ion_symbol_table"),
+    Told::Open(Bracket::Fields),
+    Told::Close(Bracket::Fields),
+    Told::Close(Bracket::Fields),
+];
+
+fn tell_event<V: Visitor>(
+    alloc: Global,
+    event: Told,
+    filter: &mut TableFilter,
+    visitor: &mut V,
+) -> Result<bool, Reason> {
+    match event {
+        Told::Note(text) => {
+            let note = Symbol::known(alloc, text)?;
+            Ok(filter.annotation(note, visitor))
+        }
+        Told::Name(text) => Ok(filter.text_name(text, visitor)),
+        Told::Open(bracket) => Ok(filter.open(bracket, visitor)),
+        Told::Close(bracket) => Ok(filter.close(bracket, visitor)),
+        Told::Part(said) => Ok(filter.part(&said, visitor)),
+        Told::Symbol(text) => {
+            let symbol = Symbol::known(alloc, text)?;
+            let told = filter.symbol(&symbol, visitor);
+            drop(symbol);
+            Ok(told)
+        }
+        Told::Number(int) => match Whole::new(int) {
+            Some(whole) => Ok(filter.number(Number::Int(whole), visitor)),
+            None => Ok(false),
+        },
+    }
+}
+
+/// Tells events, and answers whether all were taken.
+fn tell_events<V: Visitor>(
+    alloc: Global,
+    events: &[Told],
+    filter: &mut TableFilter,
+    visitor: &mut V,
+) -> Result<bool, Reason> {
+    for event in events {
+        if !tell_event(alloc, *event, filter, visitor)? {
+            return Ok(false);
+        }
+    }
+    Ok(true)
+}
+
+/// Whether what was told is a table, and the outline of what the visitor heard.
+fn heard(alloc: Global, filter: &mut TableFilter, events: &[Told]) -> Option<(bool, Outline)> {
+    let mut outlining = Outlining::new();
+    let told = tell_events(alloc, events, filter, &mut outlining);
+    let table = filter.end();
+    let is_table = table.is_some();
+    drop(table);
+    match told {
+        Ok(true) => Some((is_table, outlining.take())),
+        Ok(false) | Err(_) => None,
+    }
+}
+
+/// The events of a value, whether it is a table, and the kind, the depth and the nodes of what a
+/// visitor hears of it. (`null` is what nothing is outlined as.)
+static OUTLINES: [(&[Told], bool, Kind, u64, u64); 6] = [
+    (TABLE, true, Kind::Null, 0, 0),
+    (NOTED_LIST, false, Kind::List, 1, 5),
+    (NULL_TABLE, true, Kind::Null, 0, 0),
+    (NULL_TABLE, true, Kind::Null, 0, 0),
+    (NOTED_STRUCT, false, Kind::Fields, 2, 6),
+    (TABLE, true, Kind::Null, 0, 0),
+];
+
+#[test]
+fn tables_are_kept_from_a_visitor(rt: HostRuntime) {
+    let mut filter = TableFilter::new(rt.alloc());
+    for (at, row) in OUTLINES.iter().enumerate() {
+        let outline = Outline {
+            kind: row.2,
+            depth: row.3,
+            nodes: row.4,
+        };
+        let found = heard(rt.alloc(), &mut filter, row.0);
+        same(&rt, at, found, Some((row.1, outline)));
+    }
+    drop(filter);
+}
+
+/// A front of events, and whether they may be those of a table.
+static FRONTS: [(&[Told], bool); 5] = [
+    (&[], false),
+    (&[Told::Note("$ion_symbol_table")], true),
+    (&[Told::Note("note")], false),
+    (&[Told::Note("$ion_symbol_table"), Told::Number(7)], false),
+    (
+        &[
+            Told::Note("$ion_symbol_table"),
+            Told::Open(Bracket::Fields),
+            Told::Name("imports"),
+        ],
+        true,
+    ),
+];
+
+#[test]
+fn fronts_of_tables_are_known(rt: HostRuntime) -> Result<(), Fail> {
+    for (at, row) in FRONTS.iter().enumerate() {
+        let mut filter = TableFilter::new(rt.alloc());
+        let told = tell_events(rt.alloc(), row.0, &mut filter, &mut Count::new());
+        let may_be = filter.may_be_table();
+        drop(filter);
+        same(&rt, at, (told?, may_be), (true, row.1));
+    }
+    Ok(())
+}
+
+/// That table, and that list.
+fn wanted(alloc: Global) -> Result<(Value, Value), Reason> {
+    let texts = Value::list(alloc, vec![in alloc; Value::string(alloc, "a")?]?);
+    let fields = vec![in alloc; ("symbols", texts), ("max_id", Value::int(alloc, 7))]?;
+    let table = Value::record(alloc, fields)?.annotated(alloc, &["$ion_symbol_table"])?;
+    let items = vec![in alloc; Value::symbol(alloc, "word")?, Value::int(alloc, 8)]?;
+    let list = Value::list(alloc, items);
+    Ok((
+        table,
+        list.annotated(alloc, &["$ion_symbol_table", "note"])?,
+    ))
+}
+
+/// Whether the table is built in the filter, and the list behind it in the visitor.
+fn are_built(alloc: Global, table: Value, list: Value) -> Result<(bool, bool), Reason> {
+    let (mut filter, mut building) = (TableFilter::new(alloc), Building::new(alloc));
+    let first = tell_events(alloc, TABLE, &mut filter, &mut building)?;
+    let (of_first, kept) = (building.take(), filter.end());
+    let second = tell_events(alloc, NOTED_LIST, &mut filter, &mut building)?;
+    let (of_second, none) = (building.take(), filter.end());
+    let tables = of_first.is_none() && kept.as_ref() == Some(&table);
+    let lists = of_second.as_ref() == Some(&list) && none.is_none();
+    drop((of_first, kept, of_second, none));
+    drop((table, list));
+    drop((filter, building));
+    Ok((first && tables, second && lists))
+}
+
+#[test]
+fn tables_and_values_are_built(rt: HostRuntime) -> Result<(), Fail> {
+    let (table, list) = wanted(rt.alloc())?;
+    let found = are_built(rt.alloc(), table, list)?;
+    same(&rt, "table, list", found, (true, true));
+    Ok(())
+}
+
+#[test]
+fn values_that_are_no_tables_are_counted(rt: HostRuntime) -> Result<(), Fail> {
+    let (mut filter, mut count) = (TableFilter::new(rt.alloc()), Count::new());
+    for row in &OUTLINES {
+        let told = tell_events(rt.alloc(), row.0, &mut filter, &mut count);
+        let table = filter.end();
+        let told = told? && (table.is_some() || count.ended());
+        drop(table);
+        same(&rt, row.1, told, true);
+    }
+    drop(filter);
+    same(&rt, "values", count.values(), 2);
+    Ok(())
+}
