@@ -40,7 +40,8 @@ What `use ion::{..}` gives, in the order in which one needs it, made by `tests/a
 contracts: Cargo doesn't build it. From C, Python and Rust there are [bindings](BINDINGS.md) for whole documents.
 `tools/vendor.sh . >> crates.txt` copies the crates into a repository; a crate that lists `ion` then proves them once for a machine.
 
-Each block of lines is run by `tests/api.py --run`; `crates/ion_example` has more, proved. Three things that all calls share:
+Each block of lines is run by `tests/api.py --run`. `crates/ion_example` has more, proved: a file that an argument names is read there,
+and its decimals are summed (`src/summing.rt`). Three things that all calls share:
 
 - `alloc: Global` is where memory comes from: `let alloc = rt.alloc();` of `main(rt: HostRuntime)`.
 - Calls over devices answer `Result<Result<_, Refusal>, Fault>`: the fault of a device outside, the refusal of a document inside. `??`
@@ -55,8 +56,9 @@ TASKS = {
     "List the values of a document": "show ToWrite Outlet",
     "Tell the line and column of a refusal": "position_of Position",
     "Read values one by one": "values Values Each Stop read_all read_document DocReader",
-    "Ask a value for what it holds": """Value Payload Kind Field Sequence Symbol Text Bytes Whole Decimal Timestamp Local Precision
-        Outline spelling_of SymbolText symbol_text""",
+    "Ask a value for what it holds": """Value Payload Kind Field Sequence Symbol Text Bytes Whole Timestamp Local Precision Outline
+        spelling_of SymbolText symbol_text""",
+    "Add decimals": "Decimal",
     "Make a value": "",
     "Write values": "text_of TextWriter BinaryWriter",
     "Convert a document": "convert Target convert_with_hasher",
