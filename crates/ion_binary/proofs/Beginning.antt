@@ -1,6 +1,6 @@
 -- Values that begin in a reader that holds no values, and what only moves it on.
-use Rattle.std.proofs.Common.{◌≡◌, ◌≢◌, ℕ, List, [], ◌∷◌, ◌++◌, map, Bool, true, false, Option, Some, None, Result, Ok, Err, refl, ap, sym, subst, ◌∙◌}
-use Rattle.std.specs.Prelude.{nat_lt, if◌then◌else◌}
+use Rattle.std.proofs.Common.{◌≡◌, ℕ, List, [], ◌∷◌, ◌++◌, Bool, true, false, Option, Result, Ok, Err, refl, ap, sym, subst, ◌∙◌}
+use Rattle.std.specs.Prelude.{if◌then◌else◌}
 use Rattle.std.proofs.lemmas.List.{append-nil}
 use Rattle.std.proofs.lemmas.Bool.{false≢true}
 use Rattle.ion_atoms.specs.declared.refusal.Reason.{Reason}
@@ -9,23 +9,22 @@ use Rattle.ion_model.specs.declared.value.Value.{Value}
 use Rattle.ion_model.specs.declared.value.Payload.{Payload}
 use Rattle.ion_model.specs.Measures.{bare}
 use Rattle.ion_visiting.specs.declared.bracket.Bracket.{Bracket}
-use Rattle.ion_visiting.specs.Events.{Event, part, annotation, name, opens, events_of}
+use Rattle.ion_visiting.specs.Events.{Event, part, name, opens, events_of}
 use Rattle.ion_binary.specs.declared.state.Frame.{Frame}
 use Rattle.ion_binary.specs.declared.state.Frame.TheVariants as frames
 use Rattle.ion_symtab.specs.Slots.{Slot, system_slots}
 use Rattle.ion_binary.specs.declared.state.Mark.{Mark}
 use Rattle.ion_binary.specs.declared.state.Mark.TheVariants.{Fourth}
-use Rattle.ion_binary.specs.declared.state.Phase.{Phase}
-use Rattle.ion_binary.specs.declared.state.Phase.TheVariants.{InMarker, Ready, InNumber, InBody, InPad}
+use Rattle.ion_binary.specs.declared.state.Phase.TheVariants.{Ready}
 use Rattle.ion_binary.specs.declared.state.Effect.{Effect}
-use Rattle.ion_binary.specs.declared.state.Effect.TheVariants.{Goes, Gives}
+use Rattle.ion_binary.specs.declared.state.Effect.TheVariants.{Goes}
 use Rattle.ion_binary.specs.declared.walking.BinaryWalk.{BinaryWalk}
 use Rattle.ion_binary.specs.declared.walking.Container.{Container}
 use Rattle.ion_binary.specs.declared.walking.Container.TheVariants as containers
 use Rattle.ion_visiting.specs.declared.table_filter.TableFilter.{TableFilter}
 use Rattle.ion_binary.specs.declared.form.Scalar.{Scalar}
 use Rattle.ion_binary.specs.Judge.{judge}
-use Rattle.ion_binary.specs.machine.EachOctet.{Setting, Spot, Outcome, goes, gives, refuses, at, deliver, proceed, judged, anew, on_marker}
+use Rattle.ion_binary.specs.machine.EachOctet.{Outcome, goes, refuses, at, deliver, proceed, judged, anew, on_marker}
 use Rattle.ion_visiting.specs.Tables.{Hears, WasTold, heard}
 use Rattle.ion_binary.specs.walking.Holds.{AreAround, AreOpen, Does, DoesAlone, HoldsNoWrapper, Holds, IsBehind, IsInside, IsNamedBy, IsPart, IsTop, Name, container_of, containers_of, is_named, machine_of, name_of, open_containers, setting_of, spot_of, told, told_in}
 use Rattle.ion_visiting.specs.laws.Filters.{hears_none, hears_both}
@@ -34,20 +33,19 @@ use Rattle.ion_binary.proofs.Ending.{does_same, bare_in, is_at}
 
 -- 1. Readers that only move on.
 
+pub stays : (r new : BinaryWalk) (fs : List Frame) → open_containers new ≡ open_containers r → name_of new ≡ name_of r → new.filter ≡ r.filter
+    → IsInside new.phase fs → Holds r fs → Holds new fs
+stays r new fs same named kept inside h = record {
+  containers = same ∙ h.containers;
+  named = subst (λ n. IsNamedBy n fs) (sym named) h.named;
+  open_there = h.open_there;
+  inside = inside;
+  was_told = subst (λ f. WasTold f (told fs)) (sym kept) h.was_told;
+}
+
 pub goes_alone : (r new : BinaryWalk) (fs : List Frame) (o : Outcome) → o ≡ goes (machine_of new fs) → open_containers new ≡ open_containers r
     → name_of new ≡ name_of r → new.filter ≡ r.filter → IsInside new.phase fs → Holds r fs → DoesAlone (told fs) o (Ok Goes) new
-goes_alone r new fs o is same named kept inside h = (
-  fs,
-  is,
-  record {
-    containers = same ∙ h.containers;
-    named = subst (λ n. IsNamedBy n fs) (sym named) h.named;
-    open_there = h.open_there;
-    inside = inside;
-    was_told = subst (λ f. WasTold f (told fs)) (sym kept) h.was_told;
-  },
-  refl,
-)
+goes_alone r new fs o is same named kept inside h = (fs, is, stays r new fs same named kept inside h, refl)
 
 -- 2. The name of the field whose value begins.
 

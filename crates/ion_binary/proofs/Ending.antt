@@ -1,17 +1,17 @@
 -- Values and containers that end, and those that begin, in a reader that holds no values.
-use Rattle.std.proofs.Common.{◌≡◌, ◌≢◌, ℕ, List, [], ◌∷◌, ◌++◌, map, reverse, Bool, true, false, Option, Some, None, Result, Ok, Err, refl, ap, sym, subst, ◌∙◌, arith}
-use Rattle.std.specs.Prelude.{◌==◌, ◌+◌, ◌<◌, nat_lt, if◌then◌else◌}
+use Rattle.std.proofs.Common.{◌≡◌, ◌≢◌, ℕ, List, [], ◌∷◌, ◌++◌, reverse, Bool, true, false, Result, Ok, Err, refl, ap, sym, subst, ◌∙◌, arith}
+use Rattle.std.specs.Prelude.{◌==◌, if◌then◌else◌}
 use Rattle.std.proofs.lemmas.List.{reverse-append}
 use Rattle.std.proofs.lemmas.Bool.Decides.{nat_tests}
 use Rattle.ion_atoms.specs.declared.refusal.Reason.{Reason}
-use Rattle.ion_atoms.specs.declared.refusal.Reason.TheVariants.{Memory, Malformed, Depth}
+use Rattle.ion_atoms.specs.declared.refusal.Reason.TheVariants.{Malformed}
 use Rattle.ion_model.specs.declared.value.Value.{Value}
 use Rattle.ion_model.specs.declared.value.Field.{Field}
 use Rattle.ion_model.specs.declared.value.Payload.{Payload}
 use Rattle.ion_model.specs.declared.value.Payload.TheVariants as payloads
 use Rattle.ion_model.specs.Measures.{bare, annotated, field_of}
 use Rattle.ion_visiting.specs.declared.bracket.Bracket.TheVariants as brackets
-use Rattle.ion_visiting.specs.Events.{Event, part, annotation, name, opens, closes, events_of}
+use Rattle.ion_visiting.specs.Events.{Event, closes, events_of}
 use Rattle.ion_binary.specs.declared.form.Listing.{Listing}
 use Rattle.ion_binary.specs.declared.state.Frame.{Frame}
 use Rattle.ion_binary.specs.declared.state.Frame.TheVariants as frames
@@ -19,18 +19,17 @@ use Rattle.ion_binary.specs.declared.state.Phase.{Phase}
 use Rattle.ion_binary.specs.declared.state.Phase.TheVariants.{Ready, InNumber}
 use Rattle.ion_binary.specs.declared.state.Purpose.TheVariants as purposes
 use Rattle.ion_binary.specs.declared.state.Effect.{Effect}
-use Rattle.ion_binary.specs.declared.state.Effect.TheVariants.{Goes, Gives}
+use Rattle.ion_binary.specs.declared.state.Effect.TheVariants.{Goes}
 use Rattle.ion_binary.specs.declared.walking.BinaryWalk.{BinaryWalk}
 use Rattle.ion_binary.specs.declared.walking.Container.{Container}
 use Rattle.ion_binary.specs.declared.walking.Container.TheVariants as containers
-use Rattle.ion_visiting.specs.declared.table_filter.TableFilter.{TableFilter}
 use Rattle.ion_binary.specs.Grammar.{listed}
 use Rattle.ion_binary.specs.visiting.Brackets.{bracket_of}
-use Rattle.ion_binary.specs.machine.EachOctet.{Setting, Spot, Outcome, goes, gives, refuses, at, deliver, proceed}
+use Rattle.ion_binary.specs.machine.EachOctet.{Setting, Spot, Outcome, goes, refuses, at, deliver, proceed}
 use Rattle.ion_visiting.specs.Tables.{Hears, WasTold, heard}
-use Rattle.ion_binary.specs.walking.Holds.{AreAround, AreOpen, Closes, Does, DoesAlone, EndedIn, HoldsNoWrapper, Holds, IsBareIn, IsBehind, IsInside, IsNamedBy, IsPart, WentOn, container_of, containers_of, is_named, machine_of, name_of, open_containers, setting_of, spot_of, told, told_in}
-use Rattle.ion_visiting.specs.laws.Filters.{hears_none, hears_both}
-use Rattle.ion_binary.proofs.Tellings.{item_told, field_told, wrapped_told, items_told, fields_told, name_told, part_told, does_more, does_behind, closes_more}
+use Rattle.ion_binary.specs.walking.Holds.{AreAround, AreOpen, Closes, Does, DoesAlone, EndedIn, HoldsNoWrapper, IsBareIn, IsBehind, IsInside, IsNamedBy, container_of, containers_of, machine_of, name_of, open_containers, setting_of, spot_of, told, told_in}
+use Rattle.ion_visiting.specs.laws.Filters.{hears_none}
+use Rattle.ion_binary.proofs.Tellings.{item_told, field_told, wrapped_told, items_told, fields_told, does_more, does_behind, closes_more}
 
 -- 1. The same with other words for what comes.
 

@@ -1,19 +1,17 @@
 -- Values of the top level that were told and ended: given, or local symbol tables.
-use Rattle.std.proofs.Common.{◌≡◌, ◌≢◌, ◌⊎◌, inl, inr, ℕ, List, [], ◌∷◌, Bool, true, false, Option, Some, None, Result, Ok, Err, refl, ap, sym, subst, ◌∙◌}
+use Rattle.std.proofs.Common.{◌≡◌, List, [], Bool, true, false, Option, Some, None, Ok, refl, ap, sym, subst, ◌∙◌}
 use Rattle.std.specs.Prelude.{if◌then◌else◌}
-use Rattle.ion_atoms.specs.declared.refusal.Reason.{Reason}
-use Rattle.ion_atoms.specs.declared.refusal.Reason.TheVariants.{Memory}
 use Rattle.ion_model.specs.declared.value.Value.{Value}
 use Rattle.ion_model.specs.Kinds.{is_table}
 use Rattle.ion_symtab.specs.Slots.{Slot}
 use Rattle.ion_symtab.specs.Next.{next}
-use Rattle.ion_visiting.specs.Events.{Event, events_of}
+use Rattle.ion_visiting.specs.Events.{events_of}
 use Rattle.ion_binary.specs.declared.state.Phase.TheVariants.{Ready}
 use Rattle.ion_binary.specs.declared.state.Effect.TheVariants.{Goes, Gives}
 use Rattle.ion_binary.specs.declared.walking.BinaryWalk.{BinaryWalk}
 use Rattle.ion_visiting.specs.declared.table_filter.Table.TheVariants as tables
-use Rattle.ion_binary.specs.machine.EachOctet.{Setting, Spot, Outcome, goes, gives, refuses, anew, at, deliver, turned}
-use Rattle.ion_visiting.specs.Tables.{WasTold, heard, heard_by, table_by, table_of}
+use Rattle.ion_binary.specs.machine.EachOctet.{goes, gives, anew, at, deliver, turned}
+use Rattle.ion_visiting.specs.Tables.{WasTold, heard, heard_by, table_of}
 use Rattle.ion_binary.specs.walking.Holds.{DoesAlone, Holds, IsInside, machine_of, open_containers, setting_of, spot_of}
 use Rattle.ion_visiting.specs.laws.Filters.{table_told}
 

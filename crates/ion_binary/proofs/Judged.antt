@@ -1,7 +1,6 @@
 -- What scalars are, told as parts.
 use Rattle.std.proofs.Common.{◌≡◌, ℕ, List, Option, Some, Result, Ok, Err, ap, ◌∙◌}
 use Rattle.std.specs.Result.{OnOk}
-use Rattle.ion_model.specs.declared.value.Payload.{Payload}
 use Rattle.ion_model.specs.declared.value.Payload.TheVariants as payloads
 use Rattle.ion_model.specs.declared.value.Payload.TheViews.{outs-Null, outs-Truth, outs-Int, outs-Decimal, outs-Timestamp, outs-Symbol, outs-Str, outs-Clob, outs-Blob}
 use Rattle.ion_atoms.specs.declared.refusal.Reason.{Reason}

@@ -65,7 +65,7 @@ leads_by g l to start m n piece i k used cat lim same_catalog same_limits place 
     ∙ (ap (λ x. run x lim used m part) (sym same_catalog) ∙ e)))))
 
 -- octets of the rest of the piece with whose last a value came
-leads_to_value : (g : Catalog) (l : Limits) (to : ℕ) (start m n : Machine) (piece : List ℕ) (i k used : ℕ) (cat : Catalog) (lim : Limits) (v : Value) → cat ≡ g
+pub leads_to_value : (g : Catalog) (l : Limits) (to : ℕ) (start m n : Machine) (piece : List ℕ) (i k used : ℕ) (cat : Catalog) (lim : Limits) (v : Value) → cat ≡ g
     → lim ≡ l → used ≡ to + i →
     run cat lim used m (take k (take (length piece - i) (drop i piece))) ≡ record { given = (v, used + k) ∷ []; now = Ok n } →
     LeadsFromStart g l to start piece i m → run g l to start (take (i + k) piece) ≡ record { given = (v, to + (i + k)) ∷ []; now = Ok n }
@@ -80,7 +80,7 @@ leads_to_value g l to start m n piece i k used cat lim v same_catalog same_limit
     ∙ (ap (λ x. run x lim used m part) (sym same_catalog)
     ∙ (e ∙ ap (λ j. record { given = (v, j) ∷ []; now = Ok n }) behind))))))
 
-within_rest : (piece : List ℕ) (i k : ℕ) → 0 < k → k ≤ length (take (length piece - i) (drop i piece)) → i + k ≤ length piece
+pub within_rest : (piece : List ℕ) (i k : ℕ) → 0 < k → k ≤ length (take (length piece - i) (drop i piece)) → i + k ≤ length piece
 within_rest piece i k some within = omega (arith, length-take {A = ℕ}, length-drop {A = ℕ})
 
 -- a value that came so is what the step gives

@@ -33,3 +33,5 @@ pub mod Giving
 pub mod Beginning
 pub mod Judged
 pub mod Shells
+pub mod VarUInts
+pub mod WalkRuns

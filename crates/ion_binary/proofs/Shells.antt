@@ -1,16 +1,16 @@
 -- What may stand in open containers is told by their shells, in which nothing is.
-use Rattle.std.proofs.Common.{◌≡◌, ◌≢◌, ℕ, suc, List, [], ◌∷◌, map, reverse, Bool, true, false, Option, Some, None, Ok, Err, refl, ap, sym, ◌∙◌}
+use Rattle.std.proofs.Common.{◌≡◌, ℕ, suc, List, [], ◌∷◌, map, Bool, false, Option, Some, None, Ok, Err, refl, ap, sym, ◌∙◌}
 use Rattle.std.specs.Prelude.{nat_lt, if◌then◌else◌}
+use Rattle.ion_atoms.specs.declared.refusal.Reason.{Reason}
+use Rattle.ion_model.specs.declared.value.Field.{Field}
 use Rattle.ion_binary.specs.declared.form.Form.{Form}
 use Rattle.ion_binary.specs.declared.form.Form.TheVariants as forms
 use Rattle.ion_binary.specs.declared.state.Frame.{Frame}
 use Rattle.ion_binary.specs.declared.state.Frame.TheVariants as frames
-use Rattle.ion_binary.specs.declared.state.Purpose.{Purpose}
-use Rattle.ion_binary.specs.declared.state.Purpose.TheVariants as purposes
 use Rattle.ion_binary.specs.declared.walking.BinaryWalk.{BinaryWalk}
-use Rattle.ion_binary.specs.Opening.{is_pad, is_wrapper}
-use Rattle.ion_binary.specs.machine.EachOctet.{levels, misfits, stray, nameless, unending, outside, past, unfit, or_else, end_of}
-use Rattle.ion_binary.specs.walking.Holds.{Name, shell, shells, container_of, containers_of, open_containers, name_of, IsNamedBy, Holds, AreOpen, AreAround, HoldsNoWrapper, MayBegin}
+use Rattle.ion_binary.specs.Opening.{is_pad}
+use Rattle.ion_binary.specs.machine.EachOctet.{Outcome, refuses, levels, misfits, stray, nameless, unfit, or_else, unless}
+use Rattle.ion_binary.specs.walking.Holds.{Name, shell, shells, containers_of, name_of, IsNamedBy, Holds, AreOpen, AreAround, HoldsNoWrapper, MayBegin}
 
 -- containers with nothing in them
 abbrev pub emptied : Name → List Frame → List Frame
@@ -34,3 +34,94 @@ levels_of r fs h = ap levels (shells_of r fs h) ∙ levels_same (name_of r) fs
 pub deepens : (r : BinaryWalk) (fs : List Frame) (may : Bool) → Holds r fs → may ≡ nat_lt (levels (shells r)) r.limits.depth
     → nat_lt (levels fs) r.limits.depth ≡ may
 deepens r fs may h is = ap (λ k. nat_lt k r.limits.depth) (sym (levels_of r fs h)) ∙ sym is
+
+-- where a form may not stand: their shells tell
+
+stray_same : (n : Name) (fs : List Frame) (form : Form) → stray (emptied n fs) form ≡ stray fs form
+stray_same n [] form = refl
+stray_same n (frames.Items end x vs ∷ fs) form = refl
+stray_same n (frames.Fields end ms ∷ fs) form = refl
+stray_same n (frames.Named end ms m ∷ fs) form = refl
+stray_same n (frames.Annotated end ss ∷ fs) form = refl
+
+misfits_same : (item start : ℕ) (n : Name) (fs : List Frame) (form : Form) (to : ℕ)
+    → misfits item start (emptied n fs) form to ≡ misfits item start fs form to
+misfits_same item start n [] form to = refl
+misfits_same item start n (frames.Items end x vs ∷ fs) form to = refl
+misfits_same item start n (frames.Fields end ms ∷ fs) form to = refl
+misfits_same item start n (frames.Named end ms m ∷ fs) form to = refl
+misfits_same item start n (frames.Annotated end ss ∷ fs) form to = refl
+
+nameless_by : (m : Name) (form : Form) (end : ℕ) (ms : List Field) (fs gs : List Frame)
+    → nameless (frames.Named end [] m ∷ fs) form ≡ nameless (frames.Named end ms m ∷ gs) form
+nameless_by (Ok s) form end ms fs gs = refl
+nameless_by (Err e) form end ms fs gs = refl
+
+nameless_same : (n : Name) (fs : List Frame) (form : Form) → IsNamedBy n fs → nameless (emptied n fs) form ≡ nameless fs form
+nameless_same n [] form h = refl
+nameless_same n (frames.Items end x vs ∷ fs) form h = refl
+nameless_same n (frames.Fields end ms ∷ fs) form h = refl
+nameless_same n (frames.Named end ms m ∷ fs) form h =
+    ap (λ x. nameless (frames.Named end [] x ∷ emptied n fs) form) (sym h) ∙ nameless_by m form end ms (emptied n fs) fs
+nameless_same n (frames.Annotated end ss ∷ fs) form h = refl
+
+unfit_same : (item start : ℕ) (n : Name) (fs : List Frame) (form : Form) (to : ℕ) → IsNamedBy n fs
+    → unfit item start (emptied n fs) form to ≡ unfit item start fs form to
+unfit_same item start n fs form to h =
+    ap (λ o. or_else o (or_else (misfits item start (emptied n fs) form to) (nameless (emptied n fs) form))) (stray_same n fs form)
+    ∙ (ap (λ o. or_else (stray fs form) (or_else o (nameless (emptied n fs) form))) (misfits_same item start n fs form to)
+    ∙ ap (λ o. or_else (stray fs form) (or_else (misfits item start fs form to) o)) (nameless_same n fs form h))
+
+first_none : (a b : Option Reason) → or_else a b ≡ None → a ≡ None
+first_none None b h = refl
+first_none (Some e) b h = absurd cc
+
+second_none : (a b : Option Reason) → or_else a b ≡ None → b ≡ None
+second_none None b h = h
+second_none (Some e) b h = absurd cc
+
+-- a value may begin where its form isn't refused
+around_open : (fs : List Frame) (form : Form) → AreOpen fs → is_pad form ≡ false → nameless fs form ≡ None → AreAround fs
+around_open [] form h plain named = tt
+around_open (frames.Items end x vs ∷ fs) form h plain named = h
+around_open (frames.Fields end ms ∷ fs) form h plain named = h
+around_open (frames.Named end ms (Ok s) ∷ fs) form h plain named = h
+around_open (frames.Named end ms (Err e) ∷ fs) form h plain named =
+    let refused : Some e ≡ None = ap (λ b. if b then None else Some e) (sym plain) ∙ named in absurd cc
+around_open (frames.Annotated end ss ∷ fs) form h plain named = h
+
+unwrapped_open : (fs : List Frame) → stray fs forms.Wrapper ≡ None → HoldsNoWrapper fs
+unwrapped_open [] h = tt
+unwrapped_open (frames.Items end x vs ∷ fs) h = tt
+unwrapped_open (frames.Fields end ms ∷ fs) h = tt
+unwrapped_open (frames.Named end ms n ∷ fs) h = tt
+unwrapped_open (frames.Annotated end ss ∷ fs) h = absurd cc
+
+begins_open : (fs : List Frame) (form : Form) → AreOpen fs → stray fs form ≡ None → nameless fs form ≡ None → MayBegin form fs
+begins_open fs forms.Pad h fits named = tt
+begins_open fs (forms.Scalar t) h fits named = around_open fs (forms.Scalar t) h refl named
+begins_open fs (forms.Listing x) h fits named = around_open fs (forms.Listing x) h refl named
+begins_open fs forms.Struct h fits named = around_open fs forms.Struct h refl named
+begins_open fs forms.OrderedStruct h fits named = around_open fs forms.OrderedStruct h refl named
+begins_open fs forms.Wrapper h fits named = (unwrapped_open fs fits, around_open fs forms.Wrapper h refl named)
+
+module _ (r : BinaryWalk) (fs : List Frame) (h : Holds r fs) (form : Form) (to : ℕ) where
+  unfit_of : unfit r.limits.item r.start (shells r) form to ≡ unfit r.limits.item r.start fs form to
+  unfit_of = ap (λ gs. unfit r.limits.item r.start gs form to) (shells_of r fs h)
+      ∙ unfit_same r.limits.item r.start (name_of r) fs form to h.named
+
+  -- what may not stand there is refused
+  pub unfit_refused : (o : Outcome) (e : Reason) → Some e ≡ unfit r.limits.item r.start (shells r) form to
+      → unless (unfit r.limits.item r.start fs form to) o ≡ refuses e
+  unfit_refused o e is = ap (λ x. unless x o) (sym unfit_of ∙ sym is)
+
+  -- what may stand there goes on
+  pub fits : (o : Outcome) → None ≡ unfit r.limits.item r.start (shells r) form to → unless (unfit r.limits.item r.start fs form to) o ≡ o
+  fits o is = ap (λ x. unless x o) (sym unfit_of ∙ sym is)
+
+  pub may_begin : None ≡ unfit r.limits.item r.start (shells r) form to → MayBegin form fs
+  may_begin is =
+      let none : unfit r.limits.item r.start fs form to ≡ None = sym unfit_of ∙ sym is in
+      let rest = second_none (stray fs form) (or_else (misfits r.limits.item r.start fs form to) (nameless fs form)) none in
+      begins_open fs form h.open_there (first_none (stray fs form) _ none)
+      (second_none (misfits r.limits.item r.start fs form to) (nameless fs form) rest)

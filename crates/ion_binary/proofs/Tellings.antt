@@ -1,5 +1,5 @@
 -- What was told of open containers, as more is told of them.
-use Rattle.std.proofs.Common.{◌≡◌, ◌≢◌, ℕ, List, [], ◌∷◌, ◌++◌, map, Result, Ok, Err, Bool, true, false, refl, ap, sym, subst, ◌∙◌}
+use Rattle.std.proofs.Common.{◌≡◌, ℕ, List, [], ◌∷◌, ◌++◌, map, Result, Ok, Err, Bool, true, false, refl, ap, sym, subst, ◌∙◌}
 use Rattle.std.specs.List.{flat_map}
 use Rattle.std.proofs.lemmas.List.{append-nil, append_assoc, map-append}
 use Rattle.std.proofs.lemmas.Grind.{flat_map-append}
@@ -10,7 +10,6 @@ use Rattle.ion_model.specs.declared.value.Payload.{Payload}
 use Rattle.ion_model.specs.declared.value.Payload.TheVariants as payloads
 use Rattle.ion_model.specs.declared.value.Payload.TheViews.{out-Payload, outs-List, outs-Sexp, outs-Fields}
 use Rattle.ion_model.specs.Measures.{bare, annotated, field_of}
-use Rattle.ion_visiting.specs.declared.bracket.Bracket.{Bracket}
 use Rattle.ion_visiting.specs.declared.bracket.Bracket.TheVariants as brackets
 use Rattle.ion_visiting.specs.Events.{Event, part, annotation, name, opens, closes, within, events_of, field_events, layer_events}
 use Rattle.ion_visiting.specs.laws.Led.{events_out}
@@ -24,8 +23,8 @@ use Rattle.ion_binary.specs.declared.walking.BinaryWalk.{BinaryWalk}
 use Rattle.ion_binary.specs.Grammar.{listed}
 use Rattle.ion_binary.specs.visiting.Brackets.{bracket_of}
 use Rattle.ion_binary.specs.machine.EachOctet.{Outcome}
-use Rattle.ion_visiting.specs.Tables.{Hears, WasTold, heard}
-use Rattle.ion_binary.specs.walking.Holds.{told, told_in, Does, DoesAlone, Closes, EndedIn, WentOn, GaveOut}
+use Rattle.ion_visiting.specs.Tables.{Hears, heard}
+use Rattle.ion_binary.specs.walking.Holds.{told, told_in, Does, DoesAlone, Closes, WentOn, GaveOut}
 use Rattle.ion_visiting.specs.laws.Filters.{hears_none, hears_both}
 
 -- 1. Events.

@@ -1,2 +1,3 @@
 -- The reader that holds no values.
 pub mod Holds
+pub mod Runs

@@ -7,7 +7,7 @@ ghost use Rattle.ion_binary.specs.declared.state.Frame.{Frame as AnyFrame};
 ghost use Rattle.ion_binary.specs.machine.EachOctet.{deliver, feed, marks, on_descriptor, on_marker, one_octet};
 ghost use Rattle.ion_binary.specs.machine.Views.{is_in_body};
 ghost use Rattle.ion_visiting.specs.Tables.{Hears, WasTold, heard};
-ghost use Rattle.ion_binary.specs.walking.Holds.{AreAround, Does, DoesAlone, Holds, IsTop, SameSetting, setting_of, spot_of, told, told_in};
+ghost use Rattle.ion_binary.specs.walking.Holds.{AreAround, Does, DoesAlone, Holds, IsTop, SameSetting, machine_of, setting_of, spot_of, told, told_in};
 
 use crate::form::{Form, Listing, Opening, opening_of};
 use crate::state::{Effect, Mark, Phase};
@@ -102,6 +102,10 @@ impl BinaryWalk<'_> {
 
     /// Tells a value of one octet, for which there has to be room.
     fn one_octet<V: Visitor>(&mut self, said: &Part<'_>, visitor: &mut V) -> Result<Effect, Reason>
+        ensures does { (fs : List AnyFrame) → Holds self.old fs →
+            Does V.takes (told fs)
+            (one_octet (setting_of self.old) (spot_of self.old) fs (payload_of said.now))
+            result self.new visitor.old visitor.new }
         ensures used { self.new.used ≡ self.old.used }
         ensures setting { SameSetting self.old self.new }
     {
@@ -146,6 +150,10 @@ impl BinaryWalk<'_> {
         visitor: &mut V,
     ) -> Result<Effect, Reason>
         requires used { self.old.used < 2 ^ 63 }
+        ensures does { (fs : List AnyFrame) → Holds self.old fs →
+            Does V.takes (told fs)
+            (on_descriptor (setting_of self.old) (spot_of self.old) fs opening)
+            result self.new visitor.old visitor.new }
         ensures used { self.new.used ≡ self.old.used }
         ensures setting { SameSetting self.old self.new }
     {
@@ -197,6 +205,10 @@ impl BinaryWalk<'_> {
     fn feed<V: Visitor>(&mut self, octet: u8, visitor: &mut V) -> Result<Effect, Reason>
         requires used { self.old.used < 2 ^ 63 - 1 }
         requires outside { is_in_body self.old.phase ≡ false }
+        ensures does { (fs : List AnyFrame) → Holds self.old fs →
+            Does V.takes (told fs)
+            (feed (setting_of self.old) (machine_of self.old fs) octet)
+            result self.new visitor.old visitor.new }
         ensures used { self.new.used ≡ self.old.used + 1 }
         ensures setting { SameSetting self.old self.new }
     {

@@ -1,6 +1,6 @@
 -- What a reader that holds no values stands for: of the machine's state it knows all but the values and the annotations, which a visitor
 -- was told.
-use Rattle.std.specs.Prelude.{◌≡◌, ◌≢◌, ℕ, List, [], ◌∷◌, ◌++◌, map, reverse, Option, Some, None, Result, Ok, Err, Bool, true, false}
+use Rattle.std.specs.Prelude.{◌≡◌, ◌≢◌, ℕ, List, [], ◌∷◌, ◌++◌, map, reverse, Option, Some, None, Result, Ok, Err, Bool, true, false, ◌==◌, if◌then◌else◌}
 use Rattle.std.specs.List.{flat_map}
 use Rattle.ion_model.specs.declared.value.Value.{Value}
 use Rattle.ion_model.specs.declared.value.Payload.{Payload}
@@ -16,6 +16,7 @@ use Rattle.ion_binary.specs.declared.form.Form.{Form}
 use Rattle.ion_binary.specs.declared.form.Form.TheVariants as forms
 use Rattle.ion_binary.specs.declared.state.Frame.{Frame}
 use Rattle.ion_binary.specs.declared.state.Frame.TheVariants as frames
+use Rattle.ion_binary.specs.declared.state.Purpose.TheVariants as purposes
 use Rattle.ion_binary.specs.declared.state.Phase.{Phase}
 use Rattle.ion_binary.specs.declared.state.Phase.TheVariants.{InMarker, Ready, InNumber, InBody, InPad}
 use Rattle.ion_binary.specs.declared.state.Effect.{Effect}
@@ -175,6 +176,10 @@ fields_end _ = None
 abbrev pub wrapper_end : List Container → Option ℕ
 wrapper_end (containers.Annotated end ∷ cs) = Some end
 wrapper_end _ = None
+
+-- what comes behind an annotation that ends behind `used` octets, where the annotations end at the octet `stop`: another one, or the value
+abbrev pub behind_annotation : ℕ → ℕ → Phase
+behind_annotation used stop = if used == stop then Ready else InNumber (purposes.Annotation stop) 0
 
 -- A reader may stand for these containers: they are the open ones, and what there is to tell of them was told.
 pub record Holds (r : BinaryWalk) (fs : List Frame) : Type 0 where

@@ -1,9 +1,16 @@
 //! Walks over pieces: octets of a body or a pad are taken up at once, else one.
-ghost use Rattle.std.specs.Prelude.{◌≡◌, ◌+◌, ◌-◌, ◌≤◌, ◌<◌, ◌^◌, true, false, length, None, IfOk, IfErr, IfSome, IsNone};
+ghost use Rattle.std.specs.Prelude.{◌≡◌, ◌≢◌, ℕ, ◌+◌, ◌-◌, ◌≤◌, ◌<◌, ◌^◌, [], ◌++◌, List, true, false, length, take, None, Result, IfOk, IfErr, IfSome, IsNone};
 ghost use Rattle.ion_atoms.specs.declared.refusal.Reason.TheVariants.{Memory};
+ghost use Rattle.ion_symtab.specs.Trace.{Answers};
+ghost use Rattle.ion_binary.specs.Judge.{judge};
+ghost use Rattle.ion_binary.specs.machine.EachOctet.{judged, moved};
+ghost use Rattle.ion_model.specs.declared.value.Value.{Value as AnyValue};
+ghost use Rattle.ion_binary.specs.machine.Run.{trace, whole};
 ghost use Rattle.ion_binary.specs.machine.Views.{goes_on, is_in_body};
+ghost use Rattle.ion_binary.specs.declared.state.Frame.{Frame as AnyFrame};
 ghost use Rattle.ion_binary.specs.declared.state.Phase.TheVariants as phases;
-ghost use Rattle.ion_binary.specs.walking.Holds.{SameSetting};
+ghost use Rattle.ion_binary.specs.walking.Holds.{AreAround, Does, Holds, SameSetting, setting_of, shells, spot_of, told};
+ghost use Rattle.ion_binary.specs.walking.Runs.{EndsSo, Furthers, Led, StandsFor, Took, Walks, refused_by, run_of};
 
 use super::{BinaryWalk, TableFilter};
 use crate::form::Scalar;
@@ -29,7 +36,12 @@ impl<'a> BinaryWalk<'a> {
         alloc: Global,
         catalog: &'a Catalog,
         limits: Limits,
-    ) -> Result<BinaryWalk<'a>, Reason> {
+    ) -> Result<BinaryWalk<'a>, Reason>
+        ensures stands { IfOk result (λ r. StandsFor r [] [] []) }
+        ensures catalog { IfOk result (λ r. r.catalog.now ≡ catalog.now) }
+        ensures limits { IfOk result (λ r. r.limits ≡ limits) }
+        ensures memory { IfErr result (λ reason. reason ≡ Memory) }
+    {
         let context = Context::system(alloc)?;
         Ok(BinaryWalk {
             catalog,
@@ -68,9 +80,15 @@ impl BinaryWalk<'_> {
     ) -> Result<(usize, Effect), Reason>
         requires room { self.old.used + length piece.now < 2 ^ 63 }
         requires some { 0 < length piece.now }
+        ensures does { (fs : List AnyFrame) → Holds self.old fs →
+            Took V.takes (told fs) self.old.used (run_of self.old fs) piece.now
+            result self.new visitor.old visitor.new }
         ensures some { IfOk result (λ took. 0 < took.0) }
         ensures within { IfOk result (λ took. took.0 ≤ length piece.now) }
         ensures used { IfOk result (λ took. self.new.used ≡ self.old.used + took.0) }
+        ensures decides { IfErr result (λ reason. reason ≢ Memory →
+            (self.old.used < self.new.used)
+            × (self.new.used ≤ self.old.used + length piece.now)) }
         ensures setting { SameSetting self.old self.new }
     {
         if let Some((scalar, size)) = self.ending(piece) {
@@ -111,6 +129,12 @@ impl BinaryWalk<'_> {
         visitor: &mut V,
     ) -> Result<Effect, Reason>
         requires room { self.old.used + length octets.now < 2 ^ 63 }
+        ensures does { (fs : List AnyFrame) → Holds self.old fs → AreAround fs →
+            Does V.takes (told fs)
+            (judged (setting_of self.old) (moved (spot_of self.old)
+            (self.old.used + length octets.now)) fs
+            (judge self.old.context scalar (self.old.body.items ++ octets.now)))
+            result self.new visitor.old visitor.new }
         ensures used { self.new.used ≡ self.old.used + length octets.now }
         ensures setting { SameSetting self.old self.new }
     {
@@ -130,6 +154,8 @@ impl BinaryWalk<'_> {
         requires inside { goes_on self.old.phase ≡ true }
         ensures within { IfOk result (λ count. count ≤ length piece.now) }
         ensures some { IfOk result (λ count. 0 < count) }
+        ensures led { IfOk result (λ count. (fs : List AnyFrame) → Holds self.old fs →
+            Led (run_of self.old fs (take count piece.now)) self.new fs) }
         ensures used { IfOk result (λ count. self.new.used ≡ self.old.used + count) }
         ensures memory { IfErr result (λ reason. reason ≡ Memory) }
         ensures setting { SameSetting self.old self.new }
@@ -143,11 +169,14 @@ impl BinaryWalk<'_> {
 
     /// Keeps the octets of a body that goes on behind them.
     fn take_body(&mut self, scalar: Scalar, missing: u64, piece: &[u8]) -> Result<usize, Reason>
+        requires phase { self.old.phase ≡ phases.InBody scalar missing }
         requires room { self.old.used + length piece.now < 2 ^ 63 }
         requires some { 0 < length piece.now }
         requires more { 0 < missing }
         ensures within { IfOk result (λ count. count ≤ length piece.now) }
         ensures some { IfOk result (λ count. 0 < count) }
+        ensures led { IfOk result (λ count. (fs : List AnyFrame) → Holds self.old fs →
+            Led (run_of self.old fs (take count piece.now)) self.new fs) }
         ensures used { IfOk result (λ count. self.new.used ≡ self.old.used + count) }
         ensures memory { IfErr result (λ reason. reason ≡ Memory) }
         ensures setting { SameSetting self.old self.new }
@@ -161,11 +190,14 @@ impl BinaryWalk<'_> {
 
     /// Skips the octets of a pad that goes on behind them.
     fn take_pad(&mut self, missing: u64, piece: &[u8]) -> usize
+        requires phase { self.old.phase ≡ phases.InPad missing }
         requires room { self.old.used + length piece.now < 2 ^ 63 }
         requires some { 0 < length piece.now }
         requires more { 0 < missing }
         ensures within { result ≤ length piece.now }
         ensures some { 0 < result }
+        ensures led { (fs : List AnyFrame) → Holds self.old fs →
+            Led (run_of self.old fs (take result piece.now)) self.new fs }
         ensures used { self.new.used ≡ self.old.used + result }
         ensures setting { SameSetting self.old self.new }
     {
@@ -179,8 +211,17 @@ impl BinaryWalk<'_> {
     /// octet that decided; `Memory` has the octets of earlier walks.
     fn advance<V: Visitor>(&mut self, piece: &[u8], visitor: &mut V) -> Result<Walked, Refusal>
         requires room { self.old.used + length piece.now < 2 ^ 63 }
+        ensures does { (fs : List AnyFrame) → Holds self.old fs →
+            Walks V.takes (told fs) self.old.used (run_of self.old fs) piece.now
+            result self.new visitor.old visitor.new }
         ensures within { IfOk result (λ walked. walked.used ≤ length piece.now) }
         ensures used { IfOk result (λ walked. self.new.used ≡ self.old.used + walked.used) }
+        ensures all { IfOk result (λ walked.
+            walked.ended ≡ false → walked.used ≡ length piece.now) }
+        ensures some { IfOk result (λ walked. walked.ended ≡ true → 0 < walked.used) }
+        ensures decides { IfErr result (λ refusal. refusal.reason ≢ Memory →
+            (self.old.used < refusal.offset)
+            × (refusal.offset ≤ self.old.used + length piece.now)) }
         ensures memory { IfErr result (λ refusal.
             refusal.reason ≡ Memory → refusal.offset ≡ self.old.used) }
         ensures setting { SameSetting self.old self.new }
@@ -221,20 +262,47 @@ impl BinaryWalk<'_> {
     /// where the visitor can't go on.
     pub fn walk<V: Visitor>(&mut self, piece: &[u8], visitor: &mut V) -> Result<Walked, Refusal>
         requires room { self.old.used + length piece.now < 2 ^ 63 }
+        ensures does { self.old.failed ≡ None → (fs : List AnyFrame) → Holds self.old fs →
+            Walks V.takes (told fs) self.old.used (run_of self.old fs) piece.now
+            result self.new visitor.old visitor.new }
+        ensures stands { IfOk result (λ walked. (u : List ℕ) (s : List (AnyValue × ℕ))
+            (fs : List AnyFrame) → StandsFor self.old u s fs →
+            Furthers V.takes (told fs) u s piece.now walked self.new visitor.old visitor.new) }
+        ensures again { IfSome self.old.failed (λ refusal. result ≡ Result.Err refusal) }
         ensures within { IfOk result (λ walked. walked.used ≤ length piece.now) }
+        ensures used { IfOk result (λ walked. self.new.used ≡ self.old.used + walked.used) }
+        ensures all { IfOk result (λ walked.
+            walked.ended ≡ false → walked.used ≡ length piece.now) }
+        ensures some { IfOk result (λ walked. walked.ended ≡ true → 0 < walked.used) }
+        ensures answers { IfErr result (λ refusal. (u : List ℕ) (s : List (AnyValue × ℕ))
+            (fs : List AnyFrame) → StandsFor self.old u s fs →
+            Answers (trace self.old.catalog.now self.old.limits)
+            u s piece.now (Result.Err refusal)) }
+        ensures decides { self.old.failed ≡ None → IfErr result (λ refusal.
+            refusal.reason ≢ Memory → (self.old.used < refusal.offset)
+            × (refusal.offset ≤ self.old.used + length piece.now)) }
+        ensures memory { self.old.failed ≡ None → IfErr result (λ refusal.
+            refusal.reason ≡ Memory → refusal.offset ≡ self.old.used) }
+        ensures catalog { self.new.catalog ≡ self.old.catalog }
+        ensures limits { self.new.limits ≡ self.old.limits }
+        ensures failed { self.new.failed ≡ refused_by result }
     {
         if let Some(refusal) = self.failed {
             return Err(refusal);
         }
-        let result = self.advance(piece, visitor);
-        if let Err(refusal) = &result {
-            self.failed = Some(*refusal);
+        match self.advance(piece, visitor) {
+            Ok(walked) => Ok(walked),
+            Err(refusal) => {
+                self.failed = Some(refusal);
+                Err(refusal)
+            }
         }
-        result
     }
 
     /// Whether the octets so far are whole pieces.
-    fn is_whole(&self) -> bool {
+    fn is_whole(&self) -> bool
+        ensures { result ≡ whole self.now.phase (shells self.now) }
+    {
         match self.phase {
             Phase::Ready => self.frames.is_empty(),
             _ => false,
@@ -243,7 +311,12 @@ impl BinaryWalk<'_> {
 
     /// Ends the octets, which end no value that hasn't ended: whether one ended, so never. A refusal
     /// has the octets of all pieces, `Incomplete` where they end inside a value, a pad or a marker.
-    pub fn finish_by<V: Visitor>(self, _visitor: &mut V) -> Result<bool, Refusal> {
+    pub fn finish_by<V: Visitor>(self, _visitor: &mut V) -> Result<bool, Refusal>
+        ensures ends { (u : List ℕ) (s : List (AnyValue × ℕ)) (fs : List AnyFrame) →
+            StandsFor self.entry u s fs →
+            EndsSo (trace self.entry.catalog.now self.entry.limits u).ends result }
+        ensures again { IfSome self.entry.failed (λ refusal. result ≡ Result.Err refusal) }
+    {
         let failed = self.failed;
         let whole = self.is_whole();
         let end = self.used;

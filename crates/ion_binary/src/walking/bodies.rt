@@ -1,9 +1,10 @@
 //! Bodies: of scalars, pads and containers.
 ghost use Rattle.std.specs.Prelude.{◌≡◌, ◌<◌, ◌^◌, List, []};
+ghost use Rattle.ion_binary.specs.Judge.{judge};
 ghost use Rattle.ion_binary.specs.declared.form.Form.TheVariants as forms;
 ghost use Rattle.ion_binary.specs.declared.state.Frame.{Frame as AnyFrame};
 ghost use Rattle.ion_binary.specs.machine.EachOctet.{begin, judged, on_pad, open_struct, sized};
-ghost use Rattle.ion_binary.specs.walking.Holds.{AreAround, Does, Holds, HoldsNoWrapper, SameSetting, setting_of, spot_of, told};
+ghost use Rattle.ion_binary.specs.walking.Holds.{AreAround, Does, Holds, HoldsNoWrapper, MayBegin, SameSetting, setting_of, spot_of, told};
 
 use super::{BinaryWalk, Container, heard};
 use crate::form::{Form, Listing, Scalar, bracket_of, hollow};
@@ -21,6 +22,11 @@ impl BinaryWalk<'_> {
         octets: &[u8],
         visitor: &mut V,
     ) -> Result<Effect, Reason>
+        ensures does { (fs : List AnyFrame) → Holds self.old fs → AreAround fs →
+            Does V.takes (told fs)
+            (judged (setting_of self.old) (spot_of self.old) fs
+            (judge self.old.context scalar octets.now))
+            result self.new visitor.old visitor.new }
         ensures used { self.new.used ≡ self.old.used }
         ensures setting { SameSetting self.old self.new }
     {
@@ -35,6 +41,11 @@ impl BinaryWalk<'_> {
         scalar: Scalar,
         visitor: &mut V,
     ) -> Result<Effect, Reason>
+        ensures does { (fs : List AnyFrame) → Holds self.old fs → AreAround fs →
+            Does V.takes (told fs)
+            (judged (setting_of self.old) (spot_of self.old) fs
+            (judge self.old.context scalar self.old.body.items))
+            result self.new visitor.old visitor.new }
         ensures used { self.new.used ≡ self.old.used }
         ensures setting { SameSetting self.old self.new }
     {
@@ -52,6 +63,10 @@ impl BinaryWalk<'_> {
     ) -> Result<Effect, Reason>
         requires used { self.old.used < 2 ^ 63 }
         requires size { size < 2 ^ 63 }
+        ensures does { (fs : List AnyFrame) → Holds self.old fs → MayBegin form fs →
+            Does V.takes (told fs)
+            (begin (setting_of self.old) (spot_of self.old) fs form size)
+            result self.new visitor.old visitor.new }
         ensures used { self.new.used ≡ self.old.used }
         ensures setting { SameSetting self.old self.new }
     {
@@ -85,6 +100,10 @@ impl BinaryWalk<'_> {
         size: u64,
         visitor: &mut V,
     ) -> Result<Effect, Reason>
+        ensures does { (fs : List AnyFrame) → Holds self.old fs → AreAround fs →
+            Does V.takes (told fs)
+            (begin (setting_of self.old) (spot_of self.old) fs (forms.Scalar scalar) size)
+            result self.new visitor.old visitor.new }
         ensures used { self.new.used ≡ self.old.used }
         ensures setting { SameSetting self.old self.new }
     {
@@ -170,6 +189,10 @@ impl BinaryWalk<'_> {
     ) -> Result<Effect, Reason>
         requires used { self.old.used < 2 ^ 63 }
         requires size { size < 2 ^ 63 }
+        ensures does { (fs : List AnyFrame) → Holds self.old fs →
+            Does V.takes (told fs)
+            (sized (setting_of self.old) (spot_of self.old) fs form size)
+            result self.new visitor.old visitor.new }
         ensures used { self.new.used ≡ self.old.used }
         ensures setting { SameSetting self.old self.new }
     {

@@ -1,8 +1,9 @@
 //! VarUInts: lengths, and the ids of field names and annotations.
 ghost use Rattle.std.specs.Prelude.{◌≡◌, ◌<◌, ◌^◌, List};
+ghost use Rattle.ion_symtab.specs.Slots.{resolve};
 ghost use Rattle.ion_binary.specs.declared.state.Frame.{Frame as AnyFrame};
 ghost use Rattle.ion_binary.specs.machine.EachOctet.{longer, unsized, name_came, count_came, annotation_came, number_came, on_number};
-ghost use Rattle.ion_binary.specs.walking.Holds.{Does, DoesAlone, Holds, SameSetting, setting_of, spot_of, told};
+ghost use Rattle.ion_binary.specs.walking.Holds.{Does, DoesAlone, Holds, SameSetting, behind_annotation, setting_of, spot_of, told};
 
 use super::{BinaryWalk, Container, heard};
 use crate::form::Form;
@@ -61,6 +62,10 @@ impl BinaryWalk<'_> {
         visitor: &mut V,
     ) -> Result<Effect, Reason>
         requires used { self.old.used < 2 ^ 63 }
+        ensures does { (fs : List AnyFrame) → Holds self.old fs →
+            Does V.takes (told fs)
+            (on_number (setting_of self.old) (spot_of self.old) fs purpose so_far octet)
+            result self.new visitor.old visitor.new }
         ensures used { self.new.used ≡ self.old.used }
         ensures setting { SameSetting self.old self.new }
     {
@@ -82,6 +87,10 @@ impl BinaryWalk<'_> {
     ) -> Result<Effect, Reason>
         requires used { self.old.used < 2 ^ 63 }
         requires number { number < 2 ^ 63 }
+        ensures does { (fs : List AnyFrame) → Holds self.old fs →
+            Does V.takes (told fs)
+            (number_came (setting_of self.old) (spot_of self.old) fs purpose number)
+            result self.new visitor.old visitor.new }
         ensures used { self.new.used ≡ self.old.used }
         ensures setting { SameSetting self.old self.new }
     {
@@ -96,6 +105,10 @@ impl BinaryWalk<'_> {
     /// Takes the id of a field name, behind which an octet has to be left of the struct. Whether
     /// the id has a symbol counts only if a value follows.
     fn name_came(&mut self, id: u64) -> Result<Effect, Reason>
+        ensures does { (fs : List AnyFrame) → Holds self.old fs →
+            DoesAlone (told fs)
+            (name_came (spot_of self.old) fs id)
+            result self.new }
         ensures used { self.new.used ≡ self.old.used }
         ensures setting { SameSetting self.old self.new }
     {
@@ -142,19 +155,29 @@ impl BinaryWalk<'_> {
         id: u64,
         visitor: &mut V,
     ) -> Result<Effect, Reason>
+        ensures does { (fs : List AnyFrame) → Holds self.old fs →
+            Does V.takes (told fs)
+            (annotation_came (spot_of self.old) fs stop (resolve self.old.context id))
+            result self.new visitor.old visitor.new }
         ensures used { self.new.used ≡ self.old.used }
         ensures setting { SameSetting self.old self.new }
     {
-        if self.wrapper_end().is_none() {
+        if let None = self.wrapper_end() {
             return Err(Reason::Malformed);
         }
         let symbol = self.context.resolve(id)?;
         heard(self.filter.annotation(symbol, visitor))?;
-        self.phase = if self.used == stop {
-            Phase::Ready
-        } else {
-            Phase::InNumber(Purpose::Annotation(stop), 0)
-        };
+        self.phase = self.behind_annotation(stop);
         Ok(Effect::Goes)
+    }
+
+    /// What comes behind an annotation, where the annotations end at the octet `stop`.
+    fn behind_annotation(&self, stop: u64) -> Phase
+        ensures { result ≡ behind_annotation self.now.used stop }
+    {
+        if self.used == stop {
+            return Phase::Ready;
+        }
+        Phase::InNumber(Purpose::Annotation(stop), 0)
     }
 }

@@ -2,18 +2,16 @@ use Rattle.std.proofs.Common.{List, [], ◌∷◌, ◌++◌, refl, ap, sym, subs
 use Rattle.std.specs.Prelude.{◌+◌, if◌then◌else◌}
 use Rattle.ion_atoms.specs.declared.refusal.Reason.TheVariants.{Depth}
 use Rattle.ion_visiting.specs.declared.bracket.Bracket.{Bracket}
-use Rattle.ion_visiting.specs.declared.bracket.Bracket.TheVariants as brackets
 use Rattle.ion_visiting.specs.Events.{Event, opens}
 use Rattle.ion_binary.specs.declared.state.Frame.TheVariants as frames
-use Rattle.ion_binary.specs.declared.state.Phase.TheVariants.{Ready, InNumber}
-use Rattle.ion_binary.specs.declared.state.Purpose.TheVariants as purposes
+use Rattle.ion_binary.specs.declared.state.Phase.TheVariants.{Ready}
 use Rattle.ion_binary.specs.declared.walking.BinaryWalk.{BinaryWalk}
 use Rattle.ion_binary.specs.declared.walking.Container.TheVariants as containers
 use Rattle.ion_binary.specs.visiting.Brackets.{bracket_of}
-use Rattle.ion_binary.specs.machine.EachOctet.{at, goes, proceed, refuses}
+use Rattle.ion_binary.specs.machine.EachOctet.{proceed, refuses}
 use Rattle.ion_visiting.specs.Tables.{Hears, WasTold, heard}
 use Rattle.ion_binary.specs.walking.Holds.{open_containers, setting_of, spot_of}
-use Rattle.ion_binary.proofs.Beginning.{front_does, wrapper_does}
+use Rattle.ion_binary.proofs.Beginning.{front_does}
 use Rattle.ion_binary.proofs.Ending.{pushed}
 use Rattle.ion_binary.proofs.Shells.{deepens}
 use Rattle.ion_binary.proofs.walking.BinaryWalk.begin_listing.Goals as goal

@@ -1,7 +1,6 @@
 use Rattle.ion_model.specs.declared.value.Payload.TheVariants as payloads
 use Rattle.ion_visiting.specs.declared.part.Part.TheVariants as parts
-use Rattle.ion_visiting.specs.Parts.{number_payload}
-use Rattle.ion_binary.proofs.Judged.{on_ok, part_leaf, number_leaf, symbol_leaf}
+use Rattle.ion_binary.proofs.Judged.{on_ok, part_leaf}
 use Rattle.ion_binary.proofs.walking.scalars.tell_text.Goals as goal
 
 pub returns-clause-told : goal.returns-clause-told

@@ -1,4 +1,4 @@
-use Rattle.std.proofs.Common.{◌≡◌, ℕ, [], ◌∷◌, ◌++◌, Some, codes, drop, ap, ◌∙◌}
+use Rattle.std.proofs.Common.{◌++◌, Some, codes, drop, ap, ◌∙◌}
 use Rattle.std.specs.List.{flat_map}
 use Rattle.std.specs.Vec.{vec_len}
 use Rattle.std.proofs.lemmas.Result.{on_ok_weaker}

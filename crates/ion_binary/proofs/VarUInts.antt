@@ -1,0 +1,176 @@
+-- VarUInts that have come, in a reader that holds no values: names, annotations, and what goes on.
+use Rattle.std.proofs.Common.{◌≡◌, ℕ, ◌+◌, ◌-◌, ◌*◌, ◌^◌, ◌≤◌, ◌<◌, List, [], ◌∷◌, ◌++◌, length, take, reverse, length-append, Bool, true, false, Option, Some, None, Ok, Err, refl, ap, sym, subst, ◌∙◌, arith}
+use Rattle.std.specs.Prelude.{◌==◌, nat_lt, if◌then◌else◌}
+use Rattle.std.proofs.lemmas.Bool.Decides.{nat_tests}
+use Rattle.std.proofs.lemmas.List.{reverse-append, reverse-reverse, take_at}
+use Rattle.ion_atoms.specs.declared.refusal.Reason.{Reason}
+use Rattle.ion_atoms.specs.declared.refusal.Reason.TheVariants.{Malformed, TooLarge}
+use Rattle.ion_symtab.specs.Slots.{resolve}
+use Rattle.ion_visiting.specs.Events.{Event, annotation}
+use Rattle.ion_visiting.specs.Tables.{Hears, Tells, WasTold, heard}
+use Rattle.ion_binary.specs.declared.state.Frame.{Frame}
+use Rattle.ion_binary.specs.declared.state.Frame.TheVariants as frames
+use Rattle.ion_binary.specs.declared.state.Purpose.{Purpose}
+use Rattle.ion_binary.specs.declared.state.Purpose.TheVariants as purposes
+use Rattle.ion_binary.specs.declared.state.Phase.TheVariants.{Ready, InNumber}
+use Rattle.ion_binary.specs.declared.state.Effect.TheVariants.{Goes}
+use Rattle.ion_binary.specs.declared.walking.BinaryWalk.{BinaryWalk}
+use Rattle.ion_binary.specs.declared.walking.Container.{Container}
+use Rattle.ion_binary.specs.declared.walking.Container.TheVariants as containers
+use Rattle.ion_binary.specs.machine.EachOctet.{Setting, Spot, goes, refuses, at, longer, name_came, annotation_came, number_came, on_number}
+use Rattle.ion_binary.specs.machine.Views.{body_so_far}
+use Rattle.ion_binary.specs.walking.Holds.{Does, DoesAlone, Holds, IsInside, Name, behind_annotation, containers_of, fields_end, name_of, open_containers, spot_of, told, wrapper_end}
+use Rattle.ion_binary.proofs.Tellings.{note_told}
+use Rattle.ion_binary.proofs.Ending.{tail_of}
+
+-- 1. The id of a field's name.
+
+-- all containers but the innermost one, which is the last in memory
+pub popped : (xs : List Container) → reverse (take (length xs - 1) xs) ≡ tail_of (reverse xs)
+popped xs = subst (λ (w : List Container). reverse (take (length w - 1) w) ≡ tail_of (reverse w)) (reverse-reverse xs) (of_reversed (reverse xs))
+  where
+    of_reversed : (ys : List Container) → reverse (take (length (reverse ys) - 1) (reverse ys)) ≡ tail_of (reverse (reverse ys))
+    of_reversed [] = refl
+    of_reversed (y ∷ ys) =
+        let split : reverse (y ∷ ys) ≡ reverse ys ++ y ∷ [] = reverse-append (y ∷ []) ys in
+        let size : length (reverse ys) ≡ length (reverse ys ++ y ∷ []) - 1 = omega (arith, length-append (reverse ys) (y ∷ [])) in
+        ap (λ w. reverse (take (length w - 1) w)) split
+        ∙ (ap reverse (take_at (reverse ys) (y ∷ []) (length (reverse ys ++ y ∷ []) - 1) size)
+        ∙ (reverse-reverse ys ∙ ap tail_of (sym (reverse-reverse (y ∷ ys)))))
+
+pub name_stray : (cs : List Container) (fs : List Frame) (spot : Spot) (id : ℕ) → None ≡ fields_end cs → cs ≡ containers_of fs
+    → name_came spot fs id ≡ refuses Malformed
+name_stray cs [] spot id none same = refl
+name_stray cs (frames.Items end x vs ∷ fs) spot id none same = refl
+name_stray cs (frames.Fields end ms ∷ fs) spot id none same = let e : None ≡ Some end = none ∙ ap fields_end same in absurd cc
+name_stray cs (frames.Named end ms n ∷ fs) spot id none same = refl
+name_stray cs (frames.Annotated end ss ∷ fs) spot id none same = refl
+
+-- no octet is left of the struct
+pub name_last : (cs : List Container) (fs : List Frame) (spot : Spot) (id end : ℕ) → Some end ≡ fields_end cs → cs ≡ containers_of fs → end ≤ spot.used
+    → name_came spot fs id ≡ refuses Malformed
+name_last cs [] spot id end some same last = refl
+name_last cs (frames.Items to x vs ∷ fs) spot id end some same last = refl
+name_last cs (frames.Fields to ms ∷ fs) spot id end some same last =
+    let e : Some end ≡ Some to = some ∙ ap fields_end same in
+    let is : end ≡ to = cc in
+    let test : nat_lt spot.used to ≡ false = grind (arith, nat_tests) in
+    ap (λ b. if b then goes (at spot (frames.Named to ms (resolve spot.context id) ∷ fs) Ready) else refuses Malformed) test
+name_last cs (frames.Named to ms n ∷ fs) spot id end some same last = refl
+name_last cs (frames.Annotated to ss ∷ fs) spot id end some same last = refl
+
+pub name_does : (r new : BinaryWalk) (id end : ℕ) → Some end ≡ fields_end (open_containers r) → r.used < end
+    → open_containers new ≡ containers.Named end ∷ tail_of (open_containers r) → name_of new ≡ resolve r.context id → spot_of new ≡ spot_of r
+    → new.filter ≡ r.filter → new.phase ≡ Ready → (fs : List Frame) → Holds r fs → DoesAlone (told fs) (name_came (spot_of r) fs id) (Ok Goes) new
+name_does r new id end some left pushed named spot kept phase [] h = let e : Some end ≡ None = some ∙ ap fields_end h.containers in absurd cc
+name_does r new id end some left pushed named spot kept phase (frames.Items to x vs ∷ fs) h =
+    let e : Some end ≡ None = some ∙ ap fields_end h.containers in absurd cc
+name_does r new id end some left pushed named spot kept phase (frames.Named to ms n ∷ fs) h =
+    let e : Some end ≡ None = some ∙ ap fields_end h.containers in absurd cc
+name_does r new id end some left pushed named spot kept phase (frames.Annotated to ss ∷ fs) h =
+    let e : Some end ≡ None = some ∙ ap fields_end h.containers in absurd cc
+name_does r new id end some left pushed named spot kept phase (frames.Fields to ms ∷ fs) h =
+    let e : Some end ≡ Some to = some ∙ ap fields_end h.containers in
+    let is : end ≡ to = cc in
+    let test : nat_lt r.used to ≡ true = grind (arith, nat_tests) in
+    let s = resolve r.context id in (
+      frames.Named to ms s ∷ fs,
+      ap (λ b. if b then goes (at (spot_of r) (frames.Named to ms s ∷ fs) Ready) else refuses Malformed) test
+          ∙ (ap (λ t. goes (at t (frames.Named to ms s ∷ fs) Ready)) (sym spot)
+          ∙ ap (λ p. goes (record { spot = spot_of new; frames = frames.Named to ms s ∷ fs; phase = p; body = body_so_far p new.body.items })) (sym phase)),
+      record {
+        containers = pushed ∙ (ap (λ k. containers.Named k ∷ tail_of (open_containers r)) is ∙ ap (λ cs. containers.Named to ∷ tail_of cs) h.containers);
+        named = sym named;
+        open_there = h.open_there;
+        inside = subst (λ p. IsInside p (frames.Named to ms s ∷ fs)) (sym phase) tt;
+        was_told = subst (λ f. WasTold f (told (frames.Fields to ms ∷ fs))) (sym kept) h.was_told;
+      },
+      refl,
+    )
+
+-- 2. The id of an annotation.
+
+pub note_stray : (cs : List Container) (fs : List Frame) (spot : Spot) (stop : ℕ) (s : Name) → None ≡ wrapper_end cs → cs ≡ containers_of fs
+    → annotation_came spot fs stop s ≡ refuses Malformed
+note_stray cs [] spot stop s none same = refl
+note_stray cs (frames.Items end x vs ∷ fs) spot stop s none same = refl
+note_stray cs (frames.Fields end ms ∷ fs) spot stop s none same = refl
+note_stray cs (frames.Named end ms n ∷ fs) spot stop s none same = refl
+note_stray cs (frames.Annotated end ss ∷ fs) spot stop s none same = let e : None ≡ Some end = none ∙ ap wrapper_end same in absurd cc
+
+pub note_refused : (cs : List Container) (fs : List Frame) (spot : Spot) (stop end : ℕ) (s : Name) (e : Reason) → Some end ≡ wrapper_end cs
+    → cs ≡ containers_of fs → s ≡ Err e → annotation_came spot fs stop s ≡ refuses e
+note_refused cs [] spot stop end s e some same is = let n : Some end ≡ None = some ∙ ap wrapper_end same in absurd cc
+note_refused cs (frames.Items to x vs ∷ fs) spot stop end s e some same is = let n : Some end ≡ None = some ∙ ap wrapper_end same in absurd cc
+note_refused cs (frames.Fields to ms ∷ fs) spot stop end s e some same is = let n : Some end ≡ None = some ∙ ap wrapper_end same in absurd cc
+note_refused cs (frames.Named to ms n ∷ fs) spot stop end s e some same is = let m : Some end ≡ None = some ∙ ap wrapper_end same in absurd cc
+note_refused cs (frames.Annotated to ss ∷ fs) spot stop end s e some same is = ap (annotation_came spot (frames.Annotated to ss ∷ fs) stop) is
+
+keeps_none : (b : Bool) (stop : ℕ) (w : List ℕ) → body_so_far (if b then Ready else InNumber (purposes.Annotation stop) 0) w ≡ []
+keeps_none true stop w = refl
+keeps_none false stop w = refl
+
+is_inside : (b : Bool) (stop : ℕ) (fs : List Frame) → IsInside (if b then Ready else InNumber (purposes.Annotation stop) 0) fs
+is_inside true stop fs = tt
+is_inside false stop fs = tt
+
+module _ {V : Type 0} (takes : V → Event → V → Type 0) (r new : BinaryWalk) (stop end : ℕ) (name : Name) (s : Option (List ℕ)) (a b : V)
+    (some : Some end ≡ wrapper_end (open_containers r)) (is : name ≡ Ok s) (same : open_containers new ≡ open_containers r) (spot : spot_of new ≡ spot_of r)
+    (phase : new.phase ≡ behind_annotation r.used stop) (tells : Tells takes (annotation s) r.filter new.filter a b) where
+  pub note_does : (fs : List Frame) → Holds r fs → Does takes (told fs) (annotation_came (spot_of r) fs stop name) (Ok Goes) new a b
+  note_does [] h = let n : Some end ≡ None = some ∙ ap wrapper_end h.containers in absurd cc
+  note_does (frames.Items to x vs ∷ fs) h = let n : Some end ≡ None = some ∙ ap wrapper_end h.containers in absurd cc
+  note_does (frames.Fields to ms ∷ fs) h = let n : Some end ≡ None = some ∙ ap wrapper_end h.containers in absurd cc
+  note_does (frames.Named to ms n ∷ fs) h = let m : Some end ≡ None = some ∙ ap wrapper_end h.containers in absurd cc
+  note_does (frames.Annotated to ss ∷ fs) h =
+      let more = note_told to fs ss s in
+      let i = tells (told (frames.Annotated to ss ∷ fs)) h.was_told in
+      let gs = frames.Annotated to (ss ++ s ∷ []) ∷ fs in
+      let next = behind_annotation r.used stop in (
+        gs,
+        ap (annotation_came (spot_of r) (frames.Annotated to ss ∷ fs) stop) is
+            ∙ (ap (λ t. goes (at t gs next)) (sym spot)
+            ∙ (ap (λ w. goes (record { spot = spot_of new; frames = gs; phase = next; body = w })) (sym (keeps_none (r.used == stop) stop new.body.items))
+            ∙ ap (λ p. goes (record { spot = spot_of new; frames = gs; phase = p; body = body_so_far p new.body.items })) (sym phase))),
+        record {
+          holds = record {
+            containers = same ∙ h.containers;
+            named = tt;
+            open_there = h.open_there;
+            inside = subst (λ p. IsInside p gs) (sym phase) (is_inside (r.used == stop) stop gs);
+            was_told = subst (λ es. WasTold new.filter es) more i.0;
+          };
+          hears = subst (λ es. Hears takes (heard (told (frames.Annotated to ss ∷ fs))) (heard es) a b) more i.1;
+        },
+      )
+
+-- 3. An octet of a VarUInt.
+
+module _ (setting : Setting) (spot : Spot) (fs : List Frame) (p : Purpose) (a b : ℕ) where
+  pub number_large : 2 ^ 56 ≤ a → on_number setting spot fs p a b ≡ refuses TooLarge
+  number_large large =
+      let more : nat_lt (128 * a + b) (2 ^ 63) ≡ false = grind (arith, nat_tests) in
+      let last : nat_lt (128 * a + (b - 128)) (2 ^ 63) ≡ false = grind (arith, nat_tests) in
+      either (nat_lt b 128) more last
+    where
+      either : (t : Bool) → nat_lt (128 * a + b) (2 ^ 63) ≡ false → nat_lt (128 * a + (b - 128)) (2 ^ 63) ≡ false
+          → (if t then (if nat_lt (128 * a + b) (2 ^ 63) then longer setting spot fs p (128 * a + b) else refuses TooLarge)
+          else (if nat_lt (128 * a + (b - 128)) (2 ^ 63) then number_came setting spot fs p (128 * a + (b - 128)) else refuses TooLarge)) ≡ refuses TooLarge
+      either true more last = ap (λ x. if x then longer setting spot fs p (128 * a + b) else refuses TooLarge) more
+      either false more last = ap (λ x. if x then number_came setting spot fs p (128 * a + (b - 128)) else refuses TooLarge) last
+
+  pub number_goes_on : a < 2 ^ 56 → b < 128 → on_number setting spot fs p a b ≡ longer setting spot fs p (128 * a + b)
+  number_goes_on small high =
+      let t : nat_lt b 128 ≡ true = grind (arith, nat_tests) in
+      let u : nat_lt (128 * a + b) (2 ^ 63) ≡ true = grind (arith, nat_tests) in
+      ap (λ x. if x then (if nat_lt (128 * a + b) (2 ^ 63) then longer setting spot fs p (128 * a + b) else refuses TooLarge)
+      else (if nat_lt (128 * a + (b - 128)) (2 ^ 63) then number_came setting spot fs p (128 * a + (b - 128)) else refuses TooLarge)) t
+      ∙ ap (λ x. if x then longer setting spot fs p (128 * a + b) else refuses TooLarge) u
+
+  pub number_ends : a < 2 ^ 56 → 128 ≤ b → b < 256 → on_number setting spot fs p a b ≡ number_came setting spot fs p (128 * a + (b - 128))
+  number_ends small high octet =
+      let t : nat_lt b 128 ≡ false = grind (arith, nat_tests) in
+      let u : nat_lt (128 * a + (b - 128)) (2 ^ 63) ≡ true = grind (arith, nat_tests) in
+      ap (λ x. if x then (if nat_lt (128 * a + b) (2 ^ 63) then longer setting spot fs p (128 * a + b) else refuses TooLarge)
+      else (if nat_lt (128 * a + (b - 128)) (2 ^ 63) then number_came setting spot fs p (128 * a + (b - 128)) else refuses TooLarge)) t
+      ∙ ap (λ x. if x then number_came setting spot fs p (128 * a + (b - 128)) else refuses TooLarge) u

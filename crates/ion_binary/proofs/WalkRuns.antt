@@ -1,0 +1,287 @@
+-- Runs over octets in a reader that holds no values.
+use Rattle.std.proofs.Common.{◌≡◌, ℕ, ◌+◌, ◌-◌, ◌≤◌, ◌<◌, List, [], ◌∷◌, ◌++◌, length, reverse, take, drop, get_or, append-nil, length-append, None, Bool, true, false, Ok, Err, refl, ap, sym, subst, ◌∙◌, arith, ne_eqb}
+use Rattle.std.specs.Prelude.{◌==◌, if◌then◌else◌}
+use Rattle.std.proofs.lemmas.Bool.{false≢true}
+use Rattle.std.proofs.lemmas.List.{length-take-le, take-append-drop}
+use Rattle.ion_atoms.specs.declared.refusal.Refusal.{Refusal}
+use Rattle.ion_atoms.specs.declared.refusal.Reason.{Reason}
+use Rattle.ion_atoms.specs.declared.refusal.Reason.TheVariants.{Incomplete}
+use Rattle.ion_model.specs.declared.value.Value.{Value}
+use Rattle.ion_symtab.specs.Trace.{Answers}
+use Rattle.ion_symtab.specs.declared.limits.Limits.{Limits}
+use Rattle.ion_symtab.specs.declared.catalog.Catalog.{Catalog}
+use Rattle.ion_symtab.specs.Slots.{system_slots}
+use Rattle.ion_visiting.specs.Events.{Event}
+use Rattle.ion_visiting.specs.Tables.{WasTold, heard}
+use Rattle.ion_visiting.specs.laws.Filters.{hears_none}
+use Rattle.ion_binary.specs.declared.form.Scalar.{Scalar}
+use Rattle.ion_binary.specs.declared.state.Frame.{Frame}
+use Rattle.ion_binary.specs.declared.state.Frame.TheVariants as frames
+use Rattle.ion_binary.specs.declared.state.Phase.{Phase}
+use Rattle.ion_binary.specs.declared.state.Phase.TheVariants.{InMarker, Ready, InNumber, InBody, InPad}
+use Rattle.ion_binary.specs.declared.state.Mark.TheVariants.{First}
+use Rattle.ion_binary.specs.declared.state.Effect.{Effect}
+use Rattle.ion_binary.specs.declared.state.Effect.TheVariants.{Goes, Gives}
+use Rattle.ion_binary.specs.declared.walking.BinaryWalk.{BinaryWalk}
+use Rattle.ion_binary.specs.Judge.{judge}
+use Rattle.ion_binary.specs.machine.EachOctet.{Machine, Outcome, refuses, under, at, feed, initial, judged, moved, spot_at}
+use Rattle.ion_binary.specs.machine.Pieces.{run_after, run-append, then_run}
+use Rattle.ion_binary.specs.machine.Run.{Run, ends_of, run, trace, trace_of, whole}
+use Rattle.ion_binary.specs.machine.Views.{body_so_far}
+use Rattle.ion_binary.specs.walking.Holds.{AreAround, Does, Holds, IsInside, Name, WentOn, machine_of, name_of, setting_of, shells, spot_of, told}
+use Rattle.ion_binary.specs.walking.Runs.{Furthers, Led, Reached, StandsFor, Took, Walks, refused_at, run_of}
+use Rattle.ion_binary.proofs.Insides.{body_ends, refused_whole}
+use Rattle.ion_binary.proofs.Leading.{LeadsFromStart, leads_by, leads_to_end, leads_to_value, whole_rest, within_rest}
+use Rattle.ion_binary.proofs.Shells.{emptied, shells_of}
+use Rattle.ion_binary.proofs.Tellings.{went_behind, gave_behind}
+
+-- 1. Octets at the front of a piece.
+
+pub around_body : (phase : Phase) (t : Scalar) (n : ℕ) (fs : List Frame) → phase ≡ InBody t n → IsInside phase fs → AreAround fs
+around_body phase t n fs is h = subst (λ p. IsInside p fs) is h
+
+-- no octets were kept where their number is 0
+pub empty_where : (w : List ℕ) → (length w == 0) ≡ true → w ≡ []
+empty_where [] e = refl
+empty_where (b ∷ bs) e = absurd (false≢true (sym (ne_eqb (length (b ∷ bs)) 0 (λ i. omega arith)) ∙ e))
+
+-- one octet
+pub octet_run : (g : Catalog) (l : Limits) (used : ℕ) (m : Machine) (piece : List ℕ) → 0 < length piece
+    → run g l used m (take 1 piece) ≡ run_after (used + 1) (feed (under g l) m (get_or piece 0 0))
+octet_run g l used m [] some = absurd (omega arith)
+octet_run g l used m (b ∷ bs) some = refl
+
+module _ {V : Type 0} (takes : V → Event → V → Type 0) (es : List Event) where
+  -- a run that a method's outcome ends
+  pub reached_by : (o : Outcome) (effect : Effect) (r : BinaryWalk) (ran : Run) (to : ℕ) (a b : V) → ran ≡ run_after to o
+      → Does takes es o (Ok effect) r a b → Reached takes es ran to effect r a b
+  reached_by o Goes r ran to a b e d = (d.0, e ∙ ap (run_after to) d.1, d.2)
+  reached_by o Gives r ran to a b e d = (d.0, e ∙ ap (run_after to) d.1, d.2)
+
+module _ {V : Type 0} (takes : V → Event → V → Type 0) (r : BinaryWalk) (fs : List Frame) (h : Holds r fs) (piece : List ℕ) (new : BinaryWalk) (a b : V) where
+  -- octets with whose last a scalar ends
+  module _ (t : Scalar) (k : ℕ) (phase : r.phase ≡ InBody t (k - 1)) (some : 0 < k) (within : k ≤ length piece) where
+    abbrev ends_with : ℕ → Outcome
+    ends_with j = judged (setting_of r) (moved (spot_of r) (r.used + j)) fs (judge r.context t (r.body.items ++ take k piece))
+
+    size : length (take k piece) ≡ k
+    size = length-take-le k piece within
+
+    ends_run : run_of r fs (take k piece) ≡ run_after (r.used + k) (ends_with k)
+    ends_run = body_ends r.catalog.now r.limits (spot_of r) fs r.body.items t k r.phase piece phase some within
+
+    pub end_took : (effect : Effect)
+        → ((gs : List Frame) → Holds r gs → AreAround gs → Does takes (told gs)
+        (judged (setting_of r) (moved (spot_of r) (r.used + length (take k piece))) gs (judge r.context t (r.body.items ++ take k piece))) (Ok effect) new a b)
+        → Took takes (told fs) r.used (run_of r fs) piece (Ok (k, effect)) new a b
+    end_took effect does = (
+      some,
+      within,
+      reached_by takes (told fs) (ends_with k) effect new (run_of r fs (take k piece)) (r.used + k) a b ends_run
+          (subst (λ (j : ℕ). Does takes (told fs) (ends_with j) (Ok effect) new a b) size (does fs h (around_body r.phase t (k - 1) fs phase h.inside))),
+    )
+
+    pub end_refused : (reason : Reason) → new.used ≡ r.used + length (take k piece)
+        → ((gs : List Frame) → Holds r gs → AreAround gs → Does takes (told gs)
+        (judged (setting_of r) (moved (spot_of r) (r.used + length (take k piece))) gs (judge r.context t (r.body.items ++ take k piece))) (Err reason) new a b)
+        → Took takes (told fs) r.used (run_of r fs) piece (Err reason) new a b
+    end_refused reason used does = λ other.
+        let place : r.used + k ≡ new.used = omega (arith, size) in
+        refused_whole r.catalog.now r.limits r.used (machine_of r fs) piece k reason within
+        (ends_run
+        ∙ ap (run_after (r.used + k)) (subst (λ (j : ℕ). ends_with j ≡ refuses reason) size
+        (does fs h (around_body r.phase t (k - 1) fs phase h.inside) other)))
+        ∙ ap (λ j. refused_at (record { offset = j; reason = reason })) place
+
+  -- one octet
+  pub octet_took : (effect : Effect) → 0 < length piece
+      → Does takes (told fs) (feed (setting_of r) (machine_of r fs) (get_or piece 0 0)) (Ok effect) new a b
+      → Took takes (told fs) r.used (run_of r fs) piece (Ok (1, effect)) new a b
+  octet_took effect some does = (
+    omega arith,
+    omega arith,
+    reached_by takes (told fs) (feed (setting_of r) (machine_of r fs) (get_or piece 0 0)) effect new (run_of r fs (take 1 piece)) (r.used + 1) a b
+        (octet_run r.catalog.now r.limits r.used (machine_of r fs) piece some) does,
+  )
+
+  pub octet_refused : (reason : Reason) → 0 < length piece → new.used ≡ r.used + 1
+      → Does takes (told fs) (feed (setting_of r) (machine_of r fs) (get_or piece 0 0)) (Err reason) new a b
+      → Took takes (told fs) r.used (run_of r fs) piece (Err reason) new a b
+  octet_refused reason some used does = λ other.
+      refused_whole r.catalog.now r.limits r.used (machine_of r fs) piece 1 reason (omega arith)
+      (octet_run r.catalog.now r.limits r.used (machine_of r fs) piece some ∙ ap (run_after (r.used + 1)) (does other))
+      ∙ ap (λ j. refused_at (record { offset = j; reason = reason })) (sym used)
+
+-- octets that a body or a pad goes on behind
+pub inside_took : {V : Type 0} (takes : V → Event → V → Type 0) (r new : BinaryWalk) (fs : List Frame) (piece : List ℕ) (k : ℕ) (a : V) → 0 < k → k ≤ length piece
+    → Led (run_of r fs (take k piece)) new fs → Took takes (told fs) r.used (run_of r fs) piece (Ok (k, Goes)) new a a
+inside_took takes r new fs piece k a some within leads = (
+  some,
+  within,
+  (fs, leads.0, record { holds = leads.1; hears = hears_none takes (heard (told fs)) (heard (told fs)) a refl }),
+)
+
+-- 2. The octets of a piece, one step behind the other.
+
+-- before the first of them
+leads_none : (g : Catalog) (l : Limits) (to : ℕ) (m : Machine) (piece : List ℕ) → LeadsFromStart g l to m piece 0 m
+leads_none g l to m piece = record { onward = λ rest. let i : to ≡ to + 0 = omega arith in ap (λ k. run g l k m rest) i }
+
+module _ {V : Type 0} (takes : V → Event → V → Type 0) (r : BinaryWalk) (fs : List Frame) (piece : List ℕ) where
+  -- i octets of the piece led to s, and a visitor heard what there is to hear
+  pub record LedOn (i : ℕ) (s : BinaryWalk) (a b : V) : Type 0 where
+    pub frames : List Frame
+    pub leads : LeadsFromStart r.catalog.now r.limits r.used (machine_of r fs) piece i (machine_of s frames)
+    pub went : WentOn takes (told fs) s frames a b
+
+  pub led_on_none : Holds r fs → (a : V) → LedOn 0 r a a
+  led_on_none h a = record {
+    frames = fs;
+    leads = leads_none r.catalog.now r.limits r.used (machine_of r fs) piece;
+    went = record { holds = h; hears = hears_none takes (heard (told fs)) (heard (told fs)) a refl };
+  }
+
+  module _ (i : ℕ) (s : BinaryWalk) (a m b : V) (catalog : s.catalog ≡ r.catalog) (limits : s.limits ≡ r.limits) (used : s.used ≡ r.used + i) (before : LedOn i s a m) (new : BinaryWalk) where
+    abbrev rest : List ℕ
+    rest = take (length piece - i) (drop i piece)
+
+    pub led_on_more : (k : ℕ) → Took takes (told before.frames) s.used (run_of s before.frames) rest (Ok (k, Goes)) new m b → LedOn (i + k) new a b
+    led_on_more k took = record {
+      frames = took.2.0;
+      leads = leads_by r.catalog.now r.limits r.used (machine_of r fs) (machine_of s before.frames) (machine_of new took.2.0) piece i k s.used s.catalog.now s.limits
+          (ap (λ (x : _). x.now) catalog) limits used took.1 took.2.1 before.leads;
+      went = went_behind takes (told fs) (told before.frames) new took.2.0 a m b before.went.hears took.2.2;
+    }
+
+    pub led_on_gives : (k : ℕ) → Took takes (told before.frames) s.used (run_of s before.frames) rest (Ok (k, Gives)) new m b
+        → Walks takes (told fs) r.used (run_of r fs) piece (Ok (record { used = i + k; ended = true })) new a b
+    led_on_gives k took = (
+      within_rest piece i k took.0 took.1,
+      (
+        omega (arith, took.0),
+        (
+          took.2.0,
+          leads_to_value r.catalog.now r.limits r.used (machine_of r fs) (machine_of s before.frames) (machine_of new []) piece i k s.used s.catalog.now s.limits took.2.0
+              (ap (λ (x : _). x.now) catalog) limits used took.2.1 before.leads,
+          gave_behind takes (told fs) (told before.frames) new took.2.0 a m b before.went.hears took.2.2,
+        ),
+      ),
+    )
+
+    pub led_on_refused : (reason : Reason) → i ≤ length piece → Took takes (told before.frames) s.used (run_of s before.frames) rest (Err reason) new m b
+        → Walks takes (told fs) r.used (run_of r fs) piece (Err (record { offset = new.used; reason = reason })) new a b
+    led_on_refused reason small took = λ other.
+        ap (run_of r fs) (sym (take-append-drop i piece))
+        ∙ (before.leads.onward (drop i piece)
+        ∙ (ap (λ w. run r.catalog.now r.limits (r.used + i) (machine_of s before.frames) w) (sym (whole_rest piece i))
+        ∙ (ap (λ k. run r.catalog.now r.limits k (machine_of s before.frames) rest) (sym used)
+        ∙ (ap (λ l. run r.catalog.now l s.used (machine_of s before.frames) rest) (sym limits)
+        ∙ (ap (λ (g : _). run g.now s.limits s.used (machine_of s before.frames) rest) (sym catalog) ∙ took other)))))
+
+  pub led_on_end : (i : ℕ) (s : BinaryWalk) (a b : V) → length piece ≤ i → LedOn i s a b
+      → Walks takes (told fs) r.used (run_of r fs) piece (Ok (record { used = length piece; ended = false })) s a b
+  led_on_end i s a b all before = (
+    omega arith,
+    (
+      refl,
+      (before.frames, leads_to_end r.catalog.now r.limits r.used (machine_of r fs) (machine_of s before.frames) piece i all before.leads, before.went),
+    ),
+  )
+
+-- 3. Behind the octets of earlier pieces.
+
+module _ {V : Type 0} (takes : V → Event → V → Type 0) (old new : BinaryWalk) (u : List ℕ) (s : List (Value × ℕ)) (fs : List Frame) (h : StandsFor old u s fs)
+    (piece : List ℕ) (a b : V) (fine : new.failed ≡ None) (catalog : new.catalog ≡ old.catalog) (limits : new.limits ≡ old.limits) where
+  ran_behind : (w : List ℕ) (given : List (Value × ℕ)) (gs : List Frame) → run_of old fs w ≡ record { given = given; now = Ok (machine_of new gs) }
+      → run new.catalog.now new.limits 0 initial (u ++ w) ≡ record { given = s ++ given; now = Ok (machine_of new gs) }
+  ran_behind w given gs e =
+      let place : old.used ≡ 0 + length u = omega (arith, h.counted) in
+      subst (λ (g : _). run g.now new.limits 0 initial (u ++ w) ≡ record { given = s ++ given; now = Ok (machine_of new gs) }) (sym catalog)
+      (subst (λ (l : _). run old.catalog.now l 0 initial (u ++ w) ≡ record { given = s ++ given; now = Ok (machine_of new gs) }) (sym limits)
+      (run-append old.catalog.now old.limits 0 old.used u w place initial
+      ∙ (ap (λ r. then_run r (λ n. run old.catalog.now old.limits old.used n w)) h.ran
+      ∙ ap (λ r. record { given = s ++ r.given; now = r.now }) e)))
+
+  pub walk_stands : (used : ℕ) (ended : Bool) → new.used ≡ old.used + used
+      → Walks takes (told fs) old.used (run_of old fs) piece (Ok (record { used = used; ended = ended })) new a b
+      → Furthers takes (told fs) u s piece (record { used = used; ended = ended }) new a b
+  walk_stands used false counts w = (
+    w.1.1.0,
+    record {
+      fine = fine;
+      counted = omega (arith, h.counted, counts, w.1.0, length-append u piece);
+      holds = w.1.1.2.holds;
+      ran = ran_behind piece [] w.1.1.0 w.1.1.1 ∙ ap (λ given. record { given = given; now = Ok (machine_of new w.1.1.0) }) (append-nil s);
+    },
+    w.1.1.2.hears,
+  )
+  walk_stands used true counts w = (
+    w.1.1.0,
+    record {
+      fine = fine;
+      counted = omega (arith, h.counted, counts, length-append u (take used piece), length-take-le used piece w.0);
+      holds = w.1.1.2.holds;
+      ran = ran_behind (take used piece) ((w.1.1.0, old.used + used) ∷ []) [] w.1.1.1
+          ∙ ap (λ n. record { given = s ++ (w.1.1.0, n + used) ∷ []; now = Ok (machine_of new []) }) h.counted;
+    },
+    w.1.1.2.hears,
+  )
+
+-- what is refused is refused behind them
+pub walk_answers : {V : Type 0} (takes : V → Event → V → Type 0) (old new : BinaryWalk) (u : List ℕ) (s : List (Value × ℕ)) (fs : List Frame) → StandsFor old u s fs
+    → (piece : List ℕ) (refusal : Refusal) (a b : V) → Walks takes (told fs) old.used (run_of old fs) piece (Err refusal) new a b
+    → Answers (trace old.catalog.now old.limits) u s piece (Err refusal)
+walk_answers takes old new u s fs h piece refusal a b w = λ other.
+    let place : old.used ≡ 0 + length u = omega (arith, h.counted) in
+    let after = run-append old.catalog.now old.limits 0 old.used u piece place initial
+    ∙ (ap (λ r. then_run r (λ n. run old.catalog.now old.limits old.used n piece)) h.ran
+    ∙ ap (λ r. record { given = s ++ r.given; now = r.now }) (w other)) in
+    (ap (λ (x : Run). (trace_of x).given) after ∙ append-nil s, ap (λ (x : Run). (trace_of x).refused) after)
+
+-- 4. The end of the octets.
+
+whole_same : (p : Phase) (n : Name) (fs : List Frame) → whole p (emptied n fs) ≡ whole p fs
+whole_same Ready n [] = refl
+whole_same Ready n (frames.Items end x vs ∷ fs) = refl
+whole_same Ready n (frames.Fields end ms ∷ fs) = refl
+whole_same Ready n (frames.Named end ms m ∷ fs) = refl
+whole_same Ready n (frames.Annotated end ss ∷ fs) = refl
+whole_same (InMarker k good) n fs = refl
+whole_same (InNumber k a) n fs = refl
+whole_same (InBody t missing) n fs = refl
+whole_same (InPad missing) n fs = refl
+
+module _ (r : BinaryWalk) (u : List ℕ) (s : List (Value × ℕ)) (fs : List Frame) (h : StandsFor r u s fs) (is_whole : Bool) (is : is_whole ≡ whole r.phase (shells r)) where
+  ends_at : (trace r.catalog.now r.limits u).ends ≡ (if is_whole then Ok None else Err (record { offset = r.used; reason = Incomplete }))
+  ends_at = ap (λ x. ends_of x.now) h.ran
+      ∙ ap (λ (t : Bool). if t then Ok None else Err (record { offset = r.used; reason = Incomplete }))
+      (sym (is ∙ (ap (whole r.phase) (shells_of r fs h.holds) ∙ whole_same r.phase (name_of r) fs)))
+
+  pub ends_whole : is_whole ≡ true → (trace r.catalog.now r.limits u).ends ≡ Ok None
+  ends_whole e = ends_at ∙ ap (λ (t : Bool). if t then Ok None else Err (record { offset = r.used; reason = Incomplete })) e
+
+  pub ends_cut : is_whole ≡ false → (trace r.catalog.now r.limits u).ends ≡ Err (record { offset = r.used; reason = Incomplete })
+  ends_cut e = ends_at ∙ ap (λ (t : Bool). if t then Ok None else Err (record { offset = r.used; reason = Incomplete })) e
+
+-- 5. Before the first octet.
+
+machine_new : (r : BinaryWalk) → r.used ≡ 0 → r.start ≡ 0 → r.context ≡ system_slots → r.phase ≡ InMarker First true → machine_of r [] ≡ initial
+machine_new r used start context phase =
+    ap (λ (p : Phase). record { spot = spot_of r; frames = []; phase = p; body = body_so_far p r.body.items }) phase
+    ∙ (ap (λ n. at (spot_at n r.start r.context) [] (InMarker First true)) used
+    ∙ (ap (λ n. at (spot_at 0 n r.context) [] (InMarker First true)) start ∙ ap (λ c. at (spot_at 0 0 c) [] (InMarker First true)) context))
+
+pub new_stands : (r : BinaryWalk) → r.failed ≡ None → r.used ≡ 0 → r.start ≡ 0 → r.context ≡ system_slots → r.phase ≡ InMarker First true
+    → r.frames.items ≡ [] → WasTold r.filter [] → StandsFor r [] [] []
+new_stands r fine used start context phase none was = record {
+  fine = fine;
+  counted = used;
+  holds = record {
+    containers = ap reverse none;
+    named = tt;
+    open_there = tt;
+    inside = subst (λ (p : Phase). IsInside p []) (sym phase) tt;
+    was_told = was;
+  };
+  ran = ap (λ m. record { given = []; now = Ok m }) (sym (machine_new r used start context phase));
+}

@@ -1,0 +1,58 @@
+use Rattle.std.proofs.Common.{rules, ◌-◌, Ok, length, take, drop, arith, subst}
+use Rattle.ion_binary.specs.declared.state.Effect.{Effect}
+use Rattle.ion_binary.specs.walking.Holds.{told}
+use Rattle.ion_binary.specs.walking.Runs.{Took, run_of}
+use Rattle.ion_binary.proofs.WalkRuns.{led_on_none, led_on_more, led_on_gives, led_on_refused, led_on_end}
+use Rattle.ion_binary.proofs.walking.BinaryWalk.advance.Goals as goal
+
+pub loop-i-init : goal.loop-i-init
+loop-i-init g c = record {
+  i = search rules;
+  ran = λ fs h. led_on_none g.V.Visitor.takes c.args.self.now fs c.args.piece.now h c.args.visitor.now;
+  used = search rules;
+  setting = search rules;
+}
+
+pub loop-i-preserved : goal.loop-i-preserved
+loop-i-preserved g c = record {
+  i = search rules;
+  ran = λ fs h.
+      let s = c.loop-i.self in
+      let new = c.take_up.new.self in
+      let piece = c.args.piece.now in
+      let before = c.loop-i.invariant.ran fs h in
+      let k = c.in-Ok-default-Goes.count in
+      led_on_more g.V.Visitor.takes c.args.self.now fs piece c.loop-i.i s c.args.visitor.now c.loop-i.visitor c.take_up.new.visitor
+      c.loop-i.invariant.setting.catalog c.loop-i.invariant.setting.limits c.loop-i.invariant.used before new k
+      (subst (λ (e : Effect). Took g.V.Visitor.takes (told before.frames) s.used (run_of s before.frames) (take (length piece - c.loop-i.i) (drop c.loop-i.i piece))
+      (Ok (k, e)) new c.loop-i.visitor c.take_up.new.visitor) c.in-Ok-default-Goes.field-0-1-is
+      (c.in-Ok-default-Goes.ensures.does before.frames before.went.holds));
+  used = omega (arith, c.in-Ok-default-Goes.ensures.used);
+  setting = search rules;
+}
+
+pub returns-in-Ok-default-Gives-clause-does : goal.returns-in-Ok-default-Gives-clause-does
+returns-in-Ok-default-Gives-clause-does g c = λ fs h.
+    let s = c.loop-i.self in
+    let new = c.take_up.new.self in
+    let piece = c.args.piece.now in
+    let before = c.loop-i.invariant.ran fs h in
+    let k = c.in-Ok-default-Gives.count in
+    led_on_gives g.V.Visitor.takes c.args.self.now fs piece c.loop-i.i s c.args.visitor.now c.loop-i.visitor c.take_up.new.visitor
+    c.loop-i.invariant.setting.catalog c.loop-i.invariant.setting.limits c.loop-i.invariant.used before new k
+    (subst (λ (e : Effect). Took g.V.Visitor.takes (told before.frames) s.used (run_of s before.frames) (take (length piece - c.loop-i.i) (drop c.loop-i.i piece))
+    (Ok (k, e)) new c.loop-i.visitor c.take_up.new.visitor) c.in-Ok-default-Gives.field-0-1-is
+    (c.in-Ok-default-Gives.ensures.does before.frames before.went.holds))
+
+pub returns-in-Err-clause-does : goal.returns-in-Err-clause-does
+returns-in-Err-clause-does g c = λ fs h.
+    let s = c.loop-i.self in
+    let before = c.loop-i.invariant.ran fs h in
+    led_on_refused g.V.Visitor.takes c.args.self.now fs c.args.piece.now c.loop-i.i s c.args.visitor.now c.loop-i.visitor c.take_up.new.visitor
+    c.loop-i.invariant.setting.catalog c.loop-i.invariant.setting.limits c.loop-i.invariant.used before c.take_up.new.self c.in-Err.reason
+    c.loop-i.invariant.i (c.in-Err.ensures.does before.frames before.went.holds)
+
+pub returns-clause-does : goal.returns-clause-does
+returns-clause-does g c = λ fs h.
+    led_on_end g.V.Visitor.takes c.args.self.now fs c.args.piece.now c.loop-i.i c.loop-i.self c.args.visitor.now c.loop-i.visitor (omega arith)
+    (c.loop-i.invariant.ran fs h)

@@ -1,0 +1,79 @@
+-- What a reader that holds no values did over octets: what a run of the machine does, for all containers that it may stand for.
+use Rattle.std.specs.Prelude.{◌≡◌, ◌≢◌, ◌<◌, ◌≤◌, ℕ, ◌+◌, List, [], ◌∷◌, ◌++◌, length, take, Bool, true, false, Option, Some, None, Result, Ok, Err}
+use Rattle.ion_model.specs.declared.value.Value.{Value}
+use Rattle.ion_atoms.specs.declared.refusal.Reason.{Reason}
+use Rattle.ion_atoms.specs.declared.refusal.Reason.TheVariants.{Memory}
+use Rattle.ion_atoms.specs.declared.refusal.Refusal.{Refusal}
+use Rattle.ion_visiting.specs.Events.{Event, events_of}
+use Rattle.ion_visiting.specs.Tables.{Hears, heard}
+use Rattle.ion_binary.specs.declared.state.Frame.{Frame}
+use Rattle.ion_binary.specs.declared.state.Effect.{Effect}
+use Rattle.ion_binary.specs.declared.state.Effect.TheVariants.{Goes, Gives}
+use Rattle.ion_binary.specs.declared.walking.BinaryWalk.{BinaryWalk}
+use Rattle.ion_binary.specs.declared.walking.advance.Walked.{Walked}
+use Rattle.ion_binary.specs.machine.EachOctet.{initial}
+use Rattle.ion_binary.specs.machine.Run.{Run, run}
+use Rattle.ion_binary.specs.machine.Pieces.{led}
+use Rattle.ion_binary.specs.walking.Holds.{GaveOut, Holds, WentOn, machine_of, told}
+
+-- the run over octets of the machine that a reader stands for, with these containers
+abbrev pub run_of : BinaryWalk → List Frame → List ℕ → Run
+run_of r fs w = run r.catalog.now r.limits r.used (machine_of r fs) w
+
+-- a run that gave this value with the last of `to` octets
+abbrev pub gave : Value → ℕ → BinaryWalk → Run
+gave v to r = record { given = (v, to) ∷ []; now = Ok (machine_of r []) }
+
+-- a run that was refused
+abbrev pub refused_at : Refusal → Run
+refused_at refusal = record { given = []; now = Err refusal }
+
+-- the refusal that a walk answered, if it answered one
+abbrev pub refused_by : Result Walked Refusal → Option Refusal
+refused_by (Ok walked) = None
+refused_by (Err refusal) = Some refusal
+
+-- the run led where the reader stands for these containers
+abbrev pub Led : Run → BinaryWalk → List Frame → Type 0
+Led ran r fs = (ran ≡ led (machine_of r fs)) × Holds r fs
+
+module _ {V : Type 0} (takes : V → Event → V → Type 0) (es : List Event) where
+  -- a run over `to` octets ended where the reader is, and a visitor heard what there is to hear
+  abbrev pub Reached : Run → ℕ → Effect → BinaryWalk → V → V → Type 0
+  Reached ran to Goes r a b = (fs : List Frame) × (ran ≡ led (machine_of r fs)) × WentOn takes es r fs a b
+  Reached ran to Gives r a b = (v : Value) × (ran ≡ gave v to r) × GaveOut takes es r v a b
+
+  -- over octets at the front of a piece a method did what a run over them does, unless memory ran out
+  abbrev pub Took : ℕ → (List ℕ → Run) → List ℕ → Result (ℕ × Effect) Reason → BinaryWalk → V → V → Type 0
+  Took to run piece (Ok took) r a b = (0 < took.0) × (took.0 ≤ length piece) × Reached (run (take took.0 piece)) (to + took.0) took.1 r a b
+  Took to run piece (Err reason) r a b = reason ≢ Memory → run piece ≡ refused_at (record { offset = r.used; reason = reason })
+
+  -- over this piece a walk did what a run from here does, up to the first value, unless memory ran out
+  abbrev pub Walks : ℕ → (List ℕ → Run) → List ℕ → Result Walked Refusal → BinaryWalk → V → V → Type 0
+  Walks to run piece (Ok walked) r a b = (walked.used ≤ length piece) × Stopped walked.ended
+    where
+      Stopped : Bool → Type 0
+      Stopped false = (walked.used ≡ length piece) × Reached (run piece) (to + walked.used) Goes r a b
+      Stopped true = (0 < walked.used) × Reached (run (take walked.used piece)) (to + walked.used) Gives r a b
+  Walks to run piece (Err refusal) r a b = refusal.reason ≢ Memory → run piece ≡ refused_at refusal
+
+-- The run over these octets gave these values, and ended where the reader may stand for these containers.
+pub record StandsFor (r : BinaryWalk) (octets : List ℕ) (values : List (Value × ℕ)) (fs : List Frame) : Type 0 where
+  pub fine : r.failed ≡ None
+  pub counted : r.used ≡ length octets
+  pub holds : Holds r fs
+  pub ran : run r.catalog.now r.limits 0 initial octets ≡ record { given = values; now = Ok (machine_of r fs) }
+
+-- Behind u, which gave s, a walk led on over this piece, or ended a value; a visitor that had heard what there was to hear of the open
+-- containers heard what there is to hear.
+abbrev pub Furthers : {V : Type 0} → (V → Event → V → Type 0) → List Event → List ℕ → List (Value × ℕ) → List ℕ → Walked → BinaryWalk → V → V → Type 0
+Furthers takes es u s piece walked r a b = Came walked.ended
+  where
+    Came : Bool → Type 0
+    Came false = (fs : List Frame) × StandsFor r (u ++ piece) s fs × Hears takes (heard es) (heard (told fs)) a b
+    Came true = (v : Value) × StandsFor r (u ++ take walked.used piece) (s ++ (v, length u + walked.used) ∷ []) [] × Hears takes (heard es) (events_of v) a b
+
+-- the end answered what is said of it: that no value ended, or why it is refused
+abbrev pub EndsSo : Result (Option Value) Refusal → Result Bool Refusal → Type 0
+EndsSo said (Ok ended) = (said ≡ Ok None) × (ended ≡ false)
+EndsSo said (Err refusal) = said ≡ Err refusal
