@@ -1,5 +1,5 @@
 -- What a token does to a reader that holds no values: what stages, ends, opens and closes.
-use Rattle.std.proofs.Common.{◌≡◌, ◌≢◌, ℕ, ◌+◌, ◌-◌, ◌<◌, List, [], ◌∷◌, ◌++◌, map, reverse, length, Bool, true, false, Option, Some, None, Result, Ok, Err, refl, ap, sym, subst, ◌∙◌, arith}
+use Rattle.std.proofs.Common.{◌≡◌, ℕ, ◌+◌, List, [], ◌∷◌, ◌++◌, Bool, true, false, Option, Some, None, Result, Ok, refl, ap, sym, subst, ◌∙◌}
 use Rattle.std.specs.Prelude.{if◌then◌else◌, nat_le}
 use Rattle.ion_atoms.specs.declared.refusal.Reason.{Reason}
 use Rattle.ion_atoms.specs.declared.refusal.Reason.TheVariants as reasons
@@ -7,27 +7,25 @@ use Rattle.ion_model.specs.Kinds.{is_table}
 use Rattle.ion_symtab.specs.Next.{next}
 use Rattle.ion_model.specs.declared.value.Value.{Value}
 use Rattle.ion_model.specs.declared.value.Payload.{Payload}
-use Rattle.ion_model.specs.declared.value.Payload.TheVariants as payloads
 use Rattle.ion_model.specs.declared.value.Payload.TheViews.{out-Payload}
 use Rattle.ion_model.specs.Measures.{annotated, field_of}
 use Rattle.ion_visiting.specs.declared.bracket.Bracket.{Bracket}
-use Rattle.ion_visiting.specs.declared.bracket.Bracket.TheVariants as brackets
-use Rattle.ion_visiting.specs.Events.{Event, part, annotation, name, opens, closes, events_of, layer_events}
+use Rattle.ion_visiting.specs.Events.{Event, part, events_of, layer_events}
 use Rattle.ion_text.specs.declared.state.Frame.{Frame}
 use Rattle.ion_text.specs.declared.state.Frame.TheVariants as frames
 use Rattle.ion_text.specs.declared.state.Listing.TheVariants as listings
 use Rattle.ion_text.specs.declared.state.Now.{Now}
 use Rattle.ion_text.specs.declared.state.Now.TheVariants as nows
 use Rattle.ion_text.specs.declared.state.Effect.{Effect as Turned}
-use Rattle.ion_text.specs.declared.state.Effect.TheVariants.{Goes, Gives, Late}
+use Rattle.ion_text.specs.declared.state.Effect.TheVariants.{Goes, Gives}
 use Rattle.ion_text.specs.declared.walk.TextWalk.{TextWalk}
 use Rattle.ion_visiting.specs.declared.table_filter.TableFilter.{TableFilter}
 use Rattle.ion_text.specs.machine.Run.{is_top}
-use Rattle.ion_text.specs.machine.EachToken.{Setting, Spot, Symbols, Turn, goes, gives, refuses, at, ended, fresh, turned, within, on_comma, named}
+use Rattle.ion_text.specs.machine.EachToken.{Setting, Spot, Symbols, Turn, goes, gives, refuses, at, ended, fresh, turned, within}
 use Rattle.ion_visiting.specs.declared.table_filter.Table.TheVariants as tables
-use Rattle.ion_visiting.specs.Tables.{WasTold, Hears, heard, heard_by, table_by, table_of}
+use Rattle.ion_visiting.specs.Tables.{WasTold, Hears, heard, heard_by, table_of}
 use Rattle.ion_visiting.specs.laws.Filters.{table_told}
-use Rattle.ion_text.specs.walk.Holds.{AreAround, AreOpen, Does, DoesAlone, Holds, IsShape, behind_value, bracket_of, brackets_of, calm, has_notes, is_inside, open_brackets, reading_of, setting_of, spot_of, told, told_in}
+use Rattle.ion_text.specs.walk.Holds.{AreAround, AreOpen, Does, DoesAlone, Holds, IsShape, behind_value, brackets_of, calm, has_notes, is_inside, open_brackets, reading_of, setting_of, spot_of, told, told_in}
 use Rattle.ion_text.proofs.Holding.{part_told, item_told, field_told}
 use Rattle.ion_text.proofs.Taking.{does_behind}
 
@@ -40,6 +38,7 @@ staged r s = record {
   catalog = r.catalog;
   limits = r.limits;
   scanner = r.scanner;
+  beside = r.beside;
   recent = r.recent;
   start = r.start;
   context = r.context;
@@ -74,6 +73,7 @@ behind_in r s = record {
   catalog = r.catalog;
   limits = r.limits;
   scanner = r.scanner;
+  beside = r.beside;
   recent = r.recent;
   start = r.start;
   context = r.context;
@@ -133,6 +133,7 @@ given r f = record {
   catalog = r.catalog;
   limits = r.limits;
   scanner = r.scanner;
+  beside = r.beside;
   recent = r.recent;
   start = 0;
   context = r.context;

@@ -1,5 +1,5 @@
 -- What the end of the octets shows.
-use Rattle.std.proofs.Common.{◌≡◌, ◌≢◌, ℕ, Option, Some, None, Result, Ok, Err, refl, sym, ap, ◌∙◌, subst}
+use Rattle.std.proofs.Common.{◌≡◌, ◌≢◌, ℕ, List, Option, Some, None, Result, Ok, Err, refl, sym, ap, ◌∙◌, subst}
 use Rattle.ion_model.specs.declared.value.Value.{Value}
 use Rattle.ion_atoms.specs.declared.refusal.Reason.{Reason}
 use Rattle.ion_atoms.specs.declared.refusal.Reason.TheVariants.{Memory}
@@ -11,8 +11,11 @@ use Rattle.ion_tokens.specs.Lexemes.{Lexeme}
 use Rattle.ion_tokens.specs.machine.Steps.{Ends}
 use Rattle.ion_tokens.proofs.runs.Cutting.{one_body}
 use Rattle.ion_tokens.specs.machine.Said.{said, says}
+use Rattle.ion_text.specs.declared.state.Held.{Held}
+use Rattle.ion_text.specs.declared.state.Now.{Now}
+use Rattle.ion_text.specs.declared.state.Now.TheVariants as nows
 use Rattle.ion_text.specs.machine.EachToken.{Reading, Turn, goes, gives, refuses, late, settle, turn}
-use Rattle.ion_text.specs.machine.Run.{end_settled, end_waiting, end_ready, end_turned, end_said}
+use Rattle.ion_text.specs.machine.Run.{end_settled, end_waiting, end_ready, end_turned, end_said, end_now}
 use Rattle.ion_text.specs.machine.Progress.{DidEnd}
 use Rattle.ion_text.specs.machine.Views.{token_in}
 use Rattle.ion_text.proofs.Meetings.{said_so, token_so}
@@ -22,38 +25,57 @@ end_same used a b (Ok v) e d = e ∙ d
 end_same used a b (Err reason) e d = λ other. e ∙ d other
 
 module _ (g : Catalog) (l : Limits) (used : ℕ) where
+  -- where the end ends no token, it settles what waited
+  pub none_settles : (x : Result (Option Lexeme) Reason) (t : Turn) → Ends used x (Ok None) → end_waiting g l used x t ≡ end_settled used t
+  none_settles (Ok None) t h = refl
+  none_settles (Ok (Some x)) t h = absurd h
+  none_settles (Err e) t h = absurd h
+
   open_same : (x : Lexeme) (e : Reason) (t : Turn) → end_waiting g l used (Ok (Some x)) t ≡ end_waiting g l used (Err e) t
   open_same x e (goes r) = refl
   open_same x e (gives v r) = refl
   open_same x e (refuses f) = refl
   open_same x e (late f r) = refl
 
-  -- where the end ends no token, it settles what waited
+  refused_same : (d e : Reason) (t : Turn) → end_waiting g l used (Err d) t ≡ end_waiting g l used (Err e) t
+  refused_same d e (goes r) = refl
+  refused_same d e (gives v r) = refl
+  refused_same d e (refuses f) = refl
+  refused_same d e (late f r) = refl
+
+  opens : (x : Result (Option Lexeme) Reason) (t : Turn) (e : Reason) → (x ≡ Ok None → ⊥) → end_waiting g l used x t ≡ end_waiting g l used (Err e) t
+  opens (Ok None) t e h = absurd (h refl)
+  opens (Ok (Some x)) t e h = open_same x e t
+  opens (Err d) t e h = refused_same d e t
+
+  -- a token that the end ends behind what waited is as much as what the scanner refuses there
+  pub token_opens : (x : Result (Option Lexeme) Reason) (t : Turn) (e : Reason) (found : Found) → Ends used x (Ok (Some found))
+      → end_waiting g l used x t ≡ end_waiting g l used (Err e) t
+  token_opens x t e found h = opens x t e (λ i. some (subst (λ (y : Result (Option Lexeme) Reason). Ends used y (Ok (Some found))) i h))
+    where
+      some : Some found ≡ None → ⊥
+      some i = cc
+
+  -- and that for whatever reason
+  pub refused_opens : (x : Result (Option Lexeme) Reason) (t : Turn) (e : Reason) (r : Refusal) → Ends used x (Err r) → r.reason ≢ Memory
+      → end_waiting g l used x t ≡ end_waiting g l used (Err e) t
+  refused_opens x t e r h other = opens x t e (λ i. subst (λ (y : Result (Option Lexeme) Reason). Ends used y (Err r)) i h other)
+
   pub waiting_none : (x : Result (Option Lexeme) Reason) (t : Turn) (result : Result (Option Value) Reason) → Ends used x (Ok None)
       → DidEnd used (end_settled used t) result → DidEnd used (end_waiting g l used x t) result
-  waiting_none (Ok None) t result h d = d
-  waiting_none (Ok (Some x)) t result h d = absurd h
-  waiting_none (Err e) t result h d = absurd h
-
-  opens : (x : Result (Option Lexeme) Reason) (t : Turn) (result : Result (Option Value) Reason) → (x ≡ Ok None → ⊥)
-      → ((e : Reason) → DidEnd used (end_waiting g l used (Err e) t) result) → DidEnd used (end_waiting g l used x t) result
-  opens (Ok None) t result h d = absurd (h refl)
-  opens (Ok (Some x)) t result h d = end_same used (end_waiting g l used (Ok (Some x)) t) (end_waiting g l used (Err Memory) t) result (open_same x Memory t)
-      (d Memory)
-  opens (Err e) t result h d = d e
+  waiting_none x t result h d = end_same used (end_waiting g l used x t) (end_settled used t) result (none_settles x t h) d
 
   -- where a token ends with the octets, what waited answers as where one is refused there
   pub waiting_token : (x : Result (Option Lexeme) Reason) (t : Turn) (found : Found) (result : Result (Option Value) Reason) → Ends used x (Ok (Some found))
       → ((e : Reason) → DidEnd used (end_waiting g l used (Err e) t) result) → DidEnd used (end_waiting g l used x t) result
-  waiting_token x t found result h d = opens x t result (λ e. some (subst (λ (y : Result (Option Lexeme) Reason). Ends used y (Ok (Some found))) e h)) d
-    where
-      some : Some found ≡ None → ⊥
-      some e = cc
+  waiting_token x t found result h d =
+      end_same used (end_waiting g l used x t) (end_waiting g l used (Err Memory) t) result (token_opens x t Memory found h) (d Memory)
 
   -- where the scanner refuses at the end, what waited answers the same for whatever reason
   pub waiting_refused : (x : Result (Option Lexeme) Reason) (t : Turn) (r : Refusal) (result : Result (Option Value) Reason) → Ends used x (Err r)
       → r.reason ≢ Memory → ((e : Reason) → DidEnd used (end_waiting g l used (Err e) t) result) → DidEnd used (end_waiting g l used x t) result
-  waiting_refused x t r result h other d = opens x t result (λ e. subst (λ (y : Result (Option Lexeme) Reason). Ends used y (Err r)) e h other) d
+  waiting_refused x t r result h other d =
+      end_same used (end_waiting g l used x t) (end_waiting g l used (Err Memory) t) result (refused_opens x t Memory r h other) (d Memory)
 
   module _ (r : Reading) where
     -- where nothing waits, what the scanner refuses at the end is refused
@@ -64,18 +86,36 @@ module _ (g : Catalog) (l : Limits) (used : ℕ) where
         (one_body x.kind x.octets (said x.kind x.octets) (Err refusal.reason) (says x.kind x.octets) (h other).says)
     ready_refused (Err e) refusal h = λ other. ap (λ (q : Refusal). Err (record { offset = used; reason = q.reason })) (sym (h other))
 
-    -- where nothing waits, the end answers what the token that it ends leads to
+    -- where nothing waits, the end does what the token does that it ends
+    pub token_turns : (x : Result (Option Lexeme) Reason) (found : Found) → Ends used x (Ok (Some found))
+        → end_ready g l used r x ≡ end_turned g l used (turn g l r (token_in found))
+    token_turns (Ok None) found h = absurd cc
+    token_turns (Ok (Some x)) found h =
+        ap (end_said g l used r x) (said_so x found h) ∙ ap (λ t. end_turned g l used (turn g l r t)) (token_so x found h)
+    token_turns (Err e) found h = absurd h
+
     pub ready_token : (x : Result (Option Lexeme) Reason) (found : Found) (result : Result (Option Value) Reason) → Ends used x (Ok (Some found))
         → DidEnd used (end_turned g l used (turn g l r (token_in found))) result → DidEnd used (end_ready g l used r x) result
-    ready_token (Ok None) found result h d = absurd cc
-    ready_token (Ok (Some x)) found result h d =
-        end_same used (end_ready g l used r (Ok (Some x))) (end_turned g l used (turn g l r (token_in found))) result
-        (ap (end_said g l used r x) (said_so x found h) ∙ ap (λ t. end_turned g l used (turn g l r t)) (token_so x found h)) d
-    ready_token (Err e) found result h d = absurd h
+    ready_token x found result h d =
+        end_same used (end_ready g l used r x) (end_turned g l used (turn g l r (token_in found))) result (token_turns x found h) d
 
   -- where the token that the end ends goes on, what waits then is settled by the end
+  pub goes_settles : (t : Turn) (r : Reading) (h : Catalog) (k : Limits) → t ≡ goes r → h ≡ g → k ≡ l
+      → end_turned g l used t ≡ end_settled used (settle h k r)
+  goes_settles t r h k e i j =
+      ap (end_turned g l used) e ∙ (ap (λ x. end_settled used (settle x l r)) (sym i) ∙ ap (λ x. end_settled used (settle h x r)) (sym j))
+
   pub turned_goes : (t : Turn) (r : Reading) (h : Catalog) (k : Limits) (result : Result (Option Value) Reason) → t ≡ goes r → h ≡ g → k ≡ l
       → DidEnd used (end_settled used (settle h k r)) result → DidEnd used (end_turned g l used t) result
-  turned_goes t r h k result e i j d =
-      end_same used (end_turned g l used t) (end_settled used (settle h k r)) result
-      (ap (end_turned g l used) e ∙ (ap (λ x. end_settled used (settle x l r)) (sym i) ∙ ap (λ x. end_settled used (settle h x r)) (sym j))) d
+  turned_goes t r h k result e i j d = end_same used (end_turned g l used t) (end_settled used (settle h k r)) result (goes_settles t r h k e i j) d
+
+  -- where nothing waits
+  pub now_ready : (r : Reading) (x : Result (Option Lexeme) Reason) (n : Now) → ((h : Held) (end : ℕ) → n ≡ nows.Pending h end → ⊥)
+      → ((w : List ℕ) (end : ℕ) → n ≡ nows.Long w end → ⊥) → ((w : List ℕ) → n ≡ nows.LongName w → ⊥) → end_now g l used r x n ≡ end_ready g l used r x
+  now_ready r x nows.Ready p q s = refl
+  now_ready r x (nows.Pending h end) p q s = absurd (p h end refl)
+  now_ready r x (nows.Long w end) p q s = absurd (q w end refl)
+  now_ready r x nows.After p q s = refl
+  now_ready r x nows.Name p q s = refl
+  now_ready r x (nows.LongName w) p q s = absurd (s w refl)
+  now_ready r x (nows.Keyed name) p q s = refl

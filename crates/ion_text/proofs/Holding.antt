@@ -1,9 +1,8 @@
 -- What was told of what is open, as more is told of it.
-use Rattle.std.proofs.Common.{◌≡◌, ◌≢◌, ℕ, List, [], ◌∷◌, ◌++◌, map, reverse, length, Bool, true, false, Option, Some, None, Result, Ok, Err, refl, ap, sym, subst, ◌∙◌}
+use Rattle.std.proofs.Common.{◌≡◌, ℕ, List, [], ◌∷◌, ◌++◌, map, Option, Some, refl, ap, sym, ◌∙◌}
 use Rattle.std.specs.List.{flat_map}
 use Rattle.std.proofs.lemmas.List.{append-nil, append_assoc, map-append}
 use Rattle.std.proofs.lemmas.Grind.{flat_map-append}
-use Rattle.ion_atoms.specs.declared.refusal.Reason.{Reason}
 use Rattle.ion_model.specs.declared.value.Value.{Value}
 use Rattle.ion_model.specs.declared.value.Payload.{Payload}
 use Rattle.ion_model.specs.declared.value.Payload.TheVariants as payloads
@@ -23,12 +22,7 @@ use Rattle.ion_text.specs.declared.state.Frame.{Frame}
 use Rattle.ion_text.specs.declared.state.Frame.TheVariants as frames
 use Rattle.ion_text.specs.declared.state.Listing.{Listing}
 use Rattle.ion_text.specs.declared.state.Listing.TheVariants as listings
-use Rattle.ion_text.specs.declared.state.Now.{Now}
-use Rattle.ion_text.specs.declared.state.Now.TheVariants as nows
-use Rattle.ion_text.specs.declared.state.Effect.{Effect as Turned}
-use Rattle.ion_text.specs.declared.state.Effect.TheVariants.{Goes, Gives, Late}
 use Rattle.ion_text.specs.machine.EachToken.{Symbols, opened}
-use Rattle.ion_visiting.specs.Tables.{WasTold, Hears, heard}
 use Rattle.ion_text.specs.walk.Holds.{told, told_in, bracket_for}
 
 -- a part is told as one event

@@ -8,6 +8,7 @@ pub mod Pendings
 pub mod Leading
 pub mod Endings
 pub mod Further
+pub mod Fronts
 pub mod Stretches
 pub mod Prefixes
 pub mod Lulls
@@ -37,7 +38,10 @@ pub mod Calls
 pub mod QuotedRuns
 pub mod Holding
 pub mod Taking
+pub mod Ends
+pub mod Reaching
 pub mod Ended
 pub mod Opened
 pub mod Strides
 pub mod LastTokens
+pub mod Advancing

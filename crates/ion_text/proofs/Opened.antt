@@ -1,5 +1,5 @@
 -- What an annotation, a name, an open and a close do to a reader that holds no values.
-use Rattle.std.proofs.Common.{◌≡◌, ◌≢◌, ℕ, List, [], ◌∷◌, ◌++◌, map, reverse, length, Bool, true, false, Option, Some, None, Result, Ok, Err, refl, ap, sym, subst, ◌∙◌, arith}
+use Rattle.std.proofs.Common.{◌≡◌, ◌≢◌, ℕ, List, [], ◌∷◌, ◌++◌, reverse, length, true, false, Option, Some, None, Result, Ok, refl, ap, sym, subst, ◌∙◌, arith}
 use Rattle.std.specs.Prelude.{if◌then◌else◌, nat_lt, ◌<◌, IsSome}
 use Rattle.std.specs.Option.{option_to_list}
 use Rattle.std.proofs.lemmas.List.{reverse-append}
@@ -17,13 +17,13 @@ use Rattle.ion_text.specs.declared.state.Listing.TheVariants as listings
 use Rattle.ion_text.specs.declared.state.Now.{Now}
 use Rattle.ion_text.specs.declared.state.Now.TheVariants as nows
 use Rattle.ion_text.specs.declared.state.Effect.{Effect as Turned}
-use Rattle.ion_text.specs.declared.state.Effect.TheVariants.{Goes, Gives, Late}
+use Rattle.ion_text.specs.declared.state.Effect.TheVariants.{Goes}
 use Rattle.ion_text.specs.declared.walk.TextWalk.{TextWalk}
 use Rattle.ion_visiting.specs.declared.table_filter.TableFilter.{TableFilter}
-use Rattle.ion_text.specs.machine.EachToken.{Setting, Spot, Reading, Symbols, Turn, first_now, goes, refuses, late, at, ended, opened, opening, deeper, beyond_depth, closed, on_comma, named, unexpected}
+use Rattle.ion_text.specs.machine.EachToken.{Setting, Spot, Reading, Symbols, first_now, goes, refuses, late, at, ended, opened, opening, beyond_depth, closed, on_comma, named, unexpected}
 use Rattle.ion_symtab.specs.Slots.{Slot}
 use Rattle.ion_visiting.specs.Tables.{WasTold, Hears, Tells, heard, is_fields}
-use Rattle.ion_text.specs.walk.Holds.{AreAround, AreOpen, Does, DoesAlone, Enters, Holds, IsShape, MayClose, WentOn, bracket_of, brackets_of, behind_comma, calm, closes_in, has_notes, is_same, open_brackets, reading_of, setting_of, spot_of, told, told_in}
+use Rattle.ion_text.specs.walk.Holds.{AreAround, AreOpen, Does, DoesAlone, Enters, Holds, MayClose, WentOn, bracket_of, brackets_of, behind_comma, calm, closes_in, has_notes, is_same, open_brackets, told, told_in}
 use Rattle.ion_text.proofs.Holding.{note_told, open_told, list_told, sexp_told, fields_told, name_told}
 use Rattle.ion_text.proofs.Taking.{does_behind}
 use Rattle.ion_text.proofs.Ended.{staged}

@@ -29,7 +29,7 @@ use Rattle.ion_text.specs.laws.reading.complete.Fuel.{UsedThen, Twice, twice_fue
 use Rattle.ion_text.specs.laws.reading.complete.Meets.{follows_as}
 use Rattle.ion_text.specs.machine.Views.{floor, base, IsCalm}
 use Rattle.ion_text.specs.machine.AtOnce.{LeadsTo, Passes}
-use Rattle.ion_text.proofs.Stretches.{quiet_within}
+use Rattle.ion_text.proofs.Fronts.{quiet_within}
 
 agree_less : (j k : ℕ) (w os : List ℕ) → j ≤ k → take k w ≡ take k os → take j w ≡ take j os
 agree_less j k w os h e = sym (front w) ∙ (ap (take j) e ∙ front os)

@@ -1,58 +1,60 @@
 -- Tokens that a reader without values takes up at once, one behind the other.
-use Rattle.std.proofs.Common.{◌≡◌, ◌≢◌, ℕ, suc, ◌+◌, ◌-◌, ◌<◌, ◌≤◌, Bool, true, false, List, [], ◌∷◌, ◌++◌, length, take, drop, get_or, Option, Some, Result, Ok, Err, refl, ap, sym, ◌∙◌, subst, arith, length-drop, ◌⊎◌, inl, inr}
-use Rattle.std.specs.Prelude.{if◌then◌else◌, nat_lt}
+use Rattle.std.proofs.Common.{◌≡◌, ◌≢◌, ℕ, ◌+◌, ◌-◌, ◌<◌, ◌≤◌, Bool, true, false, List, [], ◌∷◌, ◌++◌, length, take, drop, get_or, Option, Some, Result, Ok, Err, refl, ap, sym, ◌∙◌, subst, arith, length-drop, ◌⊎◌, inl, inr}
+use Rattle.std.specs.Prelude.{if◌then◌else◌, nat_lt, IfOk}
 use Rattle.std.proofs.lemmas.Bool.Decides.{nat_tests}
 use Rattle.std.proofs.lemmas.Grind.{common_steps}
 use Rattle.std.proofs.lemmas.List.{length-map, length-reverse, length-take}
 use Rattle.ion_atoms.specs.declared.refusal.Reason.{Reason}
 use Rattle.ion_atoms.specs.declared.refusal.Reason.TheVariants.{Memory}
-use Rattle.ion_model.specs.declared.value.Value.{Value}
 use Rattle.ion_model.specs.declared.value.Payload.{Payload}
 use Rattle.ion_model.specs.declared.value.Payload.TheVariants as payloads
 use Rattle.ion_model.specs.Measures.{annotated}
 use Rattle.ion_symtab.specs.declared.limits.Limits.{Limits}
 use Rattle.ion_symtab.specs.declared.catalog.Catalog.{Catalog}
-use Rattle.ion_symtab.specs.Slots.{Slot}
+use Rattle.ion_symtab.specs.Slots.{Slot, resolve}
 use Rattle.ion_scalar.specs.declared.number.Number.{Number}
-use Rattle.ion_tokens.specs.Bodies.{Content, Mark', Number'}
+use Rattle.ion_tokens.specs.Bodies.{Content, Id, Mark', Number', id_of}
+use Rattle.ion_tokens.specs.Lexemes.{takes_colon}
 use Rattle.ion_tokens.specs.Places.{is_name}
 use Rattle.ion_tokens.specs.declared.mode.Place.{Place}
 use Rattle.ion_tokens.specs.declared.mode.Place.TheVariants as places
 use Rattle.ion_tokens.specs.declared.mode.Mark.TheVariants as marks
 use Rattle.ion_tokens.specs.declared.token_reader.FoundToken.{FoundToken}
+use Rattle.ion_tokens.specs.declared.token_reader.TokenReader.{TokenReader}
 use Rattle.ion_tokens.specs.declared.mode.TokenKind.{TokenKind}
 use Rattle.ion_tokens.specs.declared.mode.TokenKind.TheVariants as kinds
 use Rattle.ion_tokens.specs.declared.plain_tokens.Rest.{Rest}
 use Rattle.ion_tokens.specs.machine.Rests.{resting, past_blank, past_token, lexeme_at, before_end, IsPassed, IsFound, RestsBehind}
-use Rattle.ion_tokens.specs.machine.Said.{said}
+use Rattle.ion_tokens.specs.machine.Said.{said, word_said}
+use Rattle.ion_tokens.specs.machine.Scanning.{Known}
 use Rattle.ion_tokens.specs.machine.Views.{scanned}
 use Rattle.ion_tokens.specs.declared.scanner.Scanner.{Scanner}
 use Rattle.ion_tokens.proofs.runs.WholeTokens.{comma_found}
 use Rattle.ion_visiting.specs.declared.bracket.Bracket.{Bracket}
-use Rattle.ion_visiting.specs.declared.bracket.Bracket.TheVariants as brackets
 use Rattle.ion_visiting.specs.Events.{Event}
 use Rattle.ion_visiting.specs.Parts.{number_payload}
 use Rattle.ion_text.specs.declared.reader.finders.Scalar.{Scalar}
 use Rattle.ion_text.specs.declared.state.Frame.{Frame}
 use Rattle.ion_text.specs.declared.state.Frame.TheVariants as frames
+use Rattle.ion_text.specs.declared.state.Held.{Held}
+use Rattle.ion_text.specs.declared.state.Held.TheVariants as helds
 use Rattle.ion_text.specs.declared.state.Listing.TheVariants as listings
 use Rattle.ion_text.specs.declared.state.Now.{Now}
 use Rattle.ion_text.specs.declared.state.Now.TheVariants as nows
-use Rattle.ion_text.specs.declared.state.Effect.{Effect as Turned}
 use Rattle.ion_text.specs.declared.state.Effect.TheVariants.{Goes}
 use Rattle.ion_text.specs.declared.walk.TextWalk.{TextWalk}
-use Rattle.ion_text.specs.laws.reading.Brackets.{open_turns}
 use Rattle.ion_text.specs.machine.AtOnce.{Passes, IsStill}
-use Rattle.ion_text.specs.machine.EachToken.{Setting, Spot, under, spot_at, Reading, Symbols, Turn, at, beyond_depth, begun_at, closed, ended, first_now, goes, named, on_comma, on_ready, opened, opening, place, place_in, turn}
-use Rattle.ion_text.specs.machine.FrontTokens.{ends_symbol, held_of, BeginsName, BeginsValue, EndsAtOnce, IsValue, Names, Pays}
+use Rattle.ion_text.specs.machine.EachToken.{under, spot_at, Reading, Symbols, Turn, at, beyond_depth, begun_at, closed, ended, first_now, goes, held_payload, keyed, named, on_comma, opened, opening, place, place_in, resolved, turn}
+use Rattle.ion_text.specs.machine.FrontTokens.{ends_symbol, held_of, BeginsName, BeginsValue, EndsAtOnce, IsValue}
 use Rattle.ion_text.specs.visiting.Walks.{FoundNumber, FoundPart}
 use Rattle.ion_text.specs.machine.LongStrings.{LongThere}
 use Rattle.ion_text.specs.machine.Walked.{behind_note, FoundNote}
 use Rattle.ion_text.specs.machine.Nested.{close_mark, close_octet, closes, open_mark, OpensAt}
-use Rattle.ion_text.specs.machine.Run.{State, is_top, token_of, with_scan}
+use Rattle.ion_text.specs.machine.Run.{is_top, token_of, with_scan}
 use Rattle.ion_text.specs.machine.Views.{IsCalm}
-use Rattle.ion_visiting.specs.Tables.{Hears, heard}
+use Rattle.ion_visiting.specs.Tables.{heard}
 use Rattle.ion_text.specs.walk.Holds.{AreAround, AreOpen, Does, DoesAlone, Holds, SameSetting, WentOn, bracket_of, brackets_of, calm, open_brackets, reading_of, told}
+use Rattle.ion_text.specs.walk.Rare.{NameThere, SaysThere, SymbolThere, WaitsThere}
 use Rattle.ion_text.specs.walk.Strides.{Ahead, resting_at, Strides, Strode, StrodeFrom, StridesBy}
 use Rattle.ion_text.proofs.Arms.{StaysIn, after_turns, blank_used, comma_stays, ended_stays, mark_says, named_stays, ready_turns, went}
 use Rattle.ion_visiting.specs.laws.Filters.{hears_both, hears_none}
@@ -60,10 +62,29 @@ use Rattle.ion_text.proofs.Taking.{does_alone}
 use Rattle.ion_text.proofs.Nested.{close_found, close_stays, closing, is_open_left, open_found, opened_stays}
 use Rattle.ion_text.proofs.Passing.{inner_notices, passes_blank, passes_none, passes_on}
 use Rattle.ion_text.proofs.Striding.{still_settles}
-use Rattle.ion_text.proofs.Symbols.{held_in, name_passes, symbol_passes}
+use Rattle.ion_text.proofs.Symbols.{held_in, name_colon, name_passes, names_so, note_passes, symbol_colon, symbol_held, symbol_passes, waits_so}
 use Rattle.ion_text.proofs.LongStrings.{settled_on}
 use Rattle.ion_text.proofs.Tops.{any_blank, begun_more, note_leads, top_open}
 use Rattle.ion_text.proofs.Walking.{open_goes, token_passes}
+
+-- beside the scanner nothing counts
+abbrev pub with_beside : TextWalk → TokenReader → TextWalk
+with_beside r k = record {
+  alloc = r.alloc;
+  catalog = r.catalog;
+  limits = r.limits;
+  scanner = r.scanner;
+  beside = k;
+  recent = r.recent;
+  start = r.start;
+  context = r.context;
+  frames = r.frames;
+  noted = r.noted;
+  stage = r.stage;
+  filter = r.filter;
+  awaited = r.awaited;
+  failed = r.failed;
+}
 
 -- what no token changed behind two of them
 pub settings_on : (a b c : TextWalk) → SameSetting a b → SameSetting b c → SameSetting a c
@@ -156,6 +177,59 @@ pub number_begins : (p : Place) (r : Rest) (octets : List ℕ) (token : FoundTok
 number_begins p r octets token n f =
     record { kept = f.kept; content = Number' n; found = f.found; says = f.says; is = λ setting spot fs ss. refl }
 
+-- what may be an annotation waits for `::`
+pub begins_waits : (slots : List Slot) (p : Place) (r : Rest) (octets : List ℕ) (token : FoundToken) (payload : Payload)
+    → BeginsValue true p r octets token payload → (held : Held) × WaitsThere slots p r octets token held × (held_payload held ≡ Ok payload)
+begins_waits slots p r octets token payload b =
+    let pays = held_in (held_of b.content) payload b.is in (
+      pays.0,
+      record {
+        content = b.content;
+        there = record { kept = b.kept; found = b.found; says = b.says };
+        may = symbol_colon p token.kind b.kept b.content pays.0 b.says pays.1;
+        waits = λ setting end start fs ss. waits_so setting (spot_at end start slots) fs ss b.content pays.0 pays.1;
+      },
+      pays.2,
+    )
+
+-- a field's name that is no id
+pub begins_name : (slots : List Slot) (r : Rest) (octets : List ℕ) (token : FoundToken) (name : Option (List ℕ))
+    → BeginsName places.Name r octets token name → NameThere slots r octets token name
+begins_name slots r octets token name b = record {
+  content = b.content;
+  there = record { kept = b.kept; found = b.found; says = b.says };
+  may = name_colon places.Name token.kind b.kept b.content name b.says b.names refl;
+  names = λ setting end start fs. names_so setting (spot_at end start slots) fs b.content name b.names;
+}
+
+-- what a symbol's id says
+pub id_said : (w : List ℕ) (id : ℕ) → Some id ≡ id_of w → said kinds.Word w ≡ Ok (Id id)
+unfolding said
+id_said w id e = ap (word_said w) (sym e)
+
+-- a symbol's id
+module _ (slots : List Slot) (r : Rest) (octets : List ℕ) (token : FoundToken) (id : ℕ) (s : Option (List ℕ)) (word : token.kind ≡ kinds.Word)
+    (is : resolve slots id ≡ Ok s) where
+  pub id_waits : (p : Place) → SaysThere p r octets token (Id id) → SymbolThere slots p r octets token s
+  id_waits p x = record {
+    held = helds.Symbol s;
+    there = record {
+      content = Id id;
+      there = x;
+      may = ap (takes_colon p) word;
+      waits = λ setting end start fs ss. ap (λ k. resolved k (λ s. goes (at start slots fs ss (nows.Pending (helds.Symbol s) end)))) is;
+    };
+    is = refl;
+  }
+
+  pub id_names : SaysThere places.Name r octets token (Id id) → NameThere slots r octets token s
+  id_names x = record {
+    content = Id id;
+    there = x;
+    may = ap (takes_colon places.Name) word;
+    names = λ setting end start fs. ap (λ k. resolved k (λ s. goes (keyed start slots fs s))) is;
+  }
+
 module _ {V : Type 0} (takes : V → Event → V → Type 0) where
   -- nothing was taken up
   pub strode_none : (r : TextWalk) (rest : Rest) (octets : List ℕ) (a : V) → Strode takes r r rest rest octets 0 a a
@@ -173,6 +247,33 @@ module _ {V : Type 0} (takes : V → Event → V → Type 0) where
 
   pub strides_none : (r : TextWalk) (rest : Rest) (octets : List ℕ) (a : V) → StridesBy takes r r rest rest octets (Ok 0) a a
   strides_none r rest octets a = record { strode = strode_none r rest octets a; memory = tt; same = settings_none r }
+
+  -- What is kept beside the scanner never counts.
+  module _ (old new : TextWalk) (k : TokenReader) (before after : Rest) (octets : List ℕ) (a b : V) where
+    beside_strode : (count : ℕ) → Strode takes (with_beside old k) new before after octets count a b → Strode takes old new before after octets count a b
+    beside_strode count x = record {
+      leads = λ fs ss h.
+          let y = x.leads fs ss (record { holds = h.holds; still = h.still; fits = h.fits }) in
+          record { frames = y.frames; notes = y.notes; passes = y.passes; ahead = y.ahead; hears = y.hears };
+      within = x.within;
+      used = x.used;
+    }
+
+    beside_result : (result : Result ℕ Reason) → IfOk result (λ count. Strode takes (with_beside old k) new before after octets count a b)
+        → IfOk result (λ count. Strode takes old new before after octets count a b)
+    beside_result (Ok count) x = beside_strode count x
+    beside_result (Err reason) x = tt
+
+    -- what comes of tokens behind one that was looked for
+    pub beside_answer : (result : Result ℕ Reason) → StridesBy takes (with_beside old k) new before after octets result a b
+        → StridesBy takes old new before after octets result a b
+    beside_answer result x =
+        let s = x.same in
+        record {
+          strode = beside_result result x.strode;
+          memory = x.memory;
+          same = record { catalog = s.catalog; limits = s.limits; scanner = s.scanner; awaited = s.awaited; failed = s.failed };
+        }
 
   -- one behind the other
   pub strode_on : (old mid new : TextWalk) (r s t : Rest) (octets rest : List ℕ) (i j : ℕ) (a m b : V) → rest ≡ drop i octets → SameSetting old mid
@@ -348,26 +449,54 @@ module _ {V : Type 0} (takes : V → Event → V → Type 0) where
         (λ q e. ended_stays setting spot q fs (annotated ss payload) open_there e) (inl (subst IsCalm (sym now) tt)) does
 
     -- a symbol, null or truth, and the blank behind it
-    pub word_strode : (here : Place) (kind : TokenKind) (kept : List ℕ) (n m : ℕ) (left : Bool) (c : Content) (payload : Payload) → n + m < length octets
-        → old.stage ≡ nows.Ready → is_top fs ≡ false → here ≡ place r → IsFound here rest octets kind kept n left → said kind kept ≡ Ok c
-        → IsPassed (drop n octets) m → ends_symbol (get_or octets (n + m) 0) ≡ true → Pays (held_of c) payload
-        → Does takes (told fs ss) (ended (under old.catalog.now old.limits) (spot_at (rest.used + n) old.start old.context) fs (annotated ss payload)) (Ok Goes)
-        new a b
-        → StrodeFrom takes fs ss old new rest (past_blank (past_token here rest kind n) m) octets (n + m) a b
-    word_strode here kind kept n m left c payload more now open_there is found says passed ends pays does =
+    pub word_strode : (here : Place) (token : FoundToken) (m : ℕ) (after : Rest) (held : Held) (payload : Payload) → token.count + m < length octets
+        → old.stage ≡ nows.Ready → is_top fs ≡ false → here ≡ place r → (x : WaitsThere old.context here rest octets token held)
+        → held_payload held ≡ Ok payload → RestsBehind (drop token.count octets) m (past_token here rest token.kind token.count) after
+        → ends_symbol (get_or octets (token.count + m) 0) ≡ true
+        → Does takes (told fs ss) (ended (under old.catalog.now old.limits) (spot_at (rest.used + token.count) old.start old.context) fs (annotated ss payload))
+        (Ok Goes) new a b
+        → StrodeFrom takes fs ss old new rest after octets (token.count + m) a b
+    word_strode here token m after held payload more now open_there is x pays rests ends does =
+        let n = token.count in
         let setting = under old.catalog.now old.limits in
         let spot = spot_at (rest.used + n) old.start old.context in
         let fits = h.fits in
         let begun = begun_inner old.start rest.used fs ss open_there in
-        let held = held_in (held_of c) payload pays in
-        let used = blank_used (past_token here rest kind n) m in
-        token_leads (past_blank (past_token here rest kind n) m) (n + m) (ended setting spot fs (annotated ss payload)) more (omega arith) open_there
+        let used = rests.used in
+        token_leads after (n + m) (ended setting spot fs (annotated ss payload)) more (omega arith) open_there
         (λ q e. ended_stays setting spot q fs (annotated ss payload) open_there e) does
         (λ q e there.
-        subst (λ p. Passes old.catalog.now old.limits (with_scan (resting rest) r) octets (n + m)
-        (with_scan (resting (past_blank (past_token p rest kind n) m)) q)) (sym is)
-        (symbol_passes old.catalog.now old.limits r open_there rest octets kind kept n m left c (omega arith) more
-        (subst (λ p. IsFound p rest octets kind kept n left) is found) says passed (subst IsCalm (sym now) tt) h.still now held.0 held.1 q payload held.2 e ends))
+        symbol_passes old.catalog.now old.limits r open_there rest octets token.kind x.there.kept n m token.left x.content (omega arith) more
+        (subst (λ p. IsFound p rest octets token.kind x.there.kept n token.left) is x.there.found) x.there.says (subst IsCalm (sym now) tt) h.still now
+        held (subst (λ p. takes_colon p token.kind ≡ true) is x.may) (x.waits setting (rest.used + n) old.start fs ss) after
+        (subst (λ p. RestsBehind (drop n octets) m (past_token p rest token.kind n) after) is rests) q payload pays e ends)
+
+    -- an annotation in a container, the blank behind it and `::`
+    pub symbol_note_strode : (here : Place) (token : FoundToken) (m : ℕ) (s : Option (List ℕ)) → token.count + m + 2 < length octets → old.stage ≡ nows.Ready
+        → is_top fs ≡ false → here ≡ place r → (x : SymbolThere old.context here rest octets token s) → IsPassed (drop token.count octets) m
+        → get_or octets (token.count + m) 0 ≡ 58 → get_or octets (token.count + m + 1) 0 ≡ 58
+        → Does takes (told fs ss) (goes (at old.start old.context fs (ss ++ s ∷ []) nows.Ready)) (Ok Goes) new a b
+        → StrodeFrom takes fs ss old new rest (behind_note here rest token m) octets (token.count + m + 2) a b
+    symbol_note_strode here token m s more now open_there is x passed one two does =
+        let n = token.count in
+        let setting = under old.catalog.now old.limits in
+        let noting = at old.start old.context fs (ss ++ s ∷ []) nows.Ready in
+        let fits = h.fits in
+        let begun = begun_inner old.start rest.used fs ss open_there in
+        let used = blank_used (past_token here rest token.kind n) m in
+        let t = x.there in
+        token_leads (behind_note here rest token m) (n + m + 2) (goes noting) more (omega arith) open_there
+        (λ q e. went (StaysIn old.start) noting q e (open_there, refl, tt)) does
+        (λ q e there.
+        subst (λ p. Passes old.catalog.now old.limits (with_scan (resting rest) r) octets (n + m + 2) (with_scan (resting (behind_note p rest token m)) q))
+        (sym is)
+        (went (λ k. Passes old.catalog.now old.limits (with_scan (resting rest) r) octets (n + m + 2)
+        (with_scan (resting (behind_note (place r) rest token m)) k))
+        noting q e
+        (note_passes old.catalog.now old.limits r open_there rest octets token.kind t.there.kept n m token.left t.content (omega arith) (omega arith)
+        (subst (λ p. IsFound p rest octets token.kind t.there.kept n token.left) is t.there.found) t.there.says (subst IsCalm (sym now) tt) h.still now
+        x.held (subst (λ p. takes_colon p token.kind ≡ true) is t.may) (t.waits setting (rest.used + n) old.start fs ss) s (symbol_held x.held s x.is) passed
+        more one two)))
 
     -- a long string
     pub long_strode : (here : Place) (count : ℕ) (after : Rest) (text : List ℕ) → old.stage ≡ nows.Ready → is_top fs ≡ false → here ≡ place r
@@ -389,13 +518,15 @@ module _ {V : Type 0} (takes : V → Event → V → Type 0) where
         (sym (is ∙ ap (place_in fs) now)) (omega arith) after.used q e))
 
     -- a field's name, the blank behind it and its colon
-    pub key_strode : (kind : TokenKind) (kept : List ℕ) (n m : ℕ) (left : Bool) (c : Content) (name : Option (List ℕ)) → n + m + 1 < length octets
-        → old.stage ≡ nows.Name → is_top fs ≡ false → place r ≡ places.Name → IsFound places.Name rest octets kind kept n left → said kind kept ≡ Ok c
-        → IsPassed (drop n octets) m → get_or octets (n + m) 0 ≡ 58 → get_or octets (n + m + 1) 0 ≢ 58 → Names c name
+    pub key_strode : (token : FoundToken) (m : ℕ) (name : Option (List ℕ)) → token.count + m + 1 < length octets
+        → old.stage ≡ nows.Name → is_top fs ≡ false → place r ≡ places.Name → (x : NameThere old.context rest octets token name)
+        → IsPassed (drop token.count octets) m → get_or octets (token.count + m) 0 ≡ 58 → get_or octets (token.count + m + 1) 0 ≢ 58
         → Does takes (told fs ss) (named old.start old.context fs name) (Ok Goes) new a b
-        → StrodeFrom takes fs ss old new rest (past_token places.Name (past_blank (past_token places.Name rest kind n) m) (kinds.Mark marks.Colon) 1) octets
-        (n + m + 1) a b
-    key_strode kind kept n m left c name more now open_there is found says passed colon one names does =
+        → StrodeFrom takes fs ss old new rest
+        (past_token places.Name (past_blank (past_token places.Name rest token.kind token.count) m) (kinds.Mark marks.Colon) 1) octets (token.count + m + 1) a b
+    key_strode token m name more now open_there is x passed colon one does =
+        let n = token.count in
+        let kind = token.kind in
         let fits = h.fits in
         let begun = begun_inner old.start rest.used fs ss open_there in
         let used = blank_used (past_token places.Name rest kind n) m in
@@ -404,8 +535,10 @@ module _ {V : Type 0} (takes : V → Event → V → Type 0) where
         (λ q e. named_stays (under old.catalog.now old.limits) (spot_at 0 old.start old.context) q fs name e) does
         (λ q e there.
         subst (λ p. Passes old.catalog.now old.limits (with_scan (resting rest) r) octets (n + m + 1) (with_scan (resting (after p)) q)) is
-        (name_passes old.catalog.now old.limits r open_there rest octets kind kept n m left c (omega arith) (omega arith)
-        (subst (λ p. IsFound p rest octets kind kept n left) (sym is) found) says passed (subst IsCalm (sym now) tt) h.still now q more name names colon one e))
+        (name_passes old.catalog.now old.limits r open_there rest octets kind x.there.kept n m token.left x.content (omega arith) (omega arith)
+        (subst (λ p. IsFound p rest octets kind x.there.kept n token.left) (sym is) x.there.found) x.there.says (subst IsCalm (sym now) tt) h.still now q
+        passed more name (λ any. subst (λ p. takes_colon p kind ≡ true) (sym is) x.may)
+        (x.names (under old.catalog.now old.limits) (rest.used + n) old.start fs) colon one e))
 
     -- an annotation, the blank behind it and `::`
     pub note_strode : (here : Place) (token : FoundToken) (f : FoundNote octets token) (m : ℕ) → token.count + m + 2 < length octets
@@ -586,17 +719,29 @@ module _ {V : Type 0} (takes : V → Event → V → Type 0) where
         value_strode old new rest octets a b fs ss h same here token.kind x.kept token.count token.left x.content payload more now (inner fs ss h.holds)
         (is fs ss h.holds) x.found x.says x.is (does fs ss h.holds)) more refl same
 
-    pub word_answer : (here : Place) (token : FoundToken) (m : ℕ) (payload : Payload) → token.count + m < length octets → old.stage ≡ nows.Ready → IsInner
-        → IsHere here → BeginsValue true here rest octets token payload → IsPassed (drop token.count octets) m
-        → ends_symbol (get_or octets (token.count + m) 0) ≡ true
+    pub word_answer : (here : Place) (token : FoundToken) (m : ℕ) (after : Rest) (held : Held) (payload : Payload) → token.count + m < length octets
+        → old.stage ≡ nows.Ready → IsInner → IsHere here → WaitsThere old.context here rest octets token held → held_payload held ≡ Ok payload
+        → RestsBehind (drop token.count octets) m (past_token here rest token.kind token.count) after → ends_symbol (get_or octets (token.count + m) 0) ≡ true
         → ((fs : List Frame) (ss : Symbols) → Holds old fs ss
         → Does takes (told fs ss) (ended (under g l) (spot_at (rest.used + token.count) old.start old.context) fs (annotated ss payload)) (Ok Goes) new a b)
-        → StridesBy takes old new rest (past_blank (past_token here rest token.kind token.count) m) octets (Ok (token.count + m)) a b
-    word_answer here token m payload more now inner is x passed ends does =
+        → StridesBy takes old new rest after octets (Ok (token.count + m)) a b
+    word_answer here token m after held payload more now inner is x pays rests ends does =
+        let used = rests.used in
+        strides_so old new rest after octets (token.count + m) a b
+        (λ fs ss h. word_strode old new rest octets a b fs ss h same here token m after held payload more now (inner fs ss h.holds) (is fs ss h.holds) x pays
+        rests ends (does fs ss h.holds)) more (omega arith) same
+
+    pub symbol_note_answer : (here : Place) (token : FoundToken) (m : ℕ) (s : Option (List ℕ)) → token.count + m + 2 < length octets → old.stage ≡ nows.Ready
+        → IsInner → IsHere here → SymbolThere old.context here rest octets token s → IsPassed (drop token.count octets) m
+        → get_or octets (token.count + m) 0 ≡ 58 → get_or octets (token.count + m + 1) 0 ≡ 58
+        → ((fs : List Frame) (ss : Symbols) → Holds old fs ss
+        → Does takes (told fs ss) (goes (at old.start old.context fs (ss ++ s ∷ []) nows.Ready)) (Ok Goes) new a b)
+        → StridesBy takes old new rest (behind_note here rest token m) octets (Ok (token.count + m + 2)) a b
+    symbol_note_answer here token m s more now inner is x passed one two does =
         let used = blank_used (past_token here rest token.kind token.count) m in
-        strides_so old new rest (past_blank (past_token here rest token.kind token.count) m) octets (token.count + m) a b
-        (λ fs ss h. word_strode old new rest octets a b fs ss h same here token.kind x.kept token.count m token.left x.content payload more now
-        (inner fs ss h.holds) (is fs ss h.holds) x.found x.says passed ends x.is (does fs ss h.holds)) more (omega arith) same
+        strides_so old new rest (behind_note here rest token m) octets (token.count + m + 2) a b
+        (λ fs ss h. symbol_note_strode old new rest octets a b fs ss h same here token m s more now (inner fs ss h.holds) (is fs ss h.holds) x passed one two
+        (does fs ss h.holds)) more (omega arith) same
 
     pub long_answer : (here : Place) (count : ℕ) (after : Rest) (text : List ℕ) → old.stage ≡ nows.Ready → IsInner → IsHere here
         → LongThere here rest octets count after text
@@ -609,7 +754,7 @@ module _ {V : Type 0} (takes : V → Event → V → Type 0) where
         x.more x.segments.used same
 
     pub key_answer : (token : FoundToken) (m : ℕ) (name : Option (List ℕ)) → token.count + m + 1 < length octets → old.stage ≡ nows.Name
-        → BeginsName places.Name rest octets token name → IsPassed (drop token.count octets) m → get_or octets (token.count + m) 0 ≡ 58
+        → NameThere old.context rest octets token name → IsPassed (drop token.count octets) m → get_or octets (token.count + m) 0 ≡ 58
         → get_or octets (token.count + m + 1) 0 ≢ 58
         → ((fs : List Frame) → Holds old fs [] → Does takes (told fs []) (named old.start old.context fs name) (Ok Goes) new a b)
         → StridesBy takes old new rest
@@ -621,8 +766,8 @@ module _ {V : Type 0} (takes : V → Event → V → Type 0) where
         (token.count + m + 1) a b
         (λ fs ss h.
         let k = bare_at nows.Name now (λ e. cc) fs ss h.holds in
-        key_strode old new rest octets a b fs ss h same token.kind x.kept token.count m token.left x.content name more now k.1
-        (ap (place_in fs) now ∙ open_name fs ss (subst (λ s. AreOpen fs ss (calm s)) now h.holds.0.open_there)) x.found x.says passed colon one x.names
+        key_strode old new rest octets a b fs ss h same token m name more now k.1
+        (ap (place_in fs) now ∙ open_name fs ss (subst (λ s. AreOpen fs ss (calm s)) now h.holds.0.open_there)) x passed colon one
         (subst (λ ns. Does takes (told fs ns) (named old.start old.context fs name) (Ok Goes) new a b) (sym k.0)
         (does fs (subst (λ ns. Holds old fs ns) k.0 h.holds)))) more (omega arith) same
 
@@ -645,6 +790,7 @@ with_moved r s = record {
   catalog = r.catalog;
   limits = r.limits;
   scanner = s;
+  beside = r.beside;
   recent = r.recent;
   start = r.start;
   context = r.context;
@@ -686,4 +832,6 @@ module _ {V : Type 0} (takes : V → Event → V → Type 0) (old mid : TextWalk
             (λ w e. x.passes w (e ∙ front)));
         holds = x.ahead.holds;
         hears = x.hears;
+        still = x.ahead.still;
+        rests = ap (λ (k : Known). k.mode) there;
       }

@@ -25,7 +25,7 @@ use Rattle.ion_tokens.specs.Bodies.{Content, Word, Id, Quoted, Short, Long, Numb
 use Rattle.ion_tokens.specs.machine.Bounds.{is_idle}
 use Rattle.ion_tokens.specs.Octets.{is_white, begins_word, is_digit, is_operator_octet}
 use Rattle.ion_tokens.specs.Places.{is_name, is_sexp}
-use Rattle.ion_tokens.specs.machine.Rests.{resting, past_blank, past_token, lexeme_at, IsPassed, IsFound}
+use Rattle.ion_tokens.specs.machine.Rests.{resting, past_blank, past_token, lexeme_at, IsPassed, IsFound, RestsBehind}
 use Rattle.ion_tokens.specs.machine.Said.{said, says}
 use Rattle.ion_tokens.specs.machine.Scanning as scanning
 use Rattle.ion_tokens.specs.machine.Scanning.{Known, Outcome, Next, feed, follow, acts}
@@ -105,7 +105,8 @@ ends_so setting spot fs ss c v e = go c e
     go (Number' n) e = absurd cc
     go (Mark' m) e = absurd cc
 
-names_so : (setting : Setting) (spot : Spot) (fs : List Frame) (c : Content) (s : Option (List ℕ)) → Names c s → on_name setting spot fs c
+-- what is said is a field's name
+pub names_so : (setting : Setting) (spot : Spot) (fs : List Frame) (c : Content) (s : Option (List ℕ)) → Names c s → on_name setting spot fs c
     ≡ goes (keyed spot.start spot.context fs s)
 names_so setting spot fs c s e = go c e
   where
@@ -127,7 +128,7 @@ names_so setting spot fs c s e = go c e
     go (Mark' m) e = absurd e
 
 -- a colon may stand behind it
-name_colon : (p : Place) (k : TokenKind) (kept : List ℕ) (c : Content) (s : Option (List ℕ)) → said k kept ≡ Ok c → Names c s → is_name p ≡ true
+pub name_colon : (p : Place) (k : TokenKind) (kept : List ℕ) (c : Content) (s : Option (List ℕ)) → said k kept ≡ Ok c → Names c s → is_name p ≡ true
     → takes_colon p k ≡ true
 name_colon p k kept c s e n h = go k (subst (λ x. IsBody k kept x) e (says k kept))
   where
@@ -150,7 +151,7 @@ name_colon p k kept c s e n h = go k (subst (λ x. IsBody k kept x) e (says k ke
     go kinds.Blob f = absurd (other (Blob kept) (ok_is c (Blob kept) f))
     go (kinds.Mark m) f = absurd (other (Mark' m) (ok_is c (Mark' m) f))
 
-symbol_colon : (p : Place) (k : TokenKind) (kept : List ℕ) (c : Content) (h : Held) → said k kept ≡ Ok c → held_of c ≡ Some h → takes_colon p k ≡ true
+pub symbol_colon : (p : Place) (k : TokenKind) (kept : List ℕ) (c : Content) (h : Held) → said k kept ≡ Ok c → held_of c ≡ Some h → takes_colon p k ≡ true
 symbol_colon p k kept c h e is = go k (subst (λ x. IsBody k kept x) e (says k kept))
   where
     other : (d : Content) → c ≡ d → held_of d ≡ None → ⊥
@@ -247,7 +248,8 @@ colon_idle p b octets may colon k e = ap idle_in (sym e) ∙ by octets colon
 -- An annotation, wherever it may come, with the blank and `::` behind it.
 module _ (g : Catalog) (l : Limits) (r : Reading) (start : ℕ) (now : r.now ≡ nows.Ready) (still : settle g l r ≡ goes r) (rest : Rest) (octets : List ℕ)
     (kind : TokenKind) (kept : List ℕ) (n m : ℕ) (left : Bool) (c : Content) (held : Held) (s : Option (List ℕ))
-    (found : IsFound (place r) rest octets kind kept n left) (says : said kind kept ≡ Ok c) (holds : held_of c ≡ Some held) (symbol : held_symbol held ≡ Ok s)
+    (found : IsFound (place r) rest octets kind kept n left) (says : said kind kept ≡ Ok c) (may : takes_colon (place r) kind ≡ true)
+    (symbol : held_symbol held ≡ Ok s)
     (passed : IsPassed (drop n octets) m)
     (within : n + m + 2 < length octets) (one : get_or octets (n + m) 0 ≡ 58) (two : get_or octets (n + m + 1) 0 ≡ 58) where
   abbrev pub held_back : Reading
@@ -290,7 +292,7 @@ module _ (g : Catalog) (l : Limits) (r : Reading) (start : ℕ) (now : r.now ≡
         (passed (place held_back) past_symbol) (omega arith) held (rest.used + n) refl
 
     may_colons : past_between.colon ≡ true
-    may_colons = blank_colon past_symbol m ∙ symbol_colon (place r) kind kept c held says holds
+    may_colons = blank_colon past_symbol m ∙ may
 
     same_there : place held_back ≡ place r
     same_there = same_place_in r.frames nows.Ready held_back.now refl held (rest.used + n) refl ∙ ap (place_in r.frames) (sym now)
@@ -330,6 +332,10 @@ module _ (g : Catalog) (l : Limits) (r : Reading) (start : ℕ) (now : r.now ≡
 
 -- The machine over such a token, the blank behind it, and what follows.
 
+-- a blank without comments
+pub passed_rests : (octets : List ℕ) (n : ℕ) (rest : Rest) → n ≤ length octets → IsPassed octets n → RestsBehind octets n rest (past_blank rest n)
+passed_rests octets n rest within passed = record { ran = λ p. passed p rest; within = within; used = blank_used rest n }
+
 named_place : (start : ℕ) (c : List Slot) (q : Reading) (fs : List Frame) (s : Option (List ℕ)) → named start c fs s ≡ goes q → is_name (place_in fs nows.Name)
     ≡ true
 named_place start c q [] s e = absurd cc
@@ -339,7 +345,7 @@ named_place start c q (frames.Fields ss ms ∷ fs) s e = refl
 
 module _ (g : Catalog) (l : Limits) (r : Reading) (inner : is_top r.frames ≡ false) (rest : Rest) (octets : List ℕ) (kind : TokenKind) (kept : List ℕ) (n m : ℕ)
     (left : Bool) (c : Content) (room : rest.used + length octets ≤ l.item + r.start) (within : n + m < length octets)
-    (found : IsFound (place r) rest octets kind kept n left) (says : said kind kept ≡ Ok c) (passed : IsPassed (drop n octets) m) (calm : IsCalm r.now)
+    (found : IsFound (place r) rest octets kind kept n left) (says : said kind kept ≡ Ok c) (calm : IsCalm r.now)
     (still : IsStill r.now) where
   abbrev behind_token : Rest
   behind_token = past_token (place r) rest kind n
@@ -362,7 +368,9 @@ module _ (g : Catalog) (l : Limits) (r : Reading) (inner : is_top r.frames ≡ f
       by false f = given_leads g l r inner (still_settles g l r still) rest octets kind kept n c q says turns room f (quiet (n - 1) (omega arith)) inside same
 
   -- where a value or an annotation may come
-  module _ (now : r.now ≡ nows.Ready) (held : Held) (holds : held_of c ≡ Some held) where
+  module _ (now : r.now ≡ nows.Ready) (held : Held) (may : takes_colon (place r) kind ≡ true)
+      (waits : on_ready (under g l) (spot_in r (rest.used + n)) r.frames r.notes c
+      ≡ goes (at r.start r.context r.frames r.notes (nows.Pending held (rest.used + n)))) where
     abbrev waiting : Reading
     waiting = at r.start r.context r.frames r.notes (nows.Pending held (rest.used + n))
 
@@ -371,23 +379,22 @@ module _ (g : Catalog) (l : Limits) (r : Reading) (inner : is_top r.frames ≡ f
 
     is_token : Passes g l (with_scan (resting rest) r) octets n (with_scan (resting behind_token) waiting)
     is_token =
-        token_passes waiting (ready_turns g l r (lexeme_at rest kind kept n) c now inner
-        ∙ waits_so (under g l) (spot_in r (rest.used + n)) r.frames r.notes c held holds) inner refl
+        token_passes waiting (ready_turns g l r (lexeme_at rest kind kept n) c now inner ∙ waits) inner refl
 
-    is_blank : Passes g l (with_scan (resting behind_token) waiting) (drop n octets) m (with_scan (resting behind_blank) waiting)
-    is_blank =
-        let some = size in
-        passes_waiting g l waiting (l.item + r.start) (inner_notices l waiting inner) (resting behind_token) (resting behind_blank) (drop n octets) m
-        (omega arith) refl refl (passed (place waiting) behind_token) (omega arith) held (rest.used + n) refl
-
-    is_waiting : Passes g l (with_scan (resting rest) r) octets (n + m) (with_scan (resting behind_blank) waiting)
-    is_waiting = passes_on g l (with_scan (resting rest) r) (with_scan (resting behind_token) waiting) (with_scan (resting behind_blank) waiting) octets n m
-        is_token is_blank
-
-    -- it is a value
-    module _ (q : Reading) (payload : Payload) (pays : held_payload held ≡ Ok payload)
+    -- it is a value, and a blank follows, maybe with comments in it
+    module _ (after : Rest) (rests : RestsBehind (drop n octets) m behind_token after) (q : Reading) (payload : Payload) (pays : held_payload held ≡ Ok payload)
         (does : ended (under g l) (spot_in r (rest.used + n)) r.frames (annotated r.notes payload) ≡ goes q)
         (ends : ends_symbol (get_or octets (n + m) 0) ≡ true) where
+      is_blank : Passes g l (with_scan (resting behind_token) waiting) (drop n octets) m (with_scan (resting after) waiting)
+      is_blank =
+          let some = size in
+          passes_waiting g l waiting (l.item + r.start) (inner_notices l waiting inner) (resting behind_token) (resting after) (drop n octets) m
+          (omega arith) refl refl (rests.ran (place waiting)) (omega arith) held (rest.used + n) refl
+
+      is_waiting : Passes g l (with_scan (resting rest) r) octets (n + m) (with_scan (resting after) waiting)
+      is_waiting = passes_on g l (with_scan (resting rest) r) (with_scan (resting behind_token) waiting) (with_scan (resting after) waiting) octets n m
+          is_token is_blank
+
       stays : StaysIn r.start q
       stays = ended_stays (under g l) (spot_in r (rest.used + n)) q r.frames (annotated r.notes payload) inner does
 
@@ -395,25 +402,26 @@ module _ (g : Catalog) (l : Limits) (r : Reading) (inner : is_top r.frames ≡ f
       settles = released_inner (under g l) (spot_in r (rest.used + n)) r.frames r.notes held inner
           ∙ (ap (paid (under g l) (spot_in r (rest.used + n)) r.frames r.notes) pays ∙ does)
 
-      is_settled : Passes g l (with_scan (resting behind_blank) waiting) (drop (n + m) octets) 0 (with_scan (resting behind_blank) q)
+      is_settled : Passes g l (with_scan (resting after) waiting) (drop (n + m) octets) 0 (with_scan (resting after) q)
       is_settled =
           let some : length (drop (n + m) octets) ≡ length octets - (n + m) = length-drop (n + m) octets in
-          passes_settled g l waiting (resting behind_blank) held (rest.used + n) (drop (n + m) octets) q (omega arith) refl
-          (ends_waits (place waiting) behind_blank (get_or (drop (n + m) octets) 0 0) (ap ends_symbol (at_drop (n + m) octets) ∙ ends)) settles
+          passes_settled g l waiting (resting after) held (rest.used + n) (drop (n + m) octets) q (omega arith) refl
+          (ends_waits (place waiting) after (get_or (drop (n + m) octets) 0 0) (ap ends_symbol (at_drop (n + m) octets) ∙ ends)) settles
           (still_settles g l q stays.2)
           (ended_place (under g l) (spot_in r (rest.used + n)) q r.frames (annotated r.notes payload) inner does
           ∙ (ap (place_in r.frames) (sym now) ∙ sym waits_there))
 
       -- a symbol and the blank behind it lead a run behind its value, if the next octet shows no `::`
-      pub symbol_passes : Passes g l (with_scan (resting rest) r) octets (n + m) (with_scan (resting behind_blank) q)
+      pub symbol_passes : Passes g l (with_scan (resting rest) r) octets (n + m) (with_scan (resting after) q)
       symbol_passes =
           let none : n + m + 0 ≡ n + m = omega arith in
-          subst (λ k. Passes g l (with_scan (resting rest) r) octets k (with_scan (resting behind_blank) q)) none
-          (passes_on g l (with_scan (resting rest) r) (with_scan (resting behind_blank) waiting) (with_scan (resting behind_blank) q) octets (n + m) 0
+          subst (λ k. Passes g l (with_scan (resting rest) r) octets k (with_scan (resting after) q)) none
+          (passes_on g l (with_scan (resting rest) r) (with_scan (resting after) waiting) (with_scan (resting after) q) octets (n + m) 0
           is_waiting is_settled)
 
     -- it is an annotation, and `::` follows
-    module _ (s : Option (List ℕ)) (symbol : held_symbol held ≡ Ok s) (more : n + m + 2 < length octets) (one : get_or octets (n + m) 0 ≡ 58)
+    module _ (s : Option (List ℕ)) (symbol : held_symbol held ≡ Ok s) (passed : IsPassed (drop n octets) m) (more : n + m + 2 < length octets)
+        (one : get_or octets (n + m) 0 ≡ 58)
         (two : get_or octets (n + m + 1) 0 ≡ 58) where
       abbrev noting : Reading
       noting = at r.start r.context r.frames (r.notes ++ s ∷ []) nows.Ready
@@ -422,12 +430,14 @@ module _ (g : Catalog) (l : Limits) (r : Reading) (inner : is_top r.frames ≡ f
       pub note_passes : Passes g l (with_scan (resting rest) r) octets (n + m + 2)
           (with_scan (resting (past_token (place r) behind_blank (kinds.Mark marks.Colons) 2)) noting)
       note_passes =
-          noted_passes g l r r.start now (still_settles g l r still) rest octets kind kept n m left c held s found says holds symbol passed more one two quiet
-          (ready_turns g l r (lexeme_at rest kind kept n) c now inner ∙ waits_so (under g l) (spot_in r (rest.used + n)) r.frames r.notes c held holds)
+          noted_passes g l r r.start now (still_settles g l r still) rest octets kind kept n m left c held s found says may symbol passed more one two quiet
+          (ready_turns g l r (lexeme_at rest kind kept n) c now inner ∙ waits)
           (λ k idle few. inner_notices l waiting inner k idle (omega arith)) (λ k idle few. inner_notices l noting inner k idle (omega arith))
 
   -- where a field's name may come, and its colon
-  module _ (now : r.now ≡ nows.Name) (q : Reading) (more : n + m + 1 < length octets) (name : Option (List ℕ)) (names : Names c name)
+  module _ (now : r.now ≡ nows.Name) (q : Reading) (passed : IsPassed (drop n octets) m) (more : n + m + 1 < length octets) (name : Option (List ℕ))
+      (may : is_name (place r) ≡ true → takes_colon (place r) kind ≡ true)
+      (names : on_name (under g l) (spot_in r (rest.used + n)) r.frames c ≡ goes (keyed r.start r.context r.frames name))
       (colon : get_or octets (n + m) 0 ≡ 58) (one : get_or octets (n + m + 1) 0 ≢ 58) (does : named r.start r.context r.frames name ≡ goes q) where
     abbrev with_name : Reading
     with_name = keyed r.start r.context r.frames name
@@ -441,8 +451,7 @@ module _ (g : Catalog) (l : Limits) (r : Reading) (inner : is_top r.frames ≡ f
     is_key : Passes g l (with_scan (resting rest) r) octets n (with_scan (resting behind_token) with_name)
     is_key =
         token_passes with_name
-        (ap (turn_now (under g l) r (token_at rest.used (rest.used + n) c)) now ∙ names_so (under g l) (spot_in r (rest.used + n)) r.frames c name names) inner
-        refl
+        (ap (turn_now (under g l) r (token_at rest.used (rest.used + n) c)) now ∙ names) inner refl
 
     is_key_blank : Passes g l (with_scan (resting behind_token) with_name) (drop n octets) m (with_scan (resting behind_blank) with_name)
     is_key_blank =
@@ -451,7 +460,7 @@ module _ (g : Catalog) (l : Limits) (r : Reading) (inner : is_top r.frames ≡ f
         (omega arith) refl refl (passed (place with_name) behind_token) (omega arith) refl
 
     may_colon : behind_blank.colon ≡ true
-    may_colon = blank_colon behind_token m ∙ name_colon (place r) kind kept c name says names
+    may_colon = blank_colon behind_token m ∙ may
         (ap (λ x. is_name (place_in r.frames x)) now ∙ named_place r.start r.context q r.frames name does)
 
     is_colon : Passes g l (with_scan (resting behind_blank) with_name) (drop (n + m) octets) 1 (with_scan (resting behind_colon) q)
@@ -584,7 +593,12 @@ module _ (old new : TextReader) (moved : Scanner) (rest behind : Rest) (octets :
       (subst (λ (k : Rest). Passes old.catalog.now old.limits (with_scan (resting rest) (reading_of old)) octets (n + m)
       (with_scan (resting k) (reading_of new))) (sym there)
       (symbol_passes old.catalog.now old.limits (reading_of old) inside.inner rest octets token.kind b.kept n m token.left b.content fits within b.found b.says
-      passed (subst IsCalm (sym now) tt) (subst IsStill (sym now) tt) now pays.0 pays.1 (reading_of new) payload pays.2 does ends))
+      (subst IsCalm (sym now) tt) (subst IsStill (sym now) tt) now pays.0
+      (symbol_colon (place (reading_of old)) token.kind b.kept b.content pays.0 b.says pays.1)
+      (waits_so (setting_of old) (spot_of old (rest.used + n)) (open_frames old) old.notes b.content pays.0 pays.1)
+      (past_blank (past_token (place (reading_of old)) rest token.kind n) m)
+      (passed_rests (drop n octets) m (past_token (place (reading_of old)) rest token.kind n) (let size = length-drop n octets in omega arith) passed)
+      (reading_of new) payload pays.2 does ends))
 
   -- in an open container an annotation is taken up at once with its `::`
   pub note_strides : (m : ℕ) (s : Option (List ℕ)) → n + m + 2 < length octets
@@ -603,7 +617,10 @@ module _ (old new : TextReader) (moved : Scanner) (rest behind : Rest) (octets :
       (with_scan (resting (past_token (place (reading_of old)) (past_blank (past_token (place (reading_of old)) rest token.kind n) m)
       (kinds.Mark marks.Colons) 2)) q)) (sym is)
       (note_passes old.catalog.now old.limits (reading_of old) inside.inner rest octets token.kind b.kept n m token.left b.content fits (omega arith) b.found
-      b.says passed (subst IsCalm (sym now) tt) (subst IsStill (sym now) tt) now pays.0 pays.1 s (symbol_held pays.0 s pays.2) within one two)))
+      b.says (subst IsCalm (sym now) tt) (subst IsStill (sym now) tt) now pays.0
+      (symbol_colon (place (reading_of old)) token.kind b.kept b.content pays.0 b.says pays.1)
+      (waits_so (setting_of old) (spot_of old (rest.used + n)) (open_frames old) old.notes b.content pays.0 pays.1) s (symbol_held pays.0 s pays.2) passed
+      within one two)))
     where
       more : (a b c : ℕ) → a + b + c + 2 ≡ a + (b + c + 2)
       more a b c = omega arith
@@ -621,7 +638,9 @@ module _ (old new : TextReader) (moved : Scanner) (rest behind : Rest) (octets :
       (subst (λ (k : Rest). Passes old.catalog.now old.limits (with_scan (resting rest) (reading_of old)) octets (n + m + 1)
       (with_scan (resting k) (reading_of new))) (sym there)
       (name_passes old.catalog.now old.limits (reading_of old) inside.inner rest octets token.kind b.kept n m token.left b.content fits (omega arith) b.found
-      b.says passed (subst IsCalm (sym now) tt) (subst IsStill (sym now) tt) now (reading_of new) within name b.names colon one does))
+      b.says (subst IsCalm (sym now) tt) (subst IsStill (sym now) tt) now (reading_of new) passed within name
+      (name_colon (place (reading_of old)) token.kind b.kept b.content name b.says b.names)
+      (names_so (setting_of old) (spot_of old (rest.used + n)) (open_frames old) b.content name b.names) colon one does))
     where
       more : (a b c : ℕ) → a + b + c + 1 ≡ a + (b + c + 1)
       more a b c = omega arith

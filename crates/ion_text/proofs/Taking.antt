@@ -1,6 +1,5 @@
 -- What a reader that holds no values does, over what it did before.
-use Rattle.std.proofs.Common.{◌≡◌, ◌≢◌, ℕ, zero, suc, ◌+◌, ◌-◌, ◌<◌, true, false, List, [], ◌∷◌, ◌++◌, Option, Some, None, Result, Ok, Err, refl, sym, ap, ◌∙◌, subst, arith}
-use Rattle.std.specs.Prelude.{if◌then◌else◌}
+use Rattle.std.proofs.Common.{◌≡◌, ◌≢◌, ℕ, ◌-◌, ◌<◌, true, false, List, [], ◌∷◌, Some, None, Result, Ok, Err, refl, sym, ap, ◌∙◌, subst}
 use Rattle.ion_model.specs.declared.value.Value.{Value}
 use Rattle.ion_atoms.specs.declared.refusal.Reason.{Reason}
 use Rattle.ion_atoms.specs.declared.refusal.Reason.TheVariants as reasons
@@ -20,14 +19,14 @@ use Rattle.ion_text.specs.declared.state.Met.{Met}
 use Rattle.ion_text.specs.declared.state.Met.TheVariants as met
 use Rattle.ion_text.specs.declared.walk.TextWalk.{TextWalk}
 use Rattle.ion_text.specs.machine.EachToken.{Reading, Symbols, Turn, goes, gives, late, refuses, place, settle, turn}
-use Rattle.ion_text.specs.machine.Run.{State, Effect, uses, tells, leaves, fails, lesser, or_worse, unsettled, with_scan, on_scan, on_settled, takes, noticed, behind_given, behind_left}
+use Rattle.ion_text.specs.machine.Run.{State, Effect, uses, tells, leaves, fails, lesser, or_worse, unsettled, with_scan, on_scan, takes, noticed, behind_given, behind_left}
 use Rattle.ion_text.specs.machine.Views.{worse, token_in, IsBehind, is_left, comes_again}
 use Rattle.ion_tokens.specs.declared.scanner.Scanner.{Scanner}
 use Rattle.ion_tokens.specs.declared.token.Token.{Token as Found}
 use Rattle.ion_tokens.specs.machine.Steps.{Stepped, Answers}
 use Rattle.ion_text.proofs.Meetings.{no_token, given_token, left_token, on_given, on_left}
 use Rattle.ion_visiting.specs.Tables.{Hears, heard}
-use Rattle.ion_text.specs.walk.Holds.{Does, DoesAlone, Holds, WentOn, GaveOut, SameSetting, told, reading_of, state_of}
+use Rattle.ion_text.specs.walk.Holds.{Does, DoesAlone, Holds, WentOn, GaveOut, told, reading_of, state_of}
 use Rattle.ion_text.specs.walk.Takes.{DidTake, DidMeet, MeetsWith, IsMet}
 use Rattle.ion_visiting.specs.laws.Filters.{hears_none, hears_both}
 use Rattle.ion_text.proofs.Octets.{least, one_octet, same_scan, same_takes, goes_on_takes, settles}
@@ -278,6 +277,7 @@ with_scanner r s = record {
   catalog = r.catalog;
   limits = r.limits;
   scanner = s;
+  beside = r.beside;
   recent = r.recent;
   start = r.start;
   context = r.context;

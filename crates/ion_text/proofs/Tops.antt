@@ -54,9 +54,9 @@ use Rattle.ion_text.specs.machine.FrontTokens.{held_of, EndsAtOnce, IsValue}
 use Rattle.ion_text.proofs.Arms.{left_found, given_found, mark_says, at_drop, blank_used}
 use Rattle.ion_text.proofs.Nested.{is_open_left, open_found, close_found, closing}
 use Rattle.ion_text.proofs.Passing.{NoticesNothing, inner_notices, passes_blank, passes_on, passes_none, passes_led, next_octet}
-use Rattle.ion_text.proofs.Stretches.{quiet_within}
+use Rattle.ion_text.proofs.Fronts.{quiet_within}
 use Rattle.ion_text.proofs.Striding.{still_settles}
-use Rattle.ion_text.proofs.Symbols.{held_in, symbol_held, note_passes, noted_passes, waits_so}
+use Rattle.ion_text.proofs.Symbols.{held_in, symbol_colon, symbol_held, note_passes, noted_passes, waits_so}
 use Rattle.ion_text.proofs.Walking.{found_within, open_goes, up_to_close, container_noted}
 
 -- a blank at the front of octets, of which more follow
@@ -329,7 +329,8 @@ module _ (octets : List ℕ) (token : FoundToken) (f : FoundNote octets token) (
       let n = token.count in
       let start' = begun_at start rest.used [] ss in
       let pays = held_in (held_of b.content) _ b.is in
-      noted_passes g l (at start c [] ss nows.Ready) start' refl refl rest octets token.kind b.kept n m token.left b.content pays.0 f.name b.found b.says pays.1
+      noted_passes g l (at start c [] ss nows.Ready) start' refl refl rest octets token.kind b.kept n m token.left b.content pays.0 f.name b.found b.says
+      (symbol_colon places.Top token.kind b.kept b.content pays.0 b.says pays.1)
       (symbol_held pays.0 f.name pays.2) passed within one two
       (λ k few. top_quiet g l start c ss rest octets k (omega arith) (omega arith))
       (waits_so (under g l) (spot_at (rest.used + n) start' c) [] ss b.content pays.0 pays.1)
@@ -339,8 +340,10 @@ module _ (octets : List ℕ) (token : FoundToken) (f : FoundNote octets token) (
       let r = at start c (h ∷ fs) ss nows.Ready in
       let b = f.begins (place r) rest in
       let pays = held_in (held_of b.content) _ b.is in
-      note_passes g l r refl rest octets token.kind b.kept token.count m token.left b.content room (omega arith) b.found b.says passed tt tt refl pays.0 pays.1
-      f.name (symbol_held pays.0 f.name pays.2) within one two
+      note_passes g l r refl rest octets token.kind b.kept token.count m token.left b.content room (omega arith) b.found b.says tt tt refl pays.0
+      (symbol_colon (place r) token.kind b.kept b.content pays.0 b.says pays.1)
+      (waits_so (under g l) (spot_at (rest.used + token.count) start c) (h ∷ fs) ss b.content pays.0 pays.1) f.name
+      (symbol_held pays.0 f.name pays.2) passed within one two
 
   note_used : (p : Place) (rest : Rest) → (behind_note p rest token m).used ≡ rest.used + (token.count + m + 2)
   note_used p rest = let used = blank_used (past_token p rest token.kind token.count) m in omega arith

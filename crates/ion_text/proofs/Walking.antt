@@ -50,7 +50,7 @@ use Rattle.ion_text.proofs.Arms.{StaysIn, ready_turns, ended_stays, left_passes,
 use Rattle.ion_text.proofs.Nested.{is_open_left, open_found, opened_stays, close_found, closing}
 use Rattle.ion_text.proofs.Passing.{inner_notices, passes_none, passes_on, passes_blank, calm_quiet}
 use Rattle.ion_text.proofs.Striding.{still_settles}
-use Rattle.ion_text.proofs.Symbols.{held_in, symbol_passes, name_passes}
+use Rattle.ion_text.proofs.Symbols.{held_in, passed_rests, symbol_passes, symbol_colon, waits_so, name_passes, name_colon, names_so}
 use Rattle.ion_model.specs.declared.value.Payload.{Payload}
 
 -- a token where the scanner rests and a container is open
@@ -108,8 +108,12 @@ module _ (p : Place) (level : ℕ) (rest : Rest) (octets : List ℕ) (s : Scalar
       subst (λ p. Passes g l (rested rest start c fs ss nows.Ready) octets (count + m)
       (rested (past_blank (past_token p rest s.token.kind count) m) start c those [] n)) here
       (symbol_passes g l r inner rest octets s.token.kind f.kept count m s.token.left f.content room within
-      (subst (λ p. IsFound p rest octets s.token.kind f.kept count s.token.left) (sym here) f.found) f.says passed tt tt refl pays.0 pays.1 q f.payload pays.2
-      does ends)
+      (subst (λ p. IsFound p rest octets s.token.kind f.kept count s.token.left) (sym here) f.found) f.says tt tt refl pays.0
+      (symbol_colon (place r) s.token.kind f.kept f.content pays.0 f.says pays.1)
+      (waits_so (under g l) (spot_at (rest.used + count) start c) fs ss f.content pays.0 pays.1)
+      (past_blank (past_token (place r) rest s.token.kind count) m)
+      (passed_rests (drop count octets) m (past_token (place r) rest s.token.kind count) (let size = length-drop count octets in omega arith) passed)
+      q f.payload pays.2 does ends)
 
   -- with what is noted
   pub walked_scalar : (before after : Tally) (m : ℕ) → before.level ≤ level → before.rest ≡ rest → count + m ≤ length octets
@@ -159,8 +163,10 @@ module _ (rest : Rest) (octets : List ℕ) (token : FoundToken) (f : FoundName r
       (λ ss. frames.Named ss ms f.name) nows.Ready
   key_leads level ms = λ g l start c ss fs deep room.
       name_passes g l (at start c (frames.Fields ss ms ∷ fs) [] nows.Name) refl rest octets token.kind f.begins.kept token.count m token.left f.begins.content
-      room (omega arith) f.begins.found f.begins.says passed tt tt refl
-      (at start c (frames.Named ss ms f.name ∷ fs) [] nows.Ready) within f.name f.begins.names colon one refl
+      room (omega arith) f.begins.found f.begins.says tt tt refl
+      (at start c (frames.Named ss ms f.name ∷ fs) [] nows.Ready) passed within f.name
+      (name_colon places.Name token.kind f.begins.kept f.begins.content f.name f.begins.says f.begins.names)
+      (names_so (under g l) (spot_at (rest.used + token.count) start c) (frames.Fields ss ms ∷ fs) f.begins.content f.name f.begins.names) colon one refl
 
   key_used : (behind_key rest token m).used ≡ rest.used + (token.count + m + 1)
   key_used = let used = blank_used (past_token places.Name rest token.kind token.count) m in omega arith

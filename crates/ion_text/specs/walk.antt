@@ -2,3 +2,7 @@
 pub mod Holds
 pub mod Takes
 pub mod Strides
+pub mod Ends
+pub mod Fronts
+pub mod Advances
+pub mod Rare

@@ -14,15 +14,15 @@ use std::alloc::Global;
 use std::fmt::{self, Debug, Formatter};
 use std::mem;
 
-mod advance;
+pub(crate) mod advance;
 mod alike;
 mod annotation_or_value;
 pub(crate) mod annotations;
 mod blanks_while_waiting;
 mod built_values;
 mod containers;
-mod end_of_input;
-mod escaped_tokens;
+pub(crate) mod end_of_input;
+pub(crate) mod escaped_tokens;
 pub(crate) mod finders;
 mod items;
 mod left_values;

@@ -19,18 +19,25 @@ use crate::state::{Effect, Now};
 use ion_model::{Reason, Refusal, Symbol, Value};
 use ion_scalar::Number;
 use ion_symtab::{Catalog, Context, Limits};
-use ion_tokens::{Place, Scanner};
+use ion_tokens::{Place, Scanner, TokenReader};
 use ion_visiting::{Bracket, Part, RecentSymbols, TableFilter, Visitor};
 use std::alloc::Global;
 use std::fmt::{self, Debug, Formatter};
 use std::mem;
 
+mod advance;
+mod blanks_while_waiting;
 mod containers;
+mod end_of_input;
 mod last_tokens;
+mod long_strings;
 mod octets;
 mod on_token;
+mod rare_tokens;
 mod settling;
 mod stride;
+mod symbol_ids;
+mod to_next_token;
 
 /// A reader of a text document that comes in pieces (Ion 1.0, "Ion Text Encoding"). It tells a
 /// visitor the values event by event, and holds none of them.
@@ -44,6 +51,8 @@ pub struct TextWalk<'a> {
     catalog: &'a Catalog,
     limits: Limits,
     scanner: Scanner,
+    /// Reads tokens beside the scanner; what it keeps never counts.
+    beside: TokenReader,
     /// The symbols met lately, whose texts are shared.
     recent: RecentSymbols,
     /// Where the open item of the top level begins.

@@ -1,7 +1,8 @@
 //! What unquoted words are (Ion 1.0, "Symbols" and "Ion Text Encoding").
-ghost use Rattle.std.specs.Prelude.{◌≡◌, false, MatchResult};
+ghost use Rattle.std.specs.Prelude.{◌≡◌, ◌-◌, ◌^◌, min, false, MatchResult};
 ghost use Rattle.std.specs.List.{list_all};
 ghost use Rattle.ion_atoms.specs.declared.refusal.Reason.TheVariants as reasons;
+ghost use Rattle.ion_tokens.specs.Bodies.{id_of, number_in};
 ghost use Rattle.ion_tokens.specs.Octets.{is_digit};
 ghost use Rattle.ion_text.specs.Grammar.{is_keyword, is_version, version_parts, some_digits};
 ghost use Rattle.ion_text.specs.machine.EachToken.{held_word};
@@ -27,6 +28,29 @@ fn some_digits(octets: &[u8]) -> bool
     ensures { result ≡ some_digits octets.now }
 {
     !octets.is_empty() && are_digits(octets)
+}
+
+// The number of these digits; 2^64-1 stands for every larger one.
+fn number_in(digits: &[u8]) -> u64
+    ensures { result ≡ min (number_in 0 digits.now) (2 ^ 64 - 1) }
+{
+    let mut number: u64 = 0;
+    for digit in digits {
+        number = number
+            .saturating_mul(10)
+            .saturating_add(u64::from(digit.saturating_sub(b'0')));
+    }
+    number
+}
+
+/// The symbol id that a word is, `$` and digits; 2^64-1 stands for every larger one.
+pub(crate) fn symbol_id(word: &[u8]) -> Option<u64>
+    ensures { result ≡ id_of word.now }
+{
+    match word.split_first() {
+        Some((b'$', digits)) if !digits.is_empty() && are_digits(digits) => Some(number_in(digits)),
+        _ => None,
+    }
 }
 
 /// Whether these are digits, `_` and digits.

@@ -3,6 +3,7 @@ use Rattle.std.specs.Prelude.{◌≡◌, ◌+◌, ◌-◌, ◌≤◌, ◌<◌, �
 use Rattle.ion_atoms.specs.declared.refusal.Reason.{Reason}
 use Rattle.ion_atoms.specs.declared.refusal.Reason.TheVariants.{Memory}
 use Rattle.ion_model.specs.declared.value.Value.{Value}
+use Rattle.ion_tokens.specs.declared.mode.Mode.TheVariants as modes
 use Rattle.ion_tokens.specs.declared.plain_tokens.Rest.{Rest}
 use Rattle.ion_tokens.specs.machine.Rests.{resting}
 use Rattle.ion_tokens.specs.machine.Views.{scanned}
@@ -58,6 +59,9 @@ module _ {V : Type 0} (takes : V → Event → V → Type 0) where
     pub passes : Passes old.catalog.now old.limits (state_of old fs ss) octets count (state_of new frames notes)
     pub holds : Holds new frames notes
     pub hears : Hears takes (heard (told fs ss)) (heard (told frames notes)) a b
+    -- no token has begun, and nothing waits
+    pub still : IsStill new.stage
+    pub rests : (scanned new.scanner).mode ≡ modes.Blank
 
   -- Over so many octets a run goes on, gives a value with the last of them, or leads to where the next one shows the end of a value; a visitor
   -- heard what there was to hear of them.

@@ -12,7 +12,7 @@ use ion_model::{Reason, Refusal};
 use ion_symtab::Step;
 
 // The refusal, which says nothing of the octets behind `before` where memory ran out.
-fn with_memory_at(before: u64, refusal: Refusal) -> Refusal
+pub(crate) fn with_memory_at(before: u64, refusal: Refusal) -> Refusal
     ensures memory { result.reason ≡ Memory → result.offset ≡ before }
     ensures other { result.reason ≢ Memory → result ≡ refusal }
 {

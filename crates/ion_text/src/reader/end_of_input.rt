@@ -18,7 +18,7 @@ use ion_tokens::{Scanner, Token};
 use std::mem;
 
 // A struct that would be too deep is no reason at the end, which completes nothing by it.
-fn end_late(reason: Reason) -> Reason
+pub(crate) fn end_late(reason: Reason) -> Reason
     ensures { (used : ℕ) → end_late used reason ≡ Err (record { offset = used; reason = result }) }
 {
     match reason {

@@ -18,7 +18,7 @@ use ion_visiting::payload_of;
 use std::alloc::Global;
 
 // Whether a token that isn't plain may stand there: no mark, no comment and no long string.
-pub(super) fn may_be_rare(octets: &[u8]) -> bool {
+pub(crate) fn may_be_rare(octets: &[u8]) -> bool {
     match octets.first() {
         Some(b'\'') => octets.strip_prefix(b"'''").is_none(),
         Some(b'{') => octets.strip_prefix(b"{{").is_some(),

@@ -32,7 +32,7 @@ pub(crate) struct Scalar {
 }
 
 // The value that a word is, and its kind, but for `nan`.
-fn word_part(word: &str) -> Option<(Kind, Part<'_>)>
+pub(crate) fn word_part(word: &str) -> Option<(Kind, Part<'_>)>
     ensures { IfSome result (λ found. (held_payload (held_word word.now) ≡ Ok (payload_of found.1))
         × IsFlat (payload_of found.1) found.0) }
 {
@@ -189,7 +189,7 @@ pub(crate) fn number_at(octets: &[u8]) -> Option<(FoundToken, Number)>
 
 /// What a token that isn't plain, and is no clob or blob, is as a value: its kind, and whether it
 /// would be an annotation if `::` followed.
-pub(super) fn rare_part<'b>(body: &'b Body<'_>) -> Option<(Kind, bool, Part<'b>)>
+pub(crate) fn rare_part<'b>(body: &'b Body<'_>) -> Option<(Kind, bool, Part<'b>)>
     ensures { IfSome result (λ found. IsValue found.1 (content body.now) (payload_of found.2)
         × IsFlat (payload_of found.2) found.0) }
 {

@@ -20,7 +20,7 @@ use ion_tokens::{Body, Place, Rest, TokenKind, TokenReader, blanks, long_segment
 use ion_visiting::{Part, TextVisitor};
 
 /// Whether a long string may begin there.
-pub(super) fn begins_long(octets: &[u8]) -> bool {
+pub(crate) fn begins_long(octets: &[u8]) -> bool {
     match octets.first() {
         Some(b'\'') => octets.strip_prefix(b"'''").is_some(),
         _ => false,
@@ -141,7 +141,7 @@ fn pass_segment(
 /// Goes over the segments of the long string there, where the octet behind them and a blank shows
 /// that they are all, and joins them to an empty text where that is asked for: how many octets they
 /// have, and where a scanner rests behind them.
-pub(super) fn join_segments(
+pub(crate) fn join_segments(
     beside: &mut TokenReader,
     here: Place,
     rest: Rest,

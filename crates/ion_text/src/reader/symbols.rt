@@ -1,6 +1,6 @@
 //! Symbols, annotations and names of fields that lie whole in a piece, where a container is open.
-ghost use Rattle.std.specs.Prelude.{◌≡◌, ◌≢◌, ◌+◌, ◌-◌, ◌<◌, [], length, get_or, take, drop, true, Some, IfSome, IsUtf8};
-ghost use Rattle.ion_tokens.specs.machine.Rests.{IsPassed};
+ghost use Rattle.std.specs.Prelude.{◌≡◌, ◌≢◌, ◌+◌, ◌-◌, ◌<◌, ◌^◌, [], length, get_or, take, drop, true, Some, IfSome, IsUtf8};
+ghost use Rattle.ion_tokens.specs.machine.Rests.{IsPassed, RestsBehind, past_token};
 ghost use Rattle.ion_tokens.specs.declared.mode.Place.{Place};
 ghost use Rattle.ion_tokens.specs.declared.plain_tokens.Rest.{Rest};
 ghost use Rattle.ion_text.specs.declared.state.Now.TheVariants as nows;
@@ -13,7 +13,10 @@ use super::TextReader;
 use super::finders::plain_name;
 use crate::state::{Effect, Now};
 use ion_model::{Payload, Reason, Symbol};
-use ion_tokens::{FoundToken, Mark, Place, Rest, TokenKind, blanks, quoted_symbol, short_string};
+use ion_tokens::{
+    FoundToken, Mark, Place, Rest, TokenKind, blank_with_comments, blanks, quoted_symbol,
+    short_string,
+};
 
 // Whether an octet shows that no `::` follows a symbol: it is no blank, and begins no colon and no
 // comment.
@@ -40,6 +43,34 @@ pub(crate) fn behind_symbol(octets: &[u8], count: usize) -> Option<usize>
         return None;
     }
     Some(between)
+}
+
+// How many octets of a blank, with the comments in it, stand behind this symbol, and where a scanner
+// rests behind them, if the octet behind them shows that no `::` follows.
+#[inline(always)]
+pub(crate) fn behind_waiting(
+    here: Place,
+    rest: Rest,
+    token: FoundToken,
+    octets: &[u8],
+) -> Option<(usize, Rest)>
+    requires room { rest.used + length octets.now < 2 ^ 63 }
+    ensures rests { IfSome result (λ found. RestsBehind (drop token.count octets.now) found.0
+        (past_token here rest token.kind token.count) found.1) }
+    ensures within { IfSome result (λ found. token.count + found.0 < length octets.now) }
+    ensures ends { IfSome result (λ found.
+        ends_symbol (get_or octets.now (token.count + found.0) 0) ≡ true) }
+{
+    if token.count >= octets.len() {
+        return None;
+    }
+    let past = rest.past_token(here, token.kind, token.count);
+    let (between, behind) = blank_with_comments(&octets[token.count..], past);
+    let total = token.count + between;
+    if total >= octets.len() || !ends_symbol(octets[total]) {
+        return None;
+    }
+    Some((between, behind))
 }
 
 // How many octets of a blank stand behind a field's name of so many, if one colon alone stands

@@ -6,6 +6,7 @@
 #![tactic(auto)]
 
 ghost use Rattle.std.specs.Prelude.{◌≡◌, ◌+◌, ◌<◌, ◌^◌, List, length, get_or, drop, false, true};
+ghost use Rattle.ion_tokens.specs.Bodies.{content, Quoted};
 ghost use Rattle.ion_tokens.specs.machine.Rests.{IsPassed};
 ghost use Rattle.ion_tokens.specs.declared.mode.Place.TheVariants as places;
 ghost use Rattle.ion_visiting.specs.Parts.{payload_of};
@@ -16,17 +17,20 @@ ghost use Rattle.ion_text.specs.machine.FrontTokens.{ends_symbol};
 ghost use Rattle.ion_text.specs.machine.Run.{is_top};
 ghost use Rattle.ion_text.specs.visiting.Walks.{FoundPart, FoundSymbol};
 ghost use Rattle.ion_text.specs.walk.Holds.{Holds};
+ghost use Rattle.ion_text.specs.walk.Rare.{SaysThere};
 ghost use Rattle.ion_text.specs.walk.Strides.{EndsBy};
 
 use super::TextWalk;
+use super::rare_tokens::{rare_at, value_part};
+use crate::reader::escaped_tokens::may_be_rare;
 use crate::reader::finders::{
     Scalar, begins_number, begins_symbol, number_at, string_at, symbol_at,
 };
 use crate::reader::nested_containers::close_mark;
 use crate::reader::symbols::behind_symbol;
 use crate::state::{Effect, Now, Taken};
-use ion_model::Reason;
-use ion_tokens::{Place, Rest, TokenKind};
+use ion_model::{Kind, Reason};
+use ion_tokens::{Body, FoundToken, Place, Rest, TokenKind};
 use ion_visiting::{Part, Visitor};
 
 impl TextWalk<'_> {
@@ -104,7 +108,7 @@ impl TextWalk<'_> {
             return self.end_symbol(rest, octets, visitor);
         }
         match string_at(octets) {
-            None => Ok((0, Taken::Uses)),
+            None => self.end_rare(rest, octets, visitor),
             Some((scalar, said)) => self.end_string(scalar, &said, rest, octets, visitor),
         }
     }
@@ -192,7 +196,7 @@ impl TextWalk<'_> {
             visitor.old visitor.new }
     {
         let Some((scalar, said)) = symbol_at(octets) else {
-            return Ok((0, Taken::Uses));
+            return self.end_rare(rest, octets, visitor);
         };
         match behind_symbol(octets, scalar.token.count) {
             None => Ok((0, Taken::Uses)),
@@ -235,6 +239,95 @@ impl TextWalk<'_> {
                 Ok((token.count + between, Taken::Leaves))
             }
             _ => Err(Reason::Memory),
+        }
+    }
+    /// A text with escapes, a clob or a blob.
+    #[inline(never)]
+    fn end_rare<V: Visitor>(
+        &mut self,
+        rest: &mut Rest,
+        octets: &[u8],
+        visitor: &mut V,
+    ) -> Result<(usize, Taken), Reason>
+        requires now { self.old.stage ≡ nows.Ready }
+        requires top { (fs : List Frame) (ss : Symbols) → Holds self.old fs ss →
+            is_top fs ≡ true }
+        requires room { rest.old.used + length octets.now < 2 ^ 63 }
+        ensures { EndsBy V.takes self.old self.new rest.old rest.new octets.now result
+            visitor.old visitor.new }
+    {
+        if !may_be_rare(octets) {
+            return Ok((0, Taken::Uses));
+        }
+        match rare_at(&mut self.beside, Place::Top, *rest, octets) {
+            None => Ok((0, Taken::Uses)),
+            Some((token, body)) => {
+                let ended = self.end_body(token, &body, rest, octets, visitor);
+                drop(body);
+                ended
+            }
+        }
+    }
+
+    /// This token, which says so.
+    fn end_body<V: Visitor>(
+        &mut self,
+        token: FoundToken,
+        body: &Body<'_>,
+        rest: &mut Rest,
+        octets: &[u8],
+        visitor: &mut V,
+    ) -> Result<(usize, Taken), Reason>
+        requires now { self.old.stage ≡ nows.Ready }
+        requires top { (fs : List Frame) (ss : Symbols) → Holds self.old fs ss →
+            is_top fs ≡ true }
+        requires says { SaysThere places.Top rest.old octets.now token (content body.now) }
+        requires room { rest.old.used + length octets.now < 2 ^ 63 }
+        ensures { EndsBy V.takes self.old self.new rest.old rest.new octets.now result
+            visitor.old visitor.new }
+    {
+        if let Body::Quoted(text) = body {
+            return self.end_quoted(token, text.as_str(), rest, octets, visitor);
+        }
+        let Some((kind, waits, said)) = value_part(body) else {
+            return Ok((0, Taken::Uses));
+        };
+        if waits || token.left {
+            return Ok((0, Taken::Uses));
+        }
+        let scalar = Scalar { token, kind, waits };
+        self.end_string(scalar, &said, rest, octets, visitor)
+    }
+
+    /// This quoted symbol and a blank, where the octet behind them shows that no `::` follows.
+    fn end_quoted<V: Visitor>(
+        &mut self,
+        token: FoundToken,
+        text: &str,
+        rest: &mut Rest,
+        octets: &[u8],
+        visitor: &mut V,
+    ) -> Result<(usize, Taken), Reason>
+        requires now { self.old.stage ≡ nows.Ready }
+        requires top { (fs : List Frame) (ss : Symbols) → Holds self.old fs ss →
+            is_top fs ≡ true }
+        requires says { SaysThere places.Top rest.old octets.now token (Quoted text.now) }
+        requires room { rest.old.used + length octets.now < 2 ^ 63 }
+        ensures { EndsBy V.takes self.old self.new rest.old rest.new octets.now result
+            visitor.old visitor.new }
+    {
+        let scalar = Scalar {
+            token,
+            kind: Kind::Symbol,
+            waits: true,
+        };
+        match behind_symbol(octets, token.count) {
+            None => Ok((0, Taken::Uses)),
+            Some(0) => Ok((0, Taken::Uses)),
+            Some(between) => {
+                let said = Part::Symbol(text);
+                self.end_word(scalar, &said, between, rest, octets, visitor)
+            }
         }
     }
 }

@@ -4,14 +4,14 @@ ghost use Rattle.ion_tokens.specs.machine.Views.{begun_in, scanned};
 ghost use Rattle.ion_tokens.specs.machine.Scanning.{run, feed};
 ghost use Rattle.ion_text.specs.declared.state.Frame.{Frame};
 ghost use Rattle.ion_text.specs.machine.EachToken.{Symbols, turn};
-ghost use Rattle.ion_text.specs.machine.Run.{has_segment, reaches, noticed, unsettled, behind_given, behind_left};
-ghost use Rattle.ion_text.specs.machine.Views.{comes_again, token_in, Notices};
+ghost use Rattle.ion_text.specs.machine.Run.{has_segment, reaches, noticed, unsettled, behind_given, behind_left, on_scan, takes};
+ghost use Rattle.ion_text.specs.machine.Views.{comes_again, count_of, token_in, Notices};
 ghost use Rattle.ion_text.specs.walk.Holds.{Holds, SameSetting, reading_of, state_of, told};
-ghost use Rattle.ion_text.specs.walk.Takes.{DidMeet, IsFine, IsMet, MeetsWith, SameReader, StaysSteady};
+ghost use Rattle.ion_text.specs.walk.Takes.{DidMeet, DidTake, IsFine, IsMet, MeetsWith, SameReader, StaysSteady};
 
 use super::TextWalk;
-use crate::reader::octets::{goes_on_long, goes_on_symbol, lesser};
-use crate::state::{Effect, Met, Now};
+use crate::reader::octets::{goes_on_long, goes_on_symbol, lesser, worse};
+use crate::state::{Effect, Met, Now, Taken};
 use ion_model::{Reason, Refusal};
 use ion_tokens::{Form, Place, Scan, Token};
 use ion_visiting::Visitor;
@@ -184,6 +184,82 @@ impl TextWalk<'_> {
                     Err(reason) => Err(self.refused(0, reason)),
                 },
             },
+        }
+    }
+
+    /// Takes up an octet, which may be left behind fewer than so many tokens that it ends.
+    #[cycle(octet)]
+    pub(super) fn take_octet<V: Visitor>(
+        &mut self,
+        tokens: u8,
+        octet: u8,
+        visitor: &mut V,
+    ) -> Result<Taken, Reason>
+        requires fine { IsFine self.old }
+        requires room { (scanned self.old.scanner).used + 1 < 2 ^ 63 }
+        ensures did { (fs : List Frame) (ss : Symbols) → Holds self.old fs ss →
+            DidTake V.takes (told fs ss)
+            (takes self.old.catalog.now self.old.limits tokens (state_of self.old fs ss) octet)
+            result self.new visitor.old visitor.new }
+        ensures used { IfOk result (λ taken.
+            (scanned self.new.scanner).used
+            ≡ (scanned self.old.scanner).used + count_of taken) }
+        ensures fine { IfOk result (λ _. IsFine self.new) }
+        ensures steady { IfOk result (λ _. StaysSteady self.old self.new) }
+        ensures same { SameReader self.old self.new }
+    {
+        if tokens == 0 {
+            return Err(Reason::Unexpected);
+        }
+        let place = self.place();
+        if self.goes_on(place, octet) {
+            return self.scan_octet(tokens - 1, place, octet, visitor);
+        }
+        match self.settle(visitor) {
+            Err(reason) => Err(reason),
+            Ok(Effect::Goes) => self.scan_octet(tokens - 1, place, octet, visitor),
+            Ok(Effect::Gives) => Ok(Taken::Leaves),
+            Ok(Effect::Late(reason)) => {
+                let again = self.scan_octet(tokens - 1, place, octet, visitor);
+                Err(worse(reason, again))
+            }
+        }
+    }
+
+    /// Hands an octet to the scanner, which comes again behind a token that it ended and left.
+    #[cycle(octet)]
+    fn scan_octet<V: Visitor>(
+        &mut self,
+        tokens: u8,
+        place: Place,
+        octet: u8,
+        visitor: &mut V,
+    ) -> Result<Taken, Reason>
+        requires fine { IsFine self.old }
+        requires room { (scanned self.old.scanner).used + 1 < 2 ^ 63 }
+        ensures did { (fs : List Frame) (ss : Symbols) → Holds self.old fs ss →
+            DidTake V.takes (told fs ss) (on_scan self.old.catalog.now self.old.limits
+            (λ m. takes self.old.catalog.now self.old.limits tokens m octet)
+            (reading_of self.old fs ss) (feed place (scanned self.old.scanner) octet))
+            result self.new visitor.old visitor.new }
+        ensures used { IfOk result (λ taken.
+            (scanned self.new.scanner).used
+            ≡ (scanned self.old.scanner).used + count_of taken) }
+        ensures fine { IfOk result (λ _. IsFine self.new) }
+        ensures steady { IfOk result (λ _. StaysSteady self.old self.new) }
+        ensures same { SameReader self.old self.new }
+    {
+        let piece = [octet];
+        match self.meet(place, &piece, visitor) {
+            Err(refusal) => Err(refusal.reason),
+            Ok((_, Met::Uses)) => Ok(Taken::Uses),
+            Ok((_, Met::Tells)) => Ok(Taken::Tells),
+            Ok((_, Met::Leaves)) => Ok(Taken::Leaves),
+            Ok((_, Met::Again)) => self.take_octet(tokens, octet, visitor),
+            Ok((_, Met::Late(reason))) => {
+                let again = self.take_octet(tokens, octet, visitor);
+                Err(worse(reason, again))
+            }
         }
     }
 }

@@ -148,7 +148,11 @@ impl TextWalk<'_> {
     }
 
     /// An annotation has come.
-    fn note<V: Visitor>(&mut self, symbol: Symbol, visitor: &mut V) -> Result<Effect, Reason>
+    pub(super) fn note<V: Visitor>(
+        &mut self,
+        symbol: Symbol,
+        visitor: &mut V,
+    ) -> Result<Effect, Reason>
         requires { self.old.stage ≡ nows.Ready }
         ensures does { (fs : List Frame) (ss : Symbols) → Holds self.old fs ss →
             Does V.takes (told fs ss)

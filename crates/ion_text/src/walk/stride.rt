@@ -12,7 +12,7 @@ ghost use Rattle.ion_scalar.specs.declared.number.Number.{Number as AnyNumber};
 ghost use Rattle.ion_model.specs.Kinds.{names_table};
 ghost use Rattle.ion_tokens.specs.declared.mode.Place.{Place as AnyPlace};
 ghost use Rattle.ion_tokens.specs.declared.mode.Place.TheVariants as places;
-ghost use Rattle.ion_tokens.specs.machine.Rests.{IsPassed, RestsBehind, resting};
+ghost use Rattle.ion_tokens.specs.machine.Rests.{RestsBehind, past_token, resting};
 ghost use Rattle.ion_tokens.specs.machine.Views.{scanned};
 ghost use Rattle.ion_visiting.specs.Parts.{payload_of};
 ghost use Rattle.ion_text.specs.declared.state.Frame.{Frame};
@@ -29,12 +29,12 @@ ghost use Rattle.ion_text.specs.walk.Takes.{IsFine, SameReader, StaysSteady};
 
 use super::{TextWalk, heard};
 use crate::reader::annotations::{Note, note_at};
+use crate::reader::escaped_tokens::may_be_rare;
 use crate::reader::finders::{
     Scalar, begins_number, begins_symbol, number_at, operator_at, plain_name, string_at, symbol_at,
 };
-use crate::reader::long_strings::one_segment;
 use crate::reader::nested_containers::{bracket_at, close_mark, open_mark};
-use crate::reader::symbols::{behind_name, behind_symbol};
+use crate::reader::symbols::{behind_name, behind_waiting};
 use crate::state::{Effect, Now, Taken};
 use ion_model::Reason;
 use ion_tokens::{FoundToken, Mark, Place, Rest, TokenKind, blank_with_comments};
@@ -43,13 +43,17 @@ use ion_visiting::{Bracket, Part, Visitor};
 impl TextWalk<'_> {
     /// Takes up the tokens at the front of a piece that lie whole there, up to the end of a value of
     /// the top level, and tells a visitor their events: how many octets they have, and what they
-    /// did. The only refusal is `Memory`.
+    /// did. The scanner rests before them, and behind them again where they ended no value. The only
+    /// refusal is `Memory`.
     #[inline(never)]
     pub(super) fn stride<V: Visitor>(
         &mut self,
+        first: Rest,
         piece: &[u8],
         visitor: &mut V,
     ) -> Result<(usize, Taken), Reason>
+        requires rests { scanned self.old.scanner ≡ resting first }
+        requires still { IsStill self.old.stage }
         requires fine { IsFine self.old }
         requires room { (scanned self.old.scanner).used + length piece.now < 2 ^ 63 }
         ensures took { IfOk result (λ took. (fs : List Frame) (ss : Symbols) →
@@ -63,9 +67,6 @@ impl TextWalk<'_> {
         ensures steady { IfOk result (λ _. StaysSteady self.old self.new) }
         ensures same { SameReader self.old self.new }
     {
-        let Some(first) = self.rests() else {
-            return Ok((0, Taken::Uses));
-        };
         let octets = self.within(piece, first.used);
         if octets.len() < 2 {
             return Ok((0, Taken::Uses));
@@ -80,7 +81,7 @@ impl TextWalk<'_> {
     /// Where the scanner rests, if tokens may be taken up at once: none has begun, and nothing
     /// waits.
     #[inline(always)]
-    fn rests(&self) -> Option<Rest>
+    pub(super) fn rests(&self) -> Option<Rest>
         ensures rests { IfSome result (λ rest. scanned self.now.scanner ≡ resting rest) }
         ensures still { IfSome result (λ _. IsStill self.now.stage) }
     {
@@ -287,14 +288,37 @@ impl TextWalk<'_> {
             return self.take_close(rest, octets, visitor);
         }
         match plain_name(octets) {
-            None => Ok(0),
+            None => self.take_odd_name(rest, octets, visitor),
             Some((token, text)) => self.take_key(token, text, rest, octets, visitor),
         }
     }
 
+    /// The name of a field that isn't plain, with its colon.
+    #[inline(always)]
+    fn take_odd_name<V: Visitor>(
+        &mut self,
+        rest: &mut Rest,
+        octets: &[u8],
+        visitor: &mut V,
+    ) -> Result<usize, Reason>
+        requires now { self.old.stage ≡ nows.Name }
+        requires more { 1 < length octets.now }
+        requires room { rest.old.used + length octets.now < 2 ^ 63 }
+        ensures { StridesBy V.takes self.old self.new rest.old rest.new octets.now result
+            visitor.old visitor.new }
+    {
+        if octets[0] == b'$' {
+            return self.take_dollar_name(rest, octets, visitor);
+        }
+        if may_be_rare(octets) {
+            return self.take_rare_name(rest, octets, visitor);
+        }
+        Ok(0)
+    }
+
     /// This name of a field, with the blank behind it and its colon.
     #[inline(always)]
-    fn take_key<V: Visitor>(
+    pub(super) fn take_key<V: Visitor>(
         &mut self,
         token: FoundToken,
         text: &str,
@@ -451,12 +475,18 @@ impl TextWalk<'_> {
         if let Some((scalar, said)) = operator_at(here, octets) {
             return self.take_whole(here, scalar, &said, rest, octets, visitor);
         }
+        if octets[0] == b'$' {
+            return self.take_dollar(here, rest, octets, visitor);
+        }
+        if may_be_rare(octets) {
+            return self.take_rare(here, rest, octets, visitor);
+        }
         self.take_close(rest, octets, visitor)
     }
 
     /// This token in a container, which is a value at once.
     #[inline(always)]
-    fn take_whole<V: Visitor>(
+    pub(super) fn take_whole<V: Visitor>(
         &mut self,
         here: Place,
         scalar: Scalar,
@@ -508,22 +538,25 @@ impl TextWalk<'_> {
         let Some((scalar, said)) = symbol_at(octets) else {
             return self.take_long(rest, octets, visitor);
         };
-        let Some(between) = behind_symbol(octets, scalar.token.count) else {
+        let here = self.place();
+        let Some((between, behind)) = behind_waiting(here, *rest, scalar.token, octets) else {
             return self.take_note(rest, octets, visitor);
         };
         if self.is_top() {
             return Ok(0);
         }
-        self.take_word(scalar, &said, between, rest, octets, visitor)
+        self.take_word(here, scalar, &said, between, behind, rest, octets, visitor)
     }
 
-    /// This symbol, null or truth in a container, with the blank behind it.
+    /// This symbol, null or truth in a container, with the blank behind it and the comments in that.
     #[inline(always)]
-    fn take_word<V: Visitor>(
+    pub(super) fn take_word<V: Visitor>(
         &mut self,
+        here: Place,
         scalar: Scalar,
         said: &Part<'_>,
         between: usize,
+        behind: Rest,
         rest: &mut Rest,
         octets: &[u8],
         visitor: &mut V,
@@ -531,24 +564,23 @@ impl TextWalk<'_> {
         requires now { self.old.stage ≡ nows.Ready }
         requires inner { (fs : List Frame) (ss : Symbols) → Holds self.old fs ss →
             is_top fs ≡ false }
-        requires found { (here : AnyPlace) →
-            FoundPart here rest.old octets.now scalar (payload_of said.now) }
+        requires here { (fs : List Frame) (ss : Symbols) → Holds self.old fs ss →
+            here ≡ place (reading_of self.old fs ss) }
+        requires found { FoundPart here rest.old octets.now scalar (payload_of said.now) }
         requires waits { scalar.waits ≡ true }
-        requires passed { IsPassed (drop scalar.token.count octets.now) between }
+        requires rests { RestsBehind (drop scalar.token.count octets.now) between
+            (past_token here rest.old scalar.token.kind scalar.token.count) behind }
         requires within { scalar.token.count + between < length octets.now }
         requires ends { ends_symbol (get_or octets.now (scalar.token.count + between) 0) ≡ true }
         requires room { rest.old.used + length octets.now < 2 ^ 63 }
         ensures { StridesBy V.takes self.old self.new rest.old rest.new octets.now result
             visitor.old visitor.new }
     {
-        let here = self.place();
         let token = scalar.token;
         let end = rest.used + token.count as u64;
         match self.whole(said, end, visitor) {
             Ok(Effect::Goes) => {
-                *rest = rest
-                    .past_token(here, token.kind, token.count)
-                    .past_blank(between);
+                *rest = behind;
                 Ok(token.count + between)
             }
             _ => Err(Reason::Memory),
@@ -597,34 +629,5 @@ impl TextWalk<'_> {
         heard(self.filter.text_annotation(text, visitor))?;
         self.noted = true;
         Ok(())
-    }
-
-    /// A long string of one segment in a container.
-    #[inline(never)]
-    fn take_long<V: Visitor>(
-        &mut self,
-        rest: &mut Rest,
-        octets: &[u8],
-        visitor: &mut V,
-    ) -> Result<usize, Reason>
-        requires now { self.old.stage ≡ nows.Ready }
-        requires room { rest.old.used + length octets.now < 2 ^ 63 }
-        ensures { StridesBy V.takes self.old self.new rest.old rest.new octets.now result
-            visitor.old visitor.new }
-    {
-        if self.is_top() {
-            return Ok(0);
-        }
-        let here = self.place();
-        let Some((count, behind, text)) = one_segment(here, *rest, octets) else {
-            return Ok(0);
-        };
-        match self.whole(&Part::Str(text), behind.used, visitor) {
-            Ok(Effect::Goes) => {
-                *rest = behind;
-                Ok(count)
-            }
-            _ => Err(Reason::Memory),
-        }
     }
 }

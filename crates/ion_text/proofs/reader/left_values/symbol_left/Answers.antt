@@ -1,7 +1,7 @@
-use Rattle.std.proofs.Common.{◌+◌, ◌-◌, length, take, drop, sym, subst, arith}
+use Rattle.std.proofs.Common.{◌+◌, drop, sym, subst, arith}
 use Rattle.std.proofs.lemmas.List.{take_rest}
 use Rattle.ion_tokens.specs.declared.mode.Place.TheVariants as places
-use Rattle.ion_tokens.specs.machine.Rests.{past_token, RestsBehind}
+use Rattle.ion_tokens.specs.machine.Rests.{RestsBehind}
 use Rattle.ion_visiting.specs.Parts.{payload_of}
 use Rattle.ion_text.specs.machine.Walked.{FoundLeft, IsFlat}
 use Rattle.ion_text.proofs.TopLeft.{found_symbol}

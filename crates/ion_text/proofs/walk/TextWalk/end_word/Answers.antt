@@ -1,16 +1,13 @@
-use Rattle.std.proofs.Common.{◌≡◌, ◌+◌, ◌<◌, List, [], Ok, false, true, length, arith, ap, refl, sym, ◌∙◌, subst}
+use Rattle.std.proofs.Common.{◌+◌, Ok, ap, sym, ◌∙◌, subst}
 use Rattle.ion_model.specs.Measures.{annotated}
-use Rattle.ion_tokens.specs.declared.mode.Place.TheVariants as places
-use Rattle.ion_tokens.specs.declared.mode.TokenKind.TheVariants as kinds
 use Rattle.ion_tokens.specs.declared.plain_tokens.Rest.{Rest}
-use Rattle.ion_tokens.specs.machine.Rests.{past_blank, past_token}
-use Rattle.ion_visiting.specs.Parts.{number_payload, payload_of}
+use Rattle.ion_tokens.specs.machine.Rests.{past_blank}
+use Rattle.ion_visiting.specs.Parts.{payload_of}
 use Rattle.ion_text.specs.declared.state.Effect.{Effect}
 use Rattle.ion_text.specs.declared.state.Effect.TheVariants.{Gives}
-use Rattle.ion_text.specs.declared.state.Frame.{Frame}
 use Rattle.ion_text.specs.declared.state.Taken.TheVariants as taken
-use Rattle.ion_text.specs.machine.EachToken.{Symbols, closed, ended, spot_at}
-use Rattle.ion_text.specs.walk.Holds.{Does, Holds, SameSetting, setting_of, spot_of, told}
+use Rattle.ion_text.specs.machine.EachToken.{ended, spot_at}
+use Rattle.ion_text.specs.walk.Holds.{Does, SameSetting, setting_of, told}
 use Rattle.ion_text.specs.walk.Strides.{EndsBy}
 use Rattle.ion_text.proofs.LastTokens.{word_ends_answer}
 use Rattle.ion_text.proofs.walk.TextWalk.end_word.Goals as goal

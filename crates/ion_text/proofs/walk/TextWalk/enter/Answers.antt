@@ -1,4 +1,4 @@
-use Rattle.std.proofs.Common.{reverse, refl, ap, sym, subst, ◌∙◌}
+use Rattle.std.proofs.Common.{ap, sym, subst, ◌∙◌}
 use Rattle.ion_visiting.specs.Events.{opens}
 use Rattle.ion_text.specs.declared.walk.TextWalk.{TextWalk}
 use Rattle.ion_visiting.specs.Tables.{Tells}

@@ -1,4 +1,4 @@
-use Rattle.std.proofs.Common.{◌≡◌, ◌+◌, ◌-◌, ◌<◌, ◌≤◌, ◌^◌, ℕ, List, length, take, drop, arith, ap, ◌∙◌, length-drop}
+use Rattle.std.proofs.Common.{◌≡◌, ◌+◌, ◌-◌, ◌<◌, ℕ, List, length, take, drop, arith, ap, ◌∙◌, length-drop}
 use Rattle.std.proofs.lemmas.List.{take_rest}
 use Rattle.ion_tokens.specs.machine.Scanning.{Known}
 use Rattle.ion_tokens.specs.machine.Views.{scanned}
@@ -14,7 +14,7 @@ take_last-requires g c =
     let used = c.in_ok-at.ensures.strode.used in
     let within = c.in_ok-at.ensures.strode.within in
     let few = c.within-octets.ensures.few in
-    let begun : (scanned c.args.self.now.scanner).used ≡ c.in-Some.first.used = ap (λ (k : Known). k.used) c.in-Some.ensures.rests in
+    let begun : (scanned c.args.self.now.scanner).used ≡ c.args.first.used = ap (λ (k : Known). k.used) c.requires.rests in
     let room = c.requires.room in
     omega arith
 
@@ -26,9 +26,9 @@ returns-clause-took g c =
     let at = c.in_ok-at.at in
     let v = c.args.visitor.now in
     let some : 0 < length octets = omega (arith, c.if-octets-lt2.false) in
-    took_there g.V.Visitor.takes old c.take_last.new.self c.move_to.new.self c.in-Some.first c.take_last.new.rest c.args.piece.now octets
-    c.within-octets.ensures.front.0 (at + c.in_ok-count.count) v c.take_last.new.visitor c.within-octets.ensures.front.1 some c.in-Some.ensures.rests
-    c.move_to.ensures.rests c.in-Some.ensures.still (c.within-octets.ensures.fits some) c.in_ok-count.taken
-    (ended_on g.V.Visitor.takes old mid c.take_last.new.self c.in-Some.first c.take_each.new.rest c.take_last.new.rest octets
+    took_there g.V.Visitor.takes old c.take_last.new.self c.move_to.new.self c.args.first c.take_last.new.rest c.args.piece.now octets
+    c.within-octets.ensures.front.0 (at + c.in_ok-count.count) v c.take_last.new.visitor c.within-octets.ensures.front.1 some c.requires.rests
+    c.move_to.ensures.rests c.requires.still (c.within-octets.ensures.fits some) c.in_ok-count.taken
+    (ended_on g.V.Visitor.takes old mid c.take_last.new.self c.args.first c.take_each.new.rest c.take_last.new.rest octets
     (take (length octets - at) (drop at octets)) at c.in_ok-count.count v c.take_each.new.visitor c.take_last.new.visitor (take_rest octets at)
     c.in_ok-at.ensures.same c.in_ok-at.ensures.strode c.in_ok-count.taken c.in_ok-count.ensures.ended)

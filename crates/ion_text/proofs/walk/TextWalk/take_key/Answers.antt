@@ -1,4 +1,4 @@
-use Rattle.std.proofs.Common.{◌≡◌, ◌+◌, List, [], Some, Ok, ap, sym, ◌∙◌, subst}
+use Rattle.std.proofs.Common.{◌+◌, List, [], Some, Ok, ap, sym, ◌∙◌, subst}
 use Rattle.ion_tokens.specs.declared.mode.Mark.TheVariants as marks
 use Rattle.ion_tokens.specs.declared.mode.Place.TheVariants as places
 use Rattle.ion_tokens.specs.declared.mode.TokenKind.TheVariants as kinds
@@ -9,7 +9,7 @@ use Rattle.ion_text.specs.declared.state.Frame.{Frame}
 use Rattle.ion_text.specs.machine.EachToken.{named}
 use Rattle.ion_text.specs.walk.Holds.{Does, Holds, told}
 use Rattle.ion_text.specs.walk.Strides.{StridesBy}
-use Rattle.ion_text.proofs.Strides.{key_answer}
+use Rattle.ion_text.proofs.Strides.{begins_name, key_answer}
 use Rattle.ion_text.proofs.walk.TextWalk.take_key.Goals as goal
 
 pub returns-in-Ok-Goes : goal.returns-in-Ok-Goes
@@ -25,6 +25,7 @@ returns-in-Ok-Goes g c =
     (sym (c.past_token-in-Ok-Goes.ensures
     ∙ ap (λ r. past_token places.Name r (kinds.Mark marks.Colon) 1) (c.past_blank.ensures ∙ ap (λ r. past_blank r m) c.past_token.ensures)))
     (key_answer g.V.Visitor.takes old new rest octets c.args.visitor.now c.named_by.new.visitor c.in-Ok-Goes.ensures.setting token m name
-    c.in-Some.ensures.within c.requires.now c.requires.token c.in-Some.ensures.passed c.in-Some.ensures.colon c.in-Some.ensures.one
+    c.in-Some.ensures.within c.requires.now (begins_name old.context rest octets token name c.requires.token)
+    c.in-Some.ensures.passed c.in-Some.ensures.colon c.in-Some.ensures.one
     (subst (λ (e : Effect). (fs : List Frame) → Holds old fs [] → Does g.V.Visitor.takes (told fs []) (named old.start old.context fs name) (Ok e) new
     c.args.visitor.now c.named_by.new.visitor) c.in-Ok-Goes.field-0-is c.in-Ok-Goes.ensures.does))

@@ -1,4 +1,4 @@
-use Rattle.std.proofs.Common.{◌≡◌, ◌+◌, ◌-◌, ◌<◌, List, ℕ, length, take, drop, arith}
+use Rattle.std.proofs.Common.{◌+◌, ◌-◌, ◌<◌, length, take, drop, arith}
 use Rattle.std.proofs.lemmas.List.{take_rest}
 use Rattle.ion_text.proofs.Strides.{blank_strode, settings_none, strides_none, strides_ok, strode_on}
 use Rattle.ion_text.proofs.walk.TextWalk.take_next.Goals as goal

@@ -1,12 +1,11 @@
-use Rattle.std.proofs.Common.{◌≡◌, List, Ok, ap, refl, sym, ◌∙◌, subst}
+use Rattle.std.proofs.Common.{Ok, ap, sym, ◌∙◌, subst}
 use Rattle.ion_tokens.specs.declared.mode.TokenKind.TheVariants as kinds
 use Rattle.ion_tokens.specs.declared.plain_tokens.Rest.{Rest}
 use Rattle.ion_tokens.specs.machine.Rests.{past_token}
 use Rattle.ion_text.specs.declared.state.Effect.{Effect}
 use Rattle.ion_text.specs.declared.state.Effect.TheVariants.{Goes}
-use Rattle.ion_text.specs.declared.state.Frame.{Frame}
-use Rattle.ion_text.specs.machine.EachToken.{Symbols, opening}
-use Rattle.ion_text.specs.walk.Holds.{Does, Holds, SameSetting, told}
+use Rattle.ion_text.specs.machine.EachToken.{opening}
+use Rattle.ion_text.specs.walk.Holds.{Does, SameSetting, told}
 use Rattle.ion_text.specs.walk.Strides.{StridesBy}
 use Rattle.ion_text.proofs.Strides.{open_answer}
 use Rattle.ion_text.proofs.walk.TextWalk.take_open.Goals as goal

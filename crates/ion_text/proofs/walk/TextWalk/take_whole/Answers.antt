@@ -1,15 +1,11 @@
-use Rattle.std.proofs.Common.{◌≡◌, ◌+◌, ◌<◌, List, Ok, false, true, length, arith, ap, refl, sym, ◌∙◌, subst}
+use Rattle.std.proofs.Common.{◌+◌, ◌<◌, List, Ok, false, length, arith, sym, subst}
 use Rattle.ion_model.specs.Measures.{annotated}
-use Rattle.ion_model.specs.declared.value.Payload.TheVariants as payloads
-use Rattle.ion_tokens.specs.Places.{is_name}
 use Rattle.ion_tokens.specs.declared.plain_tokens.Rest.{Rest}
-use Rattle.ion_tokens.specs.machine.Rests.{past_blank, past_token}
-use Rattle.ion_visiting.specs.Parts.{number_payload, payload_of}
+use Rattle.ion_visiting.specs.Parts.{payload_of}
 use Rattle.ion_text.specs.declared.state.Effect.{Effect}
 use Rattle.ion_text.specs.declared.state.Frame.{Frame}
-use Rattle.ion_text.specs.declared.state.Now.TheVariants as nows
-use Rattle.ion_text.specs.machine.EachToken.{Symbols, ended, place_in}
-use Rattle.ion_text.specs.walk.Holds.{AreOpen, Does, Holds, calm, setting_of, spot_of, told}
+use Rattle.ion_text.specs.machine.EachToken.{Symbols, ended}
+use Rattle.ion_text.specs.walk.Holds.{Does, Holds, setting_of, spot_of, told}
 use Rattle.ion_text.specs.walk.Strides.{StridesBy}
 use Rattle.ion_text.proofs.Strides.{part_begins, value_answer}
 use Rattle.ion_text.proofs.walk.TextWalk.take_whole.Goals as goal

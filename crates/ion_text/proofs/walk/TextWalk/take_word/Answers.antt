@@ -1,17 +1,11 @@
-use Rattle.std.proofs.Common.{◌≡◌, ◌+◌, ◌<◌, List, Ok, false, true, length, arith, ap, refl, sym, ◌∙◌, subst}
+use Rattle.std.proofs.Common.{◌+◌, List, Ok, true, subst}
 use Rattle.ion_model.specs.Measures.{annotated}
-use Rattle.ion_model.specs.declared.value.Payload.TheVariants as payloads
-use Rattle.ion_tokens.specs.Places.{is_name}
-use Rattle.ion_tokens.specs.declared.plain_tokens.Rest.{Rest}
-use Rattle.ion_tokens.specs.machine.Rests.{past_blank, past_token}
-use Rattle.ion_visiting.specs.Parts.{number_payload, payload_of}
+use Rattle.ion_visiting.specs.Parts.{payload_of}
 use Rattle.ion_text.specs.declared.state.Effect.{Effect}
 use Rattle.ion_text.specs.declared.state.Frame.{Frame}
-use Rattle.ion_text.specs.declared.state.Now.TheVariants as nows
-use Rattle.ion_text.specs.machine.EachToken.{Symbols, ended, place_in}
-use Rattle.ion_text.specs.walk.Holds.{AreOpen, Does, Holds, calm, setting_of, spot_of, told}
-use Rattle.ion_text.specs.walk.Strides.{StridesBy}
-use Rattle.ion_text.proofs.Strides.{part_begins, word_answer}
+use Rattle.ion_text.specs.machine.EachToken.{Symbols, ended}
+use Rattle.ion_text.specs.walk.Holds.{Does, Holds, setting_of, spot_of, told}
+use Rattle.ion_text.proofs.Strides.{begins_waits, part_begins, word_answer}
 use Rattle.ion_text.proofs.walk.TextWalk.take_word.Goals as goal
 
 pub returns-in-Ok-Goes : goal.returns-in-Ok-Goes
@@ -20,15 +14,13 @@ returns-in-Ok-Goes g c =
     let new = c.whole.new.self in
     let rest = c.args.rest.now in
     let octets = c.args.octets.now in
-    let here = c.place-here.result in
+    let here = c.args.here in
     let token = c.args.scalar.token in
-    let m = c.args.between in
     let payload = payload_of c.args.said.now in
-    subst (λ (r : Rest). StridesBy g.V.Visitor.takes old new rest r octets (Ok (token.count + m)) c.args.visitor.now c.whole.new.visitor)
-    (sym (c.past_blank.ensures ∙ ap (λ r. past_blank r m) c.past_token.ensures))
-    (word_answer g.V.Visitor.takes old new rest octets c.args.visitor.now c.whole.new.visitor c.in-Ok-Goes.ensures.setting here token m payload
-    c.requires.within c.requires.now c.requires.inner c.place-here.ensures
-    (part_begins true here rest octets c.args.scalar payload (c.requires.found here) c.requires.waits) c.requires.passed c.requires.ends
+    let x = begins_waits old.context here rest octets token payload
+    (part_begins true here rest octets c.args.scalar payload c.requires.found c.requires.waits) in
+    word_answer g.V.Visitor.takes old new rest octets c.args.visitor.now c.whole.new.visitor c.in-Ok-Goes.ensures.setting here token c.args.between
+    c.args.behind x.0 payload c.requires.within c.requires.now c.requires.inner c.requires.here x.1 x.2 c.requires.rests c.requires.ends
     (subst (λ (e : Effect). (fs : List Frame) (ss : Symbols) → Holds old fs ss → Does g.V.Visitor.takes (told fs ss)
     (ended (setting_of old) (spot_of old (rest.used + token.count)) fs (annotated ss payload)) (Ok e) new c.args.visitor.now c.whole.new.visitor)
-    c.in-Ok-Goes.field-0-is c.in-Ok-Goes.ensures.does))
+    c.in-Ok-Goes.field-0-is c.in-Ok-Goes.ensures.does)

@@ -1,0 +1,17 @@
+use Rattle.std.proofs.Common.{Ok, subst}
+use Rattle.ion_text.specs.declared.state.Effect.{Effect}
+use Rattle.ion_text.specs.machine.EachToken.{settle}
+use Rattle.ion_text.specs.walk.Holds.{Does, reading_of, told}
+use Rattle.ion_text.proofs.Ends.{open_gives}
+use Rattle.ion_text.proofs.walk.TextWalk.end_open.Goals as goal
+
+pub returns-in-Ok-Gives : goal.returns-in-Ok-Gives
+returns-in-Ok-Gives g c = record {
+  did =
+      λ fs ss h used e.
+      let r = c.args.self.now in
+      let t = settle r.catalog.now r.limits (reading_of r fs ss) in
+      open_gives g.V.Visitor.takes (told fs ss) used t c.settle.new.self c.args.visitor.now c.settle.new.visitor r.catalog.now r.limits e
+      (subst (λ (e : Effect). Does g.V.Visitor.takes (told fs ss) t (Ok e) c.settle.new.self c.args.visitor.now c.settle.new.visitor) c.in-Ok-Gives.field-0-is
+      (c.in-Ok-Gives.ensures.does fs ss h));
+}

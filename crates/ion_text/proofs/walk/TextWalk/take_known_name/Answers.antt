@@ -1,0 +1,30 @@
+use Rattle.std.proofs.Common.{◌+◌, List, [], Ok, ap, sym, ◌∙◌, subst}
+use Rattle.ion_tokens.specs.declared.mode.Mark.TheVariants as marks
+use Rattle.ion_tokens.specs.declared.mode.Place.TheVariants as places
+use Rattle.ion_tokens.specs.declared.mode.TokenKind.TheVariants as kinds
+use Rattle.ion_tokens.specs.declared.plain_tokens.Rest.{Rest}
+use Rattle.ion_tokens.specs.machine.Rests.{past_blank, past_token}
+use Rattle.ion_text.specs.declared.state.Effect.{Effect}
+use Rattle.ion_text.specs.declared.state.Frame.{Frame}
+use Rattle.ion_text.specs.machine.EachToken.{named}
+use Rattle.ion_text.specs.walk.Holds.{Does, Holds, told}
+use Rattle.ion_text.specs.walk.Strides.{StridesBy}
+use Rattle.ion_text.proofs.Strides.{key_answer}
+use Rattle.ion_text.proofs.walk.TextWalk.take_known_name.Goals as goal
+
+pub returns-in-Ok-Goes : goal.returns-in-Ok-Goes
+returns-in-Ok-Goes g c =
+    let old = c.args.self.now in
+    let new = c.named.new.self in
+    let rest = c.args.rest.now in
+    let octets = c.args.octets.now in
+    let token = c.args.token in
+    let m = c.in-Some.between in
+    let name = c.args.name in
+    subst (λ (r : Rest). StridesBy g.V.Visitor.takes old new rest r octets (Ok (token.count + m + 1)) c.args.visitor.now c.named.new.visitor)
+    (sym (c.past_token-in-Ok-Goes.ensures
+    ∙ ap (λ r. past_token places.Name r (kinds.Mark marks.Colon) 1) (c.past_blank.ensures ∙ ap (λ r. past_blank r m) c.past_token.ensures)))
+    (key_answer g.V.Visitor.takes old new rest octets c.args.visitor.now c.named.new.visitor c.in-Ok-Goes.ensures.setting token m name
+    c.in-Some.ensures.within c.requires.now c.requires.there c.in-Some.ensures.passed c.in-Some.ensures.colon c.in-Some.ensures.one
+    (subst (λ (e : Effect). (fs : List Frame) → Holds old fs [] → Does g.V.Visitor.takes (told fs []) (named old.start old.context fs name) (Ok e) new
+    c.args.visitor.now c.named.new.visitor) c.in-Ok-Goes.field-0-is c.in-Ok-Goes.ensures.does))

@@ -1,0 +1,14 @@
+use Rattle.std.proofs.Common.{Ok, ap, sym, ◌∙◌}
+use Rattle.ion_model.specs.declared.value.Payload.TheVariants as payloads
+use Rattle.ion_visiting.specs.Parts.{payload_of}
+use Rattle.ion_text.proofs.Strides.{begins_waits}
+use Rattle.ion_text.proofs.walk.TextWalk.take_rare_note.Goals as goal
+
+pub take_known_note-requires-clause-there : goal.take_known_note-requires-clause-there
+take_known_note-requires-clause-there g c =
+    let b = begins_waits c.args.self.now.context c.args.here c.args.rest.now c.args.octets.now c.args.token (payload_of c.args.said.now) c.requires.token in
+    record {
+      held = b.0;
+      there = b.1;
+      is = b.2 ∙ (ap (λ p. Ok (payload_of p)) c.in-Symbol.is ∙ ap (λ s. Ok (payloads.Symbol s)) (sym c.in_ok-symbol.ensures));
+    }

@@ -1,0 +1,35 @@
+-- Walks over pieces by a reader that holds no values, and what a visitor hears of them.
+use Rattle.std.specs.Prelude.{◌≡◌, ◌≢◌, ℕ, Bool, true, false, List, [], Some, None, Result, Ok, Err}
+use Rattle.ion_model.specs.declared.value.Value.{Value}
+use Rattle.ion_atoms.specs.declared.refusal.Reason.TheVariants.{Memory}
+use Rattle.ion_atoms.specs.declared.refusal.Refusal.{Refusal}
+use Rattle.ion_symtab.specs.declared.limits.Limits.{Limits}
+use Rattle.ion_symtab.specs.declared.catalog.Catalog.{Catalog}
+use Rattle.ion_visiting.specs.Events.{Event}
+use Rattle.ion_text.specs.declared.state.Frame.{Frame}
+use Rattle.ion_text.specs.declared.walk.TextWalk.{TextWalk}
+use Rattle.ion_text.specs.declared.walk.advance.Walked.{Walked}
+use Rattle.ion_text.specs.machine.EachToken.{Symbols}
+use Rattle.ion_text.specs.machine.Progress.{Advances, resumed}
+use Rattle.ion_text.specs.machine.Run.{State}
+use Rattle.ion_text.specs.walk.Holds.{GaveOut, WentOn, state_of}
+
+module _ {V : Type 0} (takes : V → Event → V → Type 0) (es : List Event) (g : Catalog) (l : Limits) (again : Bool) (to : ℕ) (m : State) (piece : List ℕ) where
+  -- So many octets of a piece are used as a run from here says, and the reader stands where that leads. Where they end a value a visitor
+  -- that had heard of these events heard of the value's; else of those of what is open.
+  abbrev pub AdvancesBy : ℕ → Bool → TextWalk → V → V → Type 0
+  AdvancesBy used false r a b = (fs : List Frame) × (ss : Symbols)
+      × Advances g l again to m piece (Ok (record { used = used; value = None })) r.awaited (state_of r fs ss) × WentOn takes es r fs ss a b
+  AdvancesBy used true r a b = (v : Value)
+      × Advances g l again to m piece (Ok (record { used = used; value = Some v })) r.awaited (state_of r [] []) × GaveOut takes es r v a b
+
+  -- Over a piece a walk answered what a run from here says, unless memory ran out.
+  abbrev pub DidAdvance : Result Walked Refusal → TextWalk → V → V → Type 0
+  DidAdvance (Ok walked) r a b = AdvancesBy walked.used walked.ended r a b
+  DidAdvance (Err refusal) r a b = refusal.reason ≢ Memory → resumed g l again to m piece ≡ record { given = []; now = Err refusal }
+
+-- what no walk changes
+pub record SameSettings (old new : TextWalk) : Type 0 where
+  pub catalog : new.catalog ≡ old.catalog
+  pub limits : new.limits ≡ old.limits
+  pub failed : new.failed ≡ old.failed

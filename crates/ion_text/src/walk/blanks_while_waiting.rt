@@ -1,0 +1,88 @@
+//! Octets that are handed to the scanner at once while something waits, or a mark is awaited: those
+//! of a blank or a comment, and of a further segment of a long string.
+ghost use Rattle.std.specs.Prelude.{◌≡◌, ◌+◌, ◌<◌, ◌≤◌, ◌^◌, List, length, take, OnOk, IfErr};
+ghost use Rattle.ion_atoms.specs.declared.refusal.Reason.TheVariants.{Memory};
+ghost use Rattle.ion_tokens.specs.machine.AtOnce.{GoesOver};
+ghost use Rattle.ion_tokens.specs.machine.Views.{scanned};
+ghost use Rattle.ion_text.specs.declared.state.Frame.{Frame};
+ghost use Rattle.ion_text.specs.machine.EachToken.{Symbols};
+ghost use Rattle.ion_text.specs.machine.Pieces.{led};
+ghost use Rattle.ion_text.specs.machine.Run.{run};
+ghost use Rattle.ion_text.specs.machine.Views.{lulls, ended_so_far, IsLull};
+ghost use Rattle.ion_text.specs.walk.Holds.{Holds, reading_of, state_of};
+ghost use Rattle.ion_text.specs.walk.Takes.{IsFine, SameReader, StaysSteady};
+
+use super::TextWalk;
+use crate::state::Now;
+use ion_model::Refusal;
+use ion_tokens::Form;
+
+impl TextWalk<'_> {
+    /// Whether it goes on to wait over octets with which the scanner goes on as it is.
+    fn lulls(&self) -> bool
+        ensures { result ≡ lulls self.now.stage (scanned self.now.scanner).mode }
+    {
+        match (&self.stage, self.scanner.begun()) {
+            (Now::Ready | Now::Name, _) => false,
+            (_, None) => true,
+            (Now::Long(_, _) | Now::LongName(_), Some(begun)) => match begun.form {
+                Form::Quote | Form::Long => true,
+                Form::Other => false,
+            },
+            _ => false,
+        }
+    }
+
+    /// Where what waits ended so far.
+    fn ended_so_far(&self) -> u64
+        ensures { result ≡ ended_so_far self.now.stage }
+    {
+        match &self.stage {
+            Now::Pending(_, end) => *end,
+            Now::Long(_, end) => *end,
+            _ => 0,
+        }
+    }
+
+    /// How many octets at the front of a piece it waits over: no more than the limit on items
+    /// leaves.
+    pub(super) fn lull(&self, piece: &[u8]) -> usize
+        ensures within { result ≤ length piece.now }
+        ensures over { GoesOver (scanned self.now.scanner).mode (take result piece.now) }
+        ensures lull { 0 < result → (fs : List Frame) (ss : Symbols) → IsLull self.now.limits
+            (reading_of self.now fs ss) (scanned self.now.scanner) result }
+    {
+        let last = self.start.saturating_add(self.limits.item);
+        if !self.lulls() || self.ended_so_far() > last {
+            return 0;
+        }
+        let room = last.saturating_sub(self.scanner.used());
+        let count = self.scanner.front(piece);
+        if (count as u64) <= room { count } else { 0 }
+    }
+
+    /// Takes up octets over which it waits, of which a visitor hears nothing. The only refusal is
+    /// `Memory`.
+    pub(super) fn take_lull(&mut self, octets: &[u8]) -> Result<(), Refusal>
+        requires fine { IsFine self.old }
+        requires room { (scanned self.old.scanner).used + length octets.now < 2 ^ 63 }
+        requires some { 0 < length octets.now }
+        requires over { GoesOver (scanned self.old.scanner).mode octets.now }
+        requires lull { (fs : List Frame) (ss : Symbols) → IsLull self.old.limits
+            (reading_of self.old fs ss) (scanned self.old.scanner) (length octets.now) }
+        ensures led { OnOk result ((fs : List Frame) (ss : Symbols) →
+            run self.old.catalog.now self.old.limits (scanned self.old.scanner).used
+            (state_of self.old fs ss) octets.now ≡ led (state_of self.new fs ss)) }
+        ensures holds { (fs : List Frame) (ss : Symbols) → Holds self.old fs ss →
+            Holds self.new fs ss }
+        ensures used { OnOk result
+            ((scanned self.new.scanner).used ≡ (scanned self.old.scanner).used
+            + length octets.now) }
+        ensures memory { IfErr result (λ refusal. refusal.reason ≡ Memory) }
+        ensures fine { OnOk result (IsFine self.new) }
+        ensures steady { OnOk result (StaysSteady self.old self.new) }
+        ensures same { SameReader self.old self.new }
+    {
+        self.scanner.go_on(octets)
+    }
+}
