@@ -14,6 +14,7 @@ pub mod LocalTables
 pub mod Shared
 pub mod Trace
 pub mod Steps
+pub mod Walks
 pub mod Promises
 pub mod Reasons
 pub mod Decided

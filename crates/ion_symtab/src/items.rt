@@ -1,15 +1,16 @@
 //! What every reader of documents promises.
-ghost use Rattle.std.specs.Prelude.{◌≡◌, ℕ, ◌+◌, ◌≤◌, ◌<◌, ◌^◌, List, [], ◌∷◌, ◌++◌, length, take, Option, Result, IfOk, IfErr, IfSome, IsNone, option_map, ◌↔◌};
+ghost use Rattle.std.specs.Prelude.{◌≡◌, ℕ, ◌+◌, ◌≤◌, ◌<◌, ◌^◌, List, [], ◌∷◌, ◌++◌, length, take, Option, Result, IfOk, IfErr, IfSome, IsNone, ◌↔◌};
 ghost use Rattle.ion_model.specs.declared.value.Value.{Value};
 ghost use Rattle.ion_model.specs.Measures.{nodes};
-ghost use Rattle.ion_model.specs.Outlines.{outline_of};
 ghost use Rattle.ion_atoms.specs.declared.refusal.Reason.TheVariants.{Memory};
 ghost use Rattle.ion_symtab.specs.Trace.{Trace, Answers, Finishes, Grows, Streams, IsFront, plain, given_at};
 ghost use Rattle.ion_symtab.specs.Steps.{StepsOver, RefusesBy};
+ghost use Rattle.ion_symtab.specs.Walks.{EndsOn, HasTold, WalksOn, if_ended};
 ghost use Rattle.ion_symtab.specs.Promises.{Refuses, IsFirst, HasPieces, Shown, Shows, IsSmall, HasReasons, GivesNoTable, EndsValues};
 
 use crate::glance::Glance;
-use ion_model::{Outline, Refusal, Value};
+use ion_model::{Refusal, Value};
+use ion_visiting::Visitor;
 
 /// What one step used of its piece, and the value that it gave.
 #[derive(Drop, Debug)]
@@ -22,34 +23,14 @@ pub struct Step {
     pub value: Option<Value>,
 }
 
-/// What one step used of its piece, and what is told of the value there.
+/// What a walk used of its piece, and whether it ended a value.
 #[derive(Clone, Copy, Drop, Debug)]
-pub struct Passed {
-    /// How many octets of the piece were used, from its first on: all of them where there was no
-    /// value.
+pub struct Walked {
+    /// How many octets of the piece were used, from its first on: all of them where no value ended.
     pub used: usize,
-    /// The outline of the next value of the document, if one was passed over.
-    pub outline: Option<Outline>,
-}
-
-impl Step {
-    /// What is told of the step in place of its value. Calls itself once for each level of the
-    /// value.
-    pub fn passed(&self) -> Passed
-        ensures { result ≡ record {
-          used = self.now.used;
-          outline = option_map outline_of self.now.value;
-        } }
-    {
-        let outline = match &self.value {
-            None => None,
-            Some(value) => Some(value.outline()),
-        };
-        Passed {
-            used: self.used,
-            outline,
-        }
-    }
+    /// Whether a value ended, with the last octet used or before the one behind that; the visitor
+    /// was told all of it.
+    pub ended: bool,
 }
 
 /// A reader of documents, to which the octets come in pieces of any size.
@@ -62,6 +43,7 @@ pub trait Items: Sized {
     ghost use Rattle.ion_atoms.specs.declared.refusal.Refusal.{Refusal};
     ghost use Rattle.ion_symtab.specs.declared.catalog.Catalog.{Catalog};
     ghost use Rattle.ion_symtab.specs.declared.limits.Limits.{Limits};
+    ghost use Rattle.ion_visiting.specs.Events.{Event};
 
     /// The shared tables under which the reader reads.
     ghost catalog: { Self → Catalog };
@@ -89,6 +71,11 @@ pub trait Items: Sized {
     /// What the reader holds now is what it comes to hold by these octets, and these are the values
     /// that it gave with them, each with the total of octets used when it came.
     ghost stands: { Self → List ℕ → List (Value × ℕ) → Type 0 };
+
+    /// What the reader holds now is what it comes to hold by these octets, of which these values
+    /// ended, each with the total of octets used then, and these events are all that there is to
+    /// tell so far of the value that is open.
+    ghost told: { Self → List ℕ → List (Value × ℕ) → List Event → Type 0 };
 
     /// How many octets were used so far, by all steps together.
     ghost taken: { Self → ℕ };
@@ -143,32 +130,41 @@ pub trait Items: Sized {
             self.old self.new piece.now) }
         ensures again { IfSome (failed self.old) (λ refusal. result ≡ Result.Err refusal) };
 
-    /// Takes up octets as `step` does, but doesn't hand out the value: only its outline.
-    fn pass(&mut self, piece: &[u8]) -> Result<Passed, Refusal>
+    /// Takes up octets as `step` does, but builds no value: a visitor is told each, event by event,
+    /// as its octets come. A reader is asked by `walk` or by `step`, not by both.
+    ///
+    /// What was told of the value that is open has to have been told to this visitor. `Memory` comes
+    /// also where the visitor can't go on; then its state means nothing.
+    fn walk<V: Visitor>(&mut self, piece: &[u8], visitor: &mut V) -> Result<Walked, Refusal>
         requires room { IsNone (failed self.old) → taken self.old + length piece.now < 2 ^ 63 }
         requires begins { IfSome (awaits self.old) (λ octet.
             (rest : List ℕ) × (piece.now ≡ octet ∷ rest)) }
         ensures setting { (catalog self.new ≡ catalog self.old)
             × (limits self.new ≡ limits self.old) }
-        ensures leaves { IfOk result (λ passed. StepsOver taken pending awaits failed
-            self.old self.new piece.now passed.used passed.outline) }
-        ensures stands { IfOk result (λ passed. (u : List ℕ) (s : List (Value × ℕ)) →
-            stands self.old u s → (value : Option Value)
-            × (option_map outline_of value ≡ passed.outline)
-            × stands self.new (u ++ take passed.used piece.now)
-            (s ++ given_at value (length u + passed.used))) }
-        ensures answers { IfErr result (λ refusal. (u : List ℕ) (s : List (Value × ℕ)) →
-            stands self.old u s → Answers (trace (catalog self.old) (limits self.old))
-            u s piece.now (Result.Err refusal)) }
+        ensures leaves { IfOk result (λ walked. StepsOver taken pending awaits failed
+            self.old self.new piece.now walked.used (if_ended walked.ended)) }
+        ensures tells { IfOk result (λ walked.
+            (u : List ℕ) (s : List (Value × ℕ)) (es : List Event) → told self.old u s es →
+            WalksOn V.takes told u s es piece.now walked.used walked.ended
+            self.new visitor.old visitor.new) }
+        ensures answers { IfErr result (λ refusal.
+            (u : List ℕ) (s : List (Value × ℕ)) (es : List Event) → told self.old u s es →
+            Answers (trace (catalog self.old) (limits self.old)) u s piece.now
+            (Result.Err refusal)) }
         ensures refuses { IfErr result (RefusesBy taken pending awaits failed
             self.old self.new piece.now) }
-        ensures again { IfSome (failed self.old) (λ refusal. result ≡ Result.Err refusal) }
-    {
-        match self.step(piece) {
-            Err(refusal) => Err(refusal),
-            Ok(step) => Ok(step.passed()),
-        }
-    }
+        ensures again { IfSome (failed self.old) (λ refusal. result ≡ Result.Err refusal) };
+
+    /// Ends the octets as `finish` does: whether a value ended that only the end shows to be whole,
+    /// of which the visitor was told all then.
+    fn finish_by<V: Visitor>(self, visitor: &mut V) -> Result<bool, Refusal>
+        requires { IsNone (awaits self) }
+        ensures ends { (u : List ℕ) (s : List (Value × ℕ)) (es : List Event) → told self u s es →
+            EndsOn V.takes (trace (catalog self) (limits self) u) es
+            result visitor.old visitor.new }
+        ensures memory { IfErr result (λ refusal. refusal.reason ≡ Memory → IsNone (failed self) →
+            refusal.offset ≡ taken self) }
+        ensures again { IfSome (failed self) (λ refusal. result ≡ Result.Err refusal) };
 
     /// Whether the value at the front of the piece, of which nothing was taken up yet, seems to go on
     /// behind it. It serves whoever reads pieces from a device, which may join them then. It is a
@@ -223,6 +219,19 @@ pub trait Items: Sized {
     /// No more octets are kept than an item may have.
     ghost bounded: { (r : Self) (u : List ℕ) (s : List (Value × ℕ)) → stands r u s →
         kept r ≤ (limits r).item };
+
+    /// All that is so of a reader that stands for octets is so of one that told what they are.
+    ghost has_told: { (r : Self) (u : List ℕ) (s : List (Value × ℕ)) (es : List Event) →
+        told r u s es → HasTold taken kept failed awaits (trace (catalog r) (limits r))
+        (limits r).item r u s };
+
+    /// A reader that stands for no octets has told nothing.
+    ghost nothing_told: { (r : Self) → stands r [] [] → told r [] [] [] };
+
+    /// Where a reader told what octets are, one stands for them: it may have built what was told.
+    ghost one_stands: { (r : Self) (u : List ℕ) (s : List (Value × ℕ)) (es : List Event) →
+        told r u s es → (q : Self) × stands q u s × (catalog q ≡ catalog r)
+        × (limits q ≡ limits r) };
 
     /// Octets that follow take nothing back: what was given stays given, and behind a refusal
     /// nothing changes.

@@ -27,7 +27,7 @@ pub use fault::Fault;
 pub use glance::Glance;
 pub use history::History;
 pub use inlet::{Failed, FromRead, Inlet};
-pub use items::{Items, Passed, Step};
+pub use items::{Items, Step, Walked};
 pub use limits::Limits;
 pub use outlet::{Outlet, ToWrite};
 pub use segments::GREATEST_ID;

@@ -367,6 +367,26 @@ impl TableFilter {
         }
     }
 
+    /// Whether a part that is told next is of no local symbol table: then it is noted that what is
+    /// told is none, and the part has to go on to the visitor.
+    #[inline(always)]
+    pub fn lets_pass(&mut self) -> bool
+        ensures plain { result ≡ true → is_of_table self.old.table true ≡ false }
+        ensures passes { result ≡ true → (es : List Event) → WasTold self.old es →
+            LetsPass self.new × (heard es ≡ es) }
+        ensures none { result ≡ false → self.new ≡ self.old }
+    {
+        match self.table {
+            Table::No => true,
+            Table::Unknown => {
+                self.table = Table::No;
+                true
+            }
+            Table::Noted => false,
+            Table::Yes => false,
+        }
+    }
+
     /// Whether what is told may be a local symbol table.
     #[inline(always)]
     pub fn may_be_table(&self) -> bool

@@ -1,5 +1,5 @@
 -- How often a device was asked without an end.
-use Rattle.std.proofs.Common.{◌≡◌, ◌⊎◌, inl, inr, ℕ, ◌+◌, ◌-◌, ◌^◌, ◌<◌, ◌≤◌, min, List, [], ◌++◌, length, length-append, false, arith}
+use Rattle.std.proofs.Common.{◌≡◌, ◌⊎◌, inl, ℕ, ◌+◌, ◌-◌, ◌^◌, ◌<◌, min, List, [], ◌++◌, length, length-append, false, arith}
 use Rattle.ion_symtab.specs.Cause.{WereMade}
 use Rattle.ion_symtab.specs.Heard.{Heard}
 use Rattle.ion_symtab.specs.laws.Heard.{Heard-nil, Heard-trans}
