@@ -1,13 +1,17 @@
 -- What is so behind a step.
-use Rattle.std.proofs.Common.{◌≡◌, ℕ, ◌+◌, ◌<◌, ◌≤◌, List, [], ◌∷◌, ◌++◌, length, take, drop, ap, sym, subst, ◌∙◌, arith, Result, Ok, Err, Option, Some, None, true, IfOk, IfErr, IfSome, length-append, append-nil, append_assoc}
-use Rattle.std.specs.Prelude.{◌≢◌, IsNone}
+use Rattle.std.proofs.Common.{◌≡◌, ℕ, ◌+◌, ◌<◌, ◌≤◌, List, [], ◌∷◌, ◌++◌, length, take, drop, ap, sym, subst, ◌∙◌, arith, Result, Ok, Err, Option, Some, None, true, IfOk, IfErr, IfSome, refl, length-append, append-nil, append_assoc}
+use Rattle.std.specs.Prelude.{◌≢◌, IsNone, is_some}
 use Rattle.std.proofs.lemmas.Grind.{common_steps}
 use Rattle.std.proofs.lemmas.List.{length-take-le, take-append-drop}
 use Rattle.ion_model.specs.declared.value.Value.{Value}
 use Rattle.ion_model.specs.Same.{same}
 use Rattle.ion_atoms.specs.declared.refusal.Refusal.{Refusal}
 use Rattle.ion_atoms.specs.declared.refusal.Reason.TheVariants.{Memory}
-use Rattle.ion_symtab.specs.Trace.{Answers, given_at}
+use Rattle.ion_visiting.specs.Events.{Event, Led, events_of}
+use Rattle.ion_visiting.specs.Tables.{Hears}
+use Rattle.ion_visiting.specs.laws.Filters.{hears_none}
+use Rattle.ion_symtab.specs.Trace.{Trace, Answers, given_at}
+use Rattle.ion_symtab.specs.Walks.{EndsOn, WalksOn}
 use Rattle.ion_symtab.specs.declared.items.Step.{Step}
 use Rattle.ion_symtab.specs.declared.limits.Limits.{Limits}
 use Rattle.ion_symtab.specs.declared.catalog.Catalog.{Catalog}
@@ -17,7 +21,7 @@ use Rattle.ion_binary.specs.machine.Run.{Run, run, trace, trace_of, Advances}
 use Rattle.ion_binary.specs.machine.Pieces.{run-append, then_run}
 use Rattle.ion_binary.specs.laws.reading.Promises.{grows}
 use Rattle.ion_binary.specs.laws.reading.Stops.{stop_of}
-use Rattle.ion_binary.specs.machine.Views.{machine_of, run_of, Stands, SameSetting}
+use Rattle.ion_binary.specs.machine.Views.{machine_of, run_of, Stands, SameSetting, TellsWhole}
 
 -- behind u the values s were given, and the machine is m
 abbrev Ran : Catalog → Limits → List ℕ → List (Value × ℕ) → Machine → Type 0
@@ -165,3 +169,23 @@ pub one_passed : (old new : BinaryReader) (piece : List ℕ) (P : Value → Type
     IfSome r (λ n. (v : Value) × P v × Passed old new piece n v × (old.failed ≡ None))
 one_passed old new piece P None gives used fine setting = tt
 one_passed old new piece P (Some n) gives used fine setting = (gives.0, gives.1, passed old new piece n gives.0 gives.2 used setting, fine)
+
+-- what a visitor was told of a step, where it could go on
+pub step_told : {V : Type 0} (takes : V → Event → V → Type 0) (new : BinaryReader) (u : List ℕ) (s : List (Value × ℕ)) (es : List Event)
+    (piece : List ℕ) (used : ℕ)
+    (value : Option Value) (a b : V) → Stands new (u ++ take used piece) (s ++ given_at value (length u + used)) → es ≡ []
+    → IfSome value (λ v. Led takes (events_of v) a b) → (IsNone value → b ≡ a) → WalksOn takes TellsWhole u s es piece used (is_some value) new a b
+step_told takes new u s es piece used None a b h none told stayed = (
+  [],
+  (subst (Stands new (u ++ take used piece)) (append-nil s) h, refl),
+  subst (λ x. Hears takes es [] a x) (sym (stayed refl)) (hears_none takes es [] a (sym none)),
+)
+step_told takes new u s es piece used (Some v) a b h none told stayed =
+    (v, (h, refl), record { more = events_of v; is = ap (λ x. x ++ events_of v) (sym none); led = told })
+
+-- and of the end
+pub end_told : {V : Type 0} (takes : V → Event → V → Type 0) (t : Trace) (es : List Event) (value : Option Value) (a b : V) → t.ends ≡ Ok value
+    → es ≡ []
+    → IfSome value (λ v. Led takes (events_of v) a b) → (IsNone value → b ≡ a) → EndsOn takes t es (Ok (is_some value)) a b
+end_told takes t es None a b h none told stayed = (h, subst (λ x. Hears takes es [] a x) (sym (stayed refl)) (hears_none takes es [] a (sym none)))
+end_told takes t es (Some v) a b h none told stayed = (v, h, record { more = events_of v; is = ap (λ x. x ++ events_of v) (sym none); led = told })

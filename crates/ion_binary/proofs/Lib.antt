@@ -15,7 +15,6 @@ pub mod Wholes
 pub mod Slotted
 pub mod Walks
 pub mod Visited
-pub mod Measured
 pub mod Transcriptions
 pub mod Transcribed
 pub mod Shortest
@@ -35,3 +34,7 @@ pub mod Judged
 pub mod Shells
 pub mod VarUInts
 pub mod WalkRuns
+pub mod WholeScalars
+pub mod Staying
+pub mod Unread
+pub mod WholeNames

@@ -10,6 +10,9 @@ use Rattle.ion_binary.specs.declared.state.Frame.TheVariants as frames
 use Rattle.ion_binary.specs.declared.walking.BinaryWalk.{BinaryWalk}
 use Rattle.ion_binary.specs.Opening.{is_pad}
 use Rattle.ion_binary.specs.machine.EachOctet.{Outcome, refuses, levels, misfits, stray, nameless, unfit, or_else, unless}
+use Rattle.ion_binary.specs.laws.reading.Stands.{BodyMayEnd}
+use Rattle.ion_binary.specs.laws.reading.Complete.{Admits}
+use Rattle.ion_binary.specs.laws.reading.sound.Bounds.{misfits_ends}
 use Rattle.ion_binary.specs.walking.Holds.{Name, shell, shells, containers_of, name_of, IsNamedBy, Holds, AreOpen, AreAround, HoldsNoWrapper, MayBegin}
 
 -- containers with nothing in them
@@ -118,6 +121,18 @@ module _ (r : BinaryWalk) (fs : List Frame) (h : Holds r fs) (form : Form) (to :
   -- what may stand there goes on
   pub fits : (o : Outcome) → None ≡ unfit r.limits.item r.start (shells r) form to → unless (unfit r.limits.item r.start fs form to) o ≡ o
   fits o is = ap (λ x. unless x o) (sym unfit_of ∙ sym is)
+
+  -- and there is room for it
+  pub has_room : None ≡ unfit r.limits.item r.start (shells r) form to → Admits fs form × BodyMayEnd r.limits r.start fs form to
+  has_room is =
+      let none : unfit r.limits.item r.start fs form to ≡ None = sym unfit_of ∙ sym is in
+      let rest = second_none (stray fs form) (or_else (misfits r.limits.item r.start fs form to) (nameless fs form)) none in (
+        record {
+          fitting = first_none (stray fs form) _ none;
+          named = second_none (misfits r.limits.item r.start fs form to) (nameless fs form) rest;
+        },
+        misfits_ends r.limits r.start fs form to (first_none (misfits r.limits.item r.start fs form to) _ rest),
+      )
 
   pub may_begin : None ≡ unfit r.limits.item r.start (shells r) form to → MayBegin form fs
   may_begin is =

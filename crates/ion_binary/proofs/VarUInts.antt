@@ -1,8 +1,7 @@
 -- VarUInts that have come, in a reader that holds no values: names, annotations, and what goes on.
-use Rattle.std.proofs.Common.{◌≡◌, ℕ, ◌+◌, ◌-◌, ◌*◌, ◌^◌, ◌≤◌, ◌<◌, List, [], ◌∷◌, ◌++◌, length, take, reverse, length-append, Bool, true, false, Option, Some, None, Ok, Err, refl, ap, sym, subst, ◌∙◌, arith}
+use Rattle.std.proofs.Common.{◌≡◌, ℕ, ◌+◌, ◌-◌, ◌*◌, ◌^◌, ◌≤◌, ◌<◌, List, [], ◌∷◌, ◌++◌, Bool, true, false, Option, Some, None, Ok, Err, refl, ap, sym, subst, ◌∙◌, arith}
 use Rattle.std.specs.Prelude.{◌==◌, nat_lt, if◌then◌else◌}
 use Rattle.std.proofs.lemmas.Bool.Decides.{nat_tests}
-use Rattle.std.proofs.lemmas.List.{reverse-append, reverse-reverse, take_at}
 use Rattle.ion_atoms.specs.declared.refusal.Reason.{Reason}
 use Rattle.ion_atoms.specs.declared.refusal.Reason.TheVariants.{Malformed, TooLarge}
 use Rattle.ion_symtab.specs.Slots.{resolve}
@@ -21,22 +20,8 @@ use Rattle.ion_binary.specs.machine.EachOctet.{Setting, Spot, goes, refuses, at,
 use Rattle.ion_binary.specs.machine.Views.{body_so_far}
 use Rattle.ion_binary.specs.walking.Holds.{Does, DoesAlone, Holds, IsInside, Name, behind_annotation, containers_of, fields_end, name_of, open_containers, spot_of, told, wrapper_end}
 use Rattle.ion_binary.proofs.Tellings.{note_told}
-use Rattle.ion_binary.proofs.Ending.{tail_of}
 
 -- 1. The id of a field's name.
-
--- all containers but the innermost one, which is the last in memory
-pub popped : (xs : List Container) → reverse (take (length xs - 1) xs) ≡ tail_of (reverse xs)
-popped xs = subst (λ (w : List Container). reverse (take (length w - 1) w) ≡ tail_of (reverse w)) (reverse-reverse xs) (of_reversed (reverse xs))
-  where
-    of_reversed : (ys : List Container) → reverse (take (length (reverse ys) - 1) (reverse ys)) ≡ tail_of (reverse (reverse ys))
-    of_reversed [] = refl
-    of_reversed (y ∷ ys) =
-        let split : reverse (y ∷ ys) ≡ reverse ys ++ y ∷ [] = reverse-append (y ∷ []) ys in
-        let size : length (reverse ys) ≡ length (reverse ys ++ y ∷ []) - 1 = omega (arith, length-append (reverse ys) (y ∷ [])) in
-        ap (λ w. reverse (take (length w - 1) w)) split
-        ∙ (ap reverse (take_at (reverse ys) (y ∷ []) (length (reverse ys ++ y ∷ []) - 1) size)
-        ∙ (reverse-reverse ys ∙ ap tail_of (sym (reverse-reverse (y ∷ ys)))))
 
 pub name_stray : (cs : List Container) (fs : List Frame) (spot : Spot) (id : ℕ) → None ≡ fields_end cs → cs ≡ containers_of fs
     → name_came spot fs id ≡ refuses Malformed
@@ -60,16 +45,17 @@ name_last cs (frames.Named to ms n ∷ fs) spot id end some same last = refl
 name_last cs (frames.Annotated to ss ∷ fs) spot id end some same last = refl
 
 pub name_does : (r new : BinaryWalk) (id end : ℕ) → Some end ≡ fields_end (open_containers r) → r.used < end
-    → open_containers new ≡ containers.Named end ∷ tail_of (open_containers r) → name_of new ≡ resolve r.context id → spot_of new ≡ spot_of r
+    → ((k : Container) (ks : List Container) → open_containers r ≡ k ∷ ks → open_containers new ≡ containers.Named end ∷ ks)
+    → name_of new ≡ resolve r.context id → spot_of new ≡ spot_of r
     → new.filter ≡ r.filter → new.phase ≡ Ready → (fs : List Frame) → Holds r fs → DoesAlone (told fs) (name_came (spot_of r) fs id) (Ok Goes) new
-name_does r new id end some left pushed named spot kept phase [] h = let e : Some end ≡ None = some ∙ ap fields_end h.containers in absurd cc
-name_does r new id end some left pushed named spot kept phase (frames.Items to x vs ∷ fs) h =
+name_does r new id end some left there named spot kept phase [] h = let e : Some end ≡ None = some ∙ ap fields_end h.containers in absurd cc
+name_does r new id end some left there named spot kept phase (frames.Items to x vs ∷ fs) h =
     let e : Some end ≡ None = some ∙ ap fields_end h.containers in absurd cc
-name_does r new id end some left pushed named spot kept phase (frames.Named to ms n ∷ fs) h =
+name_does r new id end some left there named spot kept phase (frames.Named to ms n ∷ fs) h =
     let e : Some end ≡ None = some ∙ ap fields_end h.containers in absurd cc
-name_does r new id end some left pushed named spot kept phase (frames.Annotated to ss ∷ fs) h =
+name_does r new id end some left there named spot kept phase (frames.Annotated to ss ∷ fs) h =
     let e : Some end ≡ None = some ∙ ap fields_end h.containers in absurd cc
-name_does r new id end some left pushed named spot kept phase (frames.Fields to ms ∷ fs) h =
+name_does r new id end some left there named spot kept phase (frames.Fields to ms ∷ fs) h =
     let e : Some end ≡ Some to = some ∙ ap fields_end h.containers in
     let is : end ≡ to = cc in
     let test : nat_lt r.used to ≡ true = grind (arith, nat_tests) in
@@ -79,7 +65,7 @@ name_does r new id end some left pushed named spot kept phase (frames.Fields to 
           ∙ (ap (λ t. goes (at t (frames.Named to ms s ∷ fs) Ready)) (sym spot)
           ∙ ap (λ p. goes (record { spot = spot_of new; frames = frames.Named to ms s ∷ fs; phase = p; body = body_so_far p new.body.items })) (sym phase)),
       record {
-        containers = pushed ∙ (ap (λ k. containers.Named k ∷ tail_of (open_containers r)) is ∙ ap (λ cs. containers.Named to ∷ tail_of cs) h.containers);
+        containers = there (containers.Fields to) (containers_of fs) h.containers ∙ ap (λ k. containers.Named k ∷ containers_of fs) is;
         named = sym named;
         open_there = h.open_there;
         inside = subst (λ p. IsInside p (frames.Named to ms s ∷ fs)) (sym phase) tt;

@@ -2,12 +2,13 @@
 use Rattle.std.proofs.Common.{◌≡◌, ℕ, ◌+◌, ◌-◌, ◌≤◌, ◌<◌, List, [], ◌∷◌, ◌++◌, length, reverse, take, drop, get_or, append-nil, length-append, None, Bool, true, false, Ok, Err, refl, ap, sym, subst, ◌∙◌, arith, ne_eqb}
 use Rattle.std.specs.Prelude.{◌==◌, if◌then◌else◌}
 use Rattle.std.proofs.lemmas.Bool.{false≢true}
-use Rattle.std.proofs.lemmas.List.{length-take-le, take-append-drop}
+use Rattle.std.proofs.lemmas.List.{length-take-le, take-append-drop, take_all}
 use Rattle.ion_atoms.specs.declared.refusal.Refusal.{Refusal}
 use Rattle.ion_atoms.specs.declared.refusal.Reason.{Reason}
 use Rattle.ion_atoms.specs.declared.refusal.Reason.TheVariants.{Incomplete}
 use Rattle.ion_model.specs.declared.value.Value.{Value}
 use Rattle.ion_symtab.specs.Trace.{Answers}
+use Rattle.ion_symtab.specs.Walks.{EndsOn, WalksOn}
 use Rattle.ion_symtab.specs.declared.limits.Limits.{Limits}
 use Rattle.ion_symtab.specs.declared.catalog.Catalog.{Catalog}
 use Rattle.ion_symtab.specs.Slots.{system_slots}
@@ -29,7 +30,7 @@ use Rattle.ion_binary.specs.machine.Pieces.{run_after, run-append, then_run}
 use Rattle.ion_binary.specs.machine.Run.{Run, ends_of, run, trace, trace_of, whole}
 use Rattle.ion_binary.specs.machine.Views.{body_so_far}
 use Rattle.ion_binary.specs.walking.Holds.{AreAround, Does, Holds, IsInside, Name, WentOn, machine_of, name_of, setting_of, shells, spot_of, told}
-use Rattle.ion_binary.specs.walking.Runs.{Furthers, Led, Reached, StandsFor, Took, Walks, refused_at, run_of}
+use Rattle.ion_binary.specs.walking.Runs.{Led, Reached, StandsFor, Told, Took, Walks, refused_at, run_of}
 use Rattle.ion_binary.proofs.Insides.{body_ends, refused_whole}
 use Rattle.ion_binary.proofs.Leading.{LeadsFromStart, leads_by, leads_to_end, leads_to_value, whole_rest, within_rest}
 use Rattle.ion_binary.proofs.Shells.{emptied, shells_of}
@@ -202,28 +203,38 @@ module _ {V : Type 0} (takes : V → Event → V → Type 0) (old new : BinaryWa
       ∙ (ap (λ r. then_run r (λ n. run old.catalog.now old.limits old.used n w)) h.ran
       ∙ ap (λ r. record { given = s ++ r.given; now = r.now }) e)))
 
-  pub walk_stands : (used : ℕ) (ended : Bool) → new.used ≡ old.used + used
+  pub walk_tells : (used : ℕ) (ended : Bool) → new.used ≡ old.used + used
       → Walks takes (told fs) old.used (run_of old fs) piece (Ok (record { used = used; ended = ended })) new a b
-      → Furthers takes (told fs) u s piece (record { used = used; ended = ended }) new a b
-  walk_stands used false counts w = (
+      → WalksOn takes Told u s (heard (told fs)) piece used ended new a b
+  walk_tells used false counts w =
+      let all : take used piece ≡ piece = take_all used piece (omega (arith, w.1.0)) in (
+        heard (told w.1.1.0),
+        (
+          w.1.1.0,
+          record {
+            fine = fine;
+            counted = omega (arith, h.counted, counts, length-append u (take used piece), length-take-le used piece w.0);
+            holds = w.1.1.2.holds;
+            ran = ran_behind (take used piece) [] w.1.1.0 (ap (run_of old fs) all ∙ w.1.1.1)
+                ∙ ap (λ given. record { given = given; now = Ok (machine_of new w.1.1.0) }) (append-nil s);
+          },
+          refl,
+        ),
+        w.1.1.2.hears,
+      )
+  walk_tells used true counts w = (
     w.1.1.0,
-    record {
-      fine = fine;
-      counted = omega (arith, h.counted, counts, w.1.0, length-append u piece);
-      holds = w.1.1.2.holds;
-      ran = ran_behind piece [] w.1.1.0 w.1.1.1 ∙ ap (λ given. record { given = given; now = Ok (machine_of new w.1.1.0) }) (append-nil s);
-    },
-    w.1.1.2.hears,
-  )
-  walk_stands used true counts w = (
-    w.1.1.0,
-    record {
-      fine = fine;
-      counted = omega (arith, h.counted, counts, length-append u (take used piece), length-take-le used piece w.0);
-      holds = w.1.1.2.holds;
-      ran = ran_behind (take used piece) ((w.1.1.0, old.used + used) ∷ []) [] w.1.1.1
-          ∙ ap (λ n. record { given = s ++ (w.1.1.0, n + used) ∷ []; now = Ok (machine_of new []) }) h.counted;
-    },
+    (
+      [],
+      record {
+        fine = fine;
+        counted = omega (arith, h.counted, counts, length-append u (take used piece), length-take-le used piece w.0);
+        holds = w.1.1.2.holds;
+        ran = ran_behind (take used piece) ((w.1.1.0, old.used + used) ∷ []) [] w.1.1.1
+            ∙ ap (λ n. record { given = s ++ (w.1.1.0, n + used) ∷ []; now = Ok (machine_of new []) }) h.counted;
+      },
+      refl,
+    ),
     w.1.1.2.hears,
   )
 
@@ -251,17 +262,32 @@ whole_same (InNumber k a) n fs = refl
 whole_same (InBody t missing) n fs = refl
 whole_same (InPad missing) n fs = refl
 
-module _ (r : BinaryWalk) (u : List ℕ) (s : List (Value × ℕ)) (fs : List Frame) (h : StandsFor r u s fs) (is_whole : Bool) (is : is_whole ≡ whole r.phase (shells r)) where
+-- whole pieces are open in no container
+none_open : (p : Phase) (fs : List Frame) → whole p fs ≡ true → fs ≡ []
+none_open p [] e = refl
+none_open Ready (f ∷ fs) e = absurd (false≢true e)
+none_open (InMarker k good) (f ∷ fs) e = absurd (false≢true e)
+none_open (InNumber k a) (f ∷ fs) e = absurd (false≢true e)
+none_open (InBody t missing) (f ∷ fs) e = absurd (false≢true e)
+none_open (InPad missing) (f ∷ fs) e = absurd (false≢true e)
+
+module _ {V : Type 0} (takes : V → Event → V → Type 0) (r : BinaryWalk) (u : List ℕ) (s : List (Value × ℕ)) (es : List Event) (h : Told r u s es)
+    (is_whole : Bool) (is : is_whole ≡ whole r.phase (shells r)) (a : V) where
+  ends_there : is_whole ≡ whole r.phase h.0
+  ends_there = is ∙ (ap (whole r.phase) (shells_of r h.0 h.1.holds) ∙ whole_same r.phase (name_of r) h.0)
+
   ends_at : (trace r.catalog.now r.limits u).ends ≡ (if is_whole then Ok None else Err (record { offset = r.used; reason = Incomplete }))
-  ends_at = ap (λ x. ends_of x.now) h.ran
-      ∙ ap (λ (t : Bool). if t then Ok None else Err (record { offset = r.used; reason = Incomplete }))
-      (sym (is ∙ (ap (whole r.phase) (shells_of r fs h.holds) ∙ whole_same r.phase (name_of r) fs)))
+  ends_at = ap (λ x. ends_of x.now) h.1.ran
+      ∙ ap (λ (t : Bool). if t then Ok None else Err (record { offset = r.used; reason = Incomplete })) (sym ends_there)
 
-  pub ends_whole : is_whole ≡ true → (trace r.catalog.now r.limits u).ends ≡ Ok None
-  ends_whole e = ends_at ∙ ap (λ (t : Bool). if t then Ok None else Err (record { offset = r.used; reason = Incomplete })) e
+  pub ends_whole : is_whole ≡ true → EndsOn takes (trace r.catalog.now r.limits u) es (Ok false) a a
+  ends_whole e = (
+    ends_at ∙ ap (λ (t : Bool). if t then Ok None else Err (record { offset = r.used; reason = Incomplete })) e,
+    hears_none takes es [] a (sym (h.2 ∙ ap (λ fs. heard (told fs)) (none_open r.phase h.0 (sym ends_there ∙ e)))),
+  )
 
-  pub ends_cut : is_whole ≡ false → (trace r.catalog.now r.limits u).ends ≡ Err (record { offset = r.used; reason = Incomplete })
-  ends_cut e = ends_at ∙ ap (λ (t : Bool). if t then Ok None else Err (record { offset = r.used; reason = Incomplete })) e
+  pub ends_cut : is_whole ≡ false → EndsOn takes (trace r.catalog.now r.limits u) es (Err (record { offset = r.used; reason = Incomplete })) a a
+  ends_cut e = λ other. ends_at ∙ ap (λ (t : Bool). if t then Ok None else Err (record { offset = r.used; reason = Incomplete })) e
 
 -- 5. Before the first octet.
 
@@ -271,17 +297,21 @@ machine_new r used start context phase =
     ∙ (ap (λ n. at (spot_at n r.start r.context) [] (InMarker First true)) used
     ∙ (ap (λ n. at (spot_at 0 n r.context) [] (InMarker First true)) start ∙ ap (λ c. at (spot_at 0 0 c) [] (InMarker First true)) context))
 
-pub new_stands : (r : BinaryWalk) → r.failed ≡ None → r.used ≡ 0 → r.start ≡ 0 → r.context ≡ system_slots → r.phase ≡ InMarker First true
-    → r.frames.items ≡ [] → WasTold r.filter [] → StandsFor r [] [] []
-new_stands r fine used start context phase none was = record {
-  fine = fine;
-  counted = used;
-  holds = record {
-    containers = ap reverse none;
-    named = tt;
-    open_there = tt;
-    inside = subst (λ (p : Phase). IsInside p []) (sym phase) tt;
-    was_told = was;
-  };
-  ran = ap (λ m. record { given = []; now = Ok m }) (sym (machine_new r used start context phase));
-}
+pub new_told : (r : BinaryWalk) → r.failed ≡ None → r.used ≡ 0 → r.start ≡ 0 → r.context ≡ system_slots → r.phase ≡ InMarker First true
+    → r.frames.items ≡ [] → WasTold r.filter [] → Told r [] [] []
+new_told r fine used start context phase none was = (
+  [],
+  record {
+    fine = fine;
+    counted = used;
+    holds = record {
+      containers = ap reverse none;
+      named = tt;
+      open_there = tt;
+      inside = subst (λ (p : Phase). IsInside p []) (sym phase) tt;
+      was_told = was;
+    };
+    ran = ap (λ m. record { given = []; now = Ok m }) (sym (machine_new r used start context phase));
+  },
+  refl,
+)

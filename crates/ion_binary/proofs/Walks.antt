@@ -9,10 +9,8 @@ use Rattle.ion_atoms.specs.Decimals.{DecimalParts}
 use Rattle.ion_atoms.specs.Timestamps.{TimestampParts}
 use Rattle.ion_model.specs.declared.value.Payload.TheVariants as payloads
 use Rattle.ion_model.specs.declared.value.Value.{Value}
-use Rattle.ion_model.specs.declared.value.Payload.{Payload}
-use Rattle.ion_model.specs.declared.value.Payload.TheViews as views
-use Rattle.ion_model.specs.Kinds.{names_table, is_fields, is_table, kind_of, layer_kind}
-use Rattle.ion_model.specs.Measures.{depth, bare}
+use Rattle.ion_model.specs.Kinds.{names_table, is_fields, is_table}
+use Rattle.ion_model.specs.Measures.{depth}
 use Rattle.ion_scalar.specs.binary.Fields.{positional, uint_field}
 use Rattle.ion_scalar.specs.binary.Decimal.{decimal_of_body}
 use Rattle.ion_scalar.specs.binary.Timestamp.{timestamp_of_body}
@@ -20,8 +18,7 @@ use Rattle.ion_symtab.specs.Slots.{Slot, resolve}
 use Rattle.ion_binary.specs.declared.form.Scalar.{Scalar}
 use Rattle.ion_binary.specs.declared.form.Scalar.TheVariants as scalars
 use Rattle.ion_binary.specs.declared.form.Form.TheVariants as forms
-use Rattle.ion_binary.specs.Grammar.{Binary, IsScalar, is_int, is_negative, is_decimal, is_timestamp, is_symbol, is_string, is_clob, is_blob}
-use Rattle.ion_binary.specs.Opening.{kind_of_scalar}
+use Rattle.ion_binary.specs.Grammar.{Binary, is_string, is_clob, is_blob}
 use Rattle.ion_binary.specs.machine.Walked.{WalkedScalar, NoTable}
 use Rattle.ion_symtab.specs.declared.limits.Limits.{Limits}
 use Rattle.ion_symtab.specs.declared.catalog.Catalog.{Catalog}
@@ -99,19 +96,6 @@ walked_clob c body = record { payload = payloads.Clob body; is = is_clob }
 -- whatever its octets, a body is a blob
 pub walked_blob : (c : List Slot) (body : List ℕ) → WalkedScalar c scalars.Blob body
 walked_blob c body = record { payload = payloads.Blob body; is = is_blob }
-
--- kinds
-
--- the kind of a scalar is that of its form
-pub scalar_kind : (c : List Slot) (body : List ℕ) (t : Scalar) (p : Payload) → IsScalar c body t p → kind_of (bare p) ≡ kind_of_scalar t
-scalar_kind c body _ _ (is_int h) = ap layer_kind (views.outs-Int (pos (positional 256 body)))
-scalar_kind c body _ _ (is_negative h k) = ap layer_kind (views.outs-Int (neg_ℤ (pos (positional 256 body))))
-scalar_kind c body _ _ (is_decimal d h k) = ap layer_kind (views.outs-Decimal d)
-scalar_kind c body _ _ (is_timestamp t h) = ap layer_kind (views.outs-Timestamp t)
-scalar_kind c body _ _ (is_symbol s h k) = ap layer_kind (views.outs-Symbol s)
-scalar_kind c body _ _ (is_string h) = ap layer_kind (views.outs-Str body)
-scalar_kind c body _ _ is_clob = ap layer_kind (views.outs-Clob body)
-scalar_kind c body _ _ is_blob = ap layer_kind (views.outs-Blob body)
 
 -- without annotations no value is a local symbol table
 pub no_table_in_none : NoTable []

@@ -1,7 +1,5 @@
 -- What a descriptor octet opens (Ion 1.0, "Ion Binary Encoding", typed value formats).
 use Rattle.std.specs.Prelude.{ℕ, Bool, true, false, ◌==◌, if◌then◌else◌, Result, Ok, Err}
-use Rattle.ion_atoms.specs.declared.kind.Kind.{Kind}
-use Rattle.ion_atoms.specs.declared.kind.Kind.TheVariants as kinds
 use Rattle.ion_atoms.specs.declared.refusal.Reason.{Reason}
 use Rattle.ion_atoms.specs.declared.refusal.Reason.TheVariants.{Malformed}
 use Rattle.ion_scalar.specs.declared.descriptor.Descriptor.{Descriptor}
@@ -52,27 +50,6 @@ opens (Ok (descriptors.Body code size)) = body_of code size
 -- what the octet opens where a value may begin
 unfoldable pub opening_of : ℕ → Opening
 opening_of octet = opens (descriptor_of octet)
-
--- the kind of scalars
-abbrev pub kind_of_scalar : Scalar → Kind
-kind_of_scalar scalars.Int = kinds.Int
-kind_of_scalar scalars.NegativeInt = kinds.Int
-kind_of_scalar scalars.Decimal = kinds.Decimal
-kind_of_scalar scalars.Timestamp = kinds.Timestamp
-kind_of_scalar scalars.Symbol = kinds.Symbol
-kind_of_scalar scalars.Str = kinds.Str
-kind_of_scalar scalars.Clob = kinds.Clob
-kind_of_scalar scalars.Blob = kinds.Blob
-
--- the kind of the values of a form; pads and wrappers have none of their own
-abbrev pub kind_of_form : Form → Kind
-kind_of_form forms.Pad = kinds.Null
-kind_of_form (forms.Scalar scalar) = kind_of_scalar scalar
-kind_of_form (forms.Listing listings.List) = kinds.List
-kind_of_form (forms.Listing listings.Sexp) = kinds.Sexp
-kind_of_form forms.Struct = kinds.Fields
-kind_of_form forms.OrderedStruct = kinds.Fields
-kind_of_form forms.Wrapper = kinds.Null
 
 -- the form is that of a pad
 abbrev pub is_pad : Form → Bool

@@ -1,6 +1,5 @@
 -- Values that are gone over, and what visitors make of them.
 pub mod Brackets
-pub mod Measuring
 pub mod Comparing
 pub mod Transcribing
 pub mod Telling

@@ -1,7 +1,7 @@
 //! What a descriptor octet opens.
 ghost use Rattle.std.specs.Prelude.{◌≡◌};
-ghost use Rattle.ion_binary.specs.Opening.{opening_of, body_of, with_octets, kind_of_form};
-ghost use Rattle.ion_binary.specs.visiting.Brackets.{bracket_of, kind_in};
+ghost use Rattle.ion_binary.specs.Opening.{opening_of, body_of, with_octets};
+ghost use Rattle.ion_binary.specs.visiting.Brackets.{bracket_of};
 ghost use Rattle.ion_binary.specs.machine.EachOctet.{hollow};
 
 use ion_model::{Kind, Reason};
@@ -109,38 +109,6 @@ pub fn bracket_of(listing: Listing) -> Bracket
     match listing {
         Listing::List => Bracket::List,
         Listing::Sexp => Bracket::Sexp,
-    }
-}
-
-/// The kind of what stands in brackets.
-#[inline(always)]
-pub fn kind_in(bracket: Bracket) -> Kind
-    ensures { result ≡ kind_in bracket }
-{
-    match bracket {
-        Bracket::List => Kind::List,
-        Bracket::Sexp => Kind::Sexp,
-        Bracket::Fields => Kind::Fields,
-    }
-}
-
-/// The kind of the values of this form; pads and wrappers have none of their own.
-#[inline(always)]
-pub fn kind_of(form: Form) -> Kind
-    ensures { result ≡ kind_of_form form }
-{
-    match form {
-        Form::Scalar(Scalar::Int | Scalar::NegativeInt) => Kind::Int,
-        Form::Scalar(Scalar::Decimal) => Kind::Decimal,
-        Form::Scalar(Scalar::Timestamp) => Kind::Timestamp,
-        Form::Scalar(Scalar::Symbol) => Kind::Symbol,
-        Form::Scalar(Scalar::Str) => Kind::Str,
-        Form::Scalar(Scalar::Clob) => Kind::Clob,
-        Form::Scalar(Scalar::Blob) => Kind::Blob,
-        Form::Listing(Listing::List) => Kind::List,
-        Form::Listing(Listing::Sexp) => Kind::Sexp,
-        Form::Struct | Form::OrderedStruct => Kind::Fields,
-        Form::Pad | Form::Wrapper => Kind::Null,
     }
 }
 

@@ -8,7 +8,6 @@ mod build_scalars;
 mod comparison;
 mod form;
 pub mod laws;
-mod measure;
 mod reader;
 mod reordered;
 mod scalar;
@@ -22,4 +21,5 @@ mod writer;
 
 pub use binary_out::BinaryOut;
 pub use reader::{BinaryReader, Carried};
+pub use walking::BinaryWalk;
 pub use writer::BinaryWriter;

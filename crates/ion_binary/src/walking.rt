@@ -23,8 +23,7 @@ mod bounds;
 mod containers;
 mod numbers;
 mod scalars;
-
-pub use advance::Walked;
+mod whole_scalars;
 
 /// A container that isn't whole yet, by the octet at which it ends.
 #[derive(Clone, Copy)]
@@ -85,6 +84,7 @@ fn heard(went_on: bool) -> Result<(), Reason>
 
 impl BinaryWalk<'_> {
     /// Tells the name of the field whose value begins.
+    #[inline(always)]
     fn begin_value<V: Visitor>(&mut self, visitor: &mut V) -> Result<(), Reason>
         ensures told { OnOk result ((fs : List AnyFrame) → Holds self.old fs → AreAround fs →
             WasTold self.new.filter (told_in fs)

@@ -1,6 +1,6 @@
 -- The machine reads what the grammar says, and refuses what the format's table says.
 --
--- Promises: what the reader promises of octets (laws of `Items`, for BinaryReaderItems); Apart, Standing: and of where it stands
+-- Promises: what the reader promises of octets (laws of `Items`, for BinaryReaderItems); Apart, Standing, Walking: and of where it stands
 --   Documents: a document is read to its end, and gives its stream
 --     Complete: the octets of a value lead the machine to that value
 --   sound: what a run leaves stands for its octets
@@ -35,6 +35,7 @@ pub mod Stops
 pub mod Promises
 pub mod Apart
 pub mod Standing
+pub mod Walking
 pub mod GivesKept
 pub mod DocumentKept
 pub mod OpenRuns

@@ -3,6 +3,7 @@ use Rattle.std.specs.Prelude.{◌≡◌, ◌≢◌, ◌<◌, ◌≤◌, ℕ, ◌
 use Rattle.ion_model.specs.declared.value.Value.{Value}
 use Rattle.ion_atoms.specs.declared.refusal.Reason.{Reason}
 use Rattle.ion_atoms.specs.declared.refusal.Reason.TheVariants.{Memory, Malformed}
+use Rattle.ion_visiting.specs.Events.{Event}
 use Rattle.ion_binary.specs.declared.state.Effect.{Effect}
 use Rattle.ion_binary.specs.declared.state.Effect.TheVariants.{Goes, Gives}
 use Rattle.ion_binary.specs.declared.state.Frame.{Frame}
@@ -104,3 +105,7 @@ pub record Stands (r : BinaryReader) (octets : List ℕ) (values : List (Value �
   pub fine : r.failed ≡ None
   pub counted : r.used ≡ length octets
   pub ran : run r.catalog.now r.limits 0 initial octets ≡ record { given = values; now = Ok (machine_of r) }
+
+-- the same, where nothing is told of a value before all of it is
+abbrev pub TellsWhole : BinaryReader → List ℕ → List (Value × ℕ) → List Event → Type 0
+TellsWhole r u s es = Stands r u s × (es ≡ [])

@@ -1,7 +1,5 @@
--- What stands in brackets: its kind, its form and its type code.
+-- What stands in brackets: its form and its type code.
 use Rattle.std.specs.Prelude.{ℕ}
-use Rattle.ion_atoms.specs.declared.kind.Kind.{Kind}
-use Rattle.ion_atoms.specs.declared.kind.Kind.TheVariants as kinds
 use Rattle.ion_binary.specs.declared.form.Form.{Form}
 use Rattle.ion_binary.specs.declared.form.Form.TheVariants as forms
 use Rattle.ion_binary.specs.declared.form.Listing.{Listing}
@@ -14,13 +12,7 @@ abbrev pub bracket_of : Listing → Bracket
 bracket_of listings.List = brackets.List
 bracket_of listings.Sexp = brackets.Sexp
 
--- the kind of what stands in brackets
-abbrev pub kind_in : Bracket → Kind
-kind_in brackets.List = kinds.List
-kind_in brackets.Sexp = kinds.Sexp
-kind_in brackets.Fields = kinds.Fields
-
--- its form; that of a struct that announces the order of its fields is another
+-- the form of what stands in brackets; that of a struct that announces the order of its fields is another
 abbrev pub form_in : Bracket → Form
 form_in brackets.List = forms.Listing listings.List
 form_in brackets.Sexp = forms.Listing listings.Sexp

@@ -1,6 +1,6 @@
 -- What a reader that holds no values stands for: of the machine's state it knows all but the values and the annotations, which a visitor
 -- was told.
-use Rattle.std.specs.Prelude.{◌≡◌, ◌≢◌, ℕ, List, [], ◌∷◌, ◌++◌, map, reverse, Option, Some, None, Result, Ok, Err, Bool, true, false, ◌==◌, if◌then◌else◌}
+use Rattle.std.specs.Prelude.{◌≡◌, ◌≢◌, ◌≤◌, ℕ, List, [], ◌∷◌, ◌++◌, map, reverse, Option, Some, None, Result, Ok, Err, Bool, true, false, ◌==◌, if◌then◌else◌}
 use Rattle.std.specs.List.{flat_map}
 use Rattle.ion_model.specs.declared.value.Value.{Value}
 use Rattle.ion_model.specs.declared.value.Payload.{Payload}
@@ -171,6 +171,21 @@ is_named _ = false
 abbrev pub fields_end : List Container → Option ℕ
 fields_end (containers.Fields end ∷ cs) = Some end
 fields_end _ = None
+
+-- a struct where a name comes next, with so many octets of the document in it
+abbrev pub IsWithin : List Container → ℕ → Type 0
+IsWithin (containers.Fields end ∷ cs) to = to ≤ end
+IsWithin _ to = ⊥
+
+-- a list or an s-expression: the octet at which it ends
+abbrev pub items_end : List Container → Option ℕ
+items_end (containers.Items end x ∷ cs) = Some end
+items_end _ = None
+
+-- a struct where the value of a field comes next: the octet at which it ends
+abbrev pub named_end : List Container → Option ℕ
+named_end (containers.Named end ∷ cs) = Some end
+named_end _ = None
 
 -- a wrapper: the octet at which it ends
 abbrev pub wrapper_end : List Container → Option ℕ

@@ -1,19 +1,20 @@
 -- What a reader that holds no values did over octets: what a run of the machine does, for all containers that it may stand for.
-use Rattle.std.specs.Prelude.{◌≡◌, ◌≢◌, ◌<◌, ◌≤◌, ℕ, ◌+◌, List, [], ◌∷◌, ◌++◌, length, take, Bool, true, false, Option, Some, None, Result, Ok, Err}
+use Rattle.std.specs.Prelude.{◌≡◌, ◌≢◌, ◌<◌, ◌≤◌, ℕ, ◌+◌, List, [], ◌∷◌, length, take, Bool, true, false, Option, None, Result, Ok, Err}
 use Rattle.ion_model.specs.declared.value.Value.{Value}
 use Rattle.ion_atoms.specs.declared.refusal.Reason.{Reason}
 use Rattle.ion_atoms.specs.declared.refusal.Reason.TheVariants.{Memory}
 use Rattle.ion_atoms.specs.declared.refusal.Refusal.{Refusal}
-use Rattle.ion_visiting.specs.Events.{Event, events_of}
-use Rattle.ion_visiting.specs.Tables.{Hears, heard}
+use Rattle.ion_visiting.specs.Events.{Event}
+use Rattle.ion_visiting.specs.Tables.{heard}
+use Rattle.ion_symtab.specs.declared.items.Walked.{Walked}
 use Rattle.ion_binary.specs.declared.state.Frame.{Frame}
 use Rattle.ion_binary.specs.declared.state.Effect.{Effect}
 use Rattle.ion_binary.specs.declared.state.Effect.TheVariants.{Goes, Gives}
 use Rattle.ion_binary.specs.declared.walking.BinaryWalk.{BinaryWalk}
-use Rattle.ion_binary.specs.declared.walking.advance.Walked.{Walked}
 use Rattle.ion_binary.specs.machine.EachOctet.{initial}
 use Rattle.ion_binary.specs.machine.Run.{Run, run}
 use Rattle.ion_binary.specs.machine.Pieces.{led}
+use Rattle.ion_binary.specs.machine.Views.{body_so_far}
 use Rattle.ion_binary.specs.walking.Holds.{GaveOut, Holds, WentOn, machine_of, told}
 
 -- the run over octets of the machine that a reader stands for, with these containers
@@ -27,11 +28,6 @@ gave v to r = record { given = (v, to) ∷ []; now = Ok (machine_of r []) }
 -- a run that was refused
 abbrev pub refused_at : Refusal → Run
 refused_at refusal = record { given = []; now = Err refusal }
-
--- the refusal that a walk answered, if it answered one
-abbrev pub refused_by : Result Walked Refusal → Option Refusal
-refused_by (Ok walked) = None
-refused_by (Err refusal) = Some refusal
 
 -- the run led where the reader stands for these containers
 abbrev pub Led : Run → BinaryWalk → List Frame → Type 0
@@ -64,16 +60,26 @@ pub record StandsFor (r : BinaryWalk) (octets : List ℕ) (values : List (Value 
   pub holds : Holds r fs
   pub ran : run r.catalog.now r.limits 0 initial octets ≡ record { given = values; now = Ok (machine_of r fs) }
 
--- Behind u, which gave s, a walk led on over this piece, or ended a value; a visitor that had heard what there was to hear of the open
--- containers heard what there is to hear.
-abbrev pub Furthers : {V : Type 0} → (V → Event → V → Type 0) → List Event → List ℕ → List (Value × ℕ) → List ℕ → Walked → BinaryWalk → V → V → Type 0
-Furthers takes es u s piece walked r a b = Came walked.ended
-  where
-    Came : Bool → Type 0
-    Came false = (fs : List Frame) × StandsFor r (u ++ piece) s fs × Hears takes (heard es) (heard (told fs)) a b
-    Came true = (v : Value) × StandsFor r (u ++ take walked.used piece) (s ++ (v, length u + walked.used) ∷ []) [] × Hears takes (heard es) (events_of v) a b
+-- The same of some containers, and these are the events that there are to hear of what is open.
+abbrev pub Told : BinaryWalk → List ℕ → List (Value × ℕ) → List Event → Type 0
+Told r u s es = (fs : List Frame) × StandsFor r u s fs × (es ≡ heard (told fs))
 
--- the end answered what is said of it: that no value ended, or why it is refused
-abbrev pub EndsSo : Result (Option Value) Refusal → Result Bool Refusal → Type 0
-EndsSo said (Ok ended) = (said ≡ Ok None) × (ended ≡ false)
-EndsSo said (Err refusal) = said ≡ Err refusal
+-- what contracts see of a reader besides, as `Items` names it
+
+abbrev pub taken : BinaryWalk → ℕ
+taken r = r.used
+
+abbrev pub failed : BinaryWalk → Option Refusal
+failed r = r.failed
+
+-- no octet shows the end of a value and isn't used
+abbrev pub awaits : BinaryWalk → Option ℕ
+awaits r = None
+
+-- and none ends more than one
+abbrev pub pending : BinaryWalk → ℕ
+pending r = 0
+
+-- the octets of a scalar's body so far
+abbrev pub kept : BinaryWalk → ℕ
+kept r = length (body_so_far r.phase r.body.items)

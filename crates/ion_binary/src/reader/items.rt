@@ -1,18 +1,16 @@
 //! The reader as `Items`: steps over pieces, and the end.
-ghost use Rattle.std.specs.Prelude.{◌≡◌, ℕ, ◌+◌, ◌<◌, ◌^◌, List, ◌++◌, length, take, None, Option, Result, IfOk, IfErr, option_map};
+ghost use Rattle.std.specs.Prelude.{◌≡◌, ◌+◌, ◌<◌, ◌^◌, length, true, IfOk, IfErr, IfSome, IsNone};
 ghost use Rattle.ion_atoms.specs.declared.refusal.Reason.TheVariants.{Memory};
-ghost use Rattle.ion_model.specs.Outlines.{outline_of};
-ghost use Rattle.ion_model.specs.declared.value.Value.{Value as AnyValue};
 ghost use Rattle.ion_symtab.specs.IsNew.{IsNew};
-ghost use Rattle.ion_symtab.specs.Steps.{StepsOver, RefusesBy};
-ghost use Rattle.ion_symtab.specs.Trace.{Answers, given_at};
-ghost use Rattle.ion_binary.specs.machine.Run.{trace, whole, Advances};
-ghost use Rattle.ion_binary.specs.machine.Views.{run_of, machine_of, open_frames, SameSetting, Stands};
+ghost use Rattle.ion_visiting.specs.Events.{Led, events_of};
+ghost use Rattle.ion_binary.specs.machine.Run.{whole, Advances};
+ghost use Rattle.ion_binary.specs.machine.Views.{run_of, machine_of, open_frames, SameSetting};
 
 use super::BinaryReader;
 use crate::state::{Effect, Mark, Phase};
 use ion_model::{Reason, Refusal, Value};
-use ion_symtab::{Catalog, Context, Glance, Items, Limits, Passed, Step};
+use ion_symtab::{Catalog, Context, Glance, Items, Limits, Step, Walked};
+use ion_visiting::{Visitor, tell};
 use std::alloc::Global;
 
 impl<'a> BinaryReader<'a> {
@@ -96,46 +94,37 @@ impl BinaryReader<'_> {
     }
 }
 
-impl<'a> BinaryReader<'a> {
-    /// What `pass` answers where the value is built. It stands by itself so that `pass` has no room
-    /// for a value to clear each time.
-    #[inline(never)]
-    fn pass_built(&mut self, piece: &[u8]) -> Result<Passed, Refusal>
-        requires going { self.old.failed ≡ None }
-        requires room { self.old.used + length piece.now < 2 ^ 63 }
-        ensures setting { (self.new.catalog.now ≡ self.old.catalog.now)
-            × (self.new.limits ≡ self.old.limits) }
-        ensures leaves { let B = ⟦<BinaryReader<'a> as Items>⟧ in
-            IfOk result (λ passed. StepsOver B.taken B.pending B.awaits B.failed
-            self.old self.new piece.now passed.used passed.outline) }
-        ensures stands { IfOk result (λ passed. (u : List ℕ) (s : List (AnyValue × ℕ)) →
-            Stands self.old u s → (value : Option AnyValue)
-            × (option_map outline_of value ≡ passed.outline)
-            × Stands self.new (u ++ take passed.used piece.now)
-            (s ++ given_at value (length u + passed.used))) }
-        ensures answers { IfErr result (λ refusal. (u : List ℕ) (s : List (AnyValue × ℕ)) →
-            Stands self.old u s → Answers (trace self.old.catalog.now self.old.limits)
-            u s piece.now (Result.Err refusal)) }
-        ensures refuses { let B = ⟦<BinaryReader<'a> as Items>⟧ in
-            IfErr result (RefusesBy B.taken B.pending B.awaits B.failed
-            self.old self.new piece.now) }
-    {
-        match self.step(piece) {
-            Err(refusal) => Err(refusal),
-            Ok(step) => Ok(step.passed()),
-        }
+/// Tells a visitor the value that was given, if there is one: whether it could go on.
+fn tell_given<V: Visitor>(value: &Option<Value>, visitor: &mut V) -> bool
+    ensures told { result ≡ true → IfSome value.now (λ v.
+        Led V.takes (events_of v) visitor.old visitor.new) }
+    ensures none { IsNone value.now → visitor.new ≡ visitor.old }
+{
+    match value {
+        None => true,
+        Some(value) => tell(value, visitor),
+    }
+}
+
+/// Why no more is told, behind so many octets: a visitor that can't go on has no memory.
+fn untold(used: u64) -> Refusal
+    ensures { result ≡ record { offset = used; reason = Memory } }
+{
+    Refusal {
+        offset: used,
+        reason: Reason::Memory,
     }
 }
 
 impl Items for BinaryReader<'_> {
-    ghost use Rattle.std.specs.Prelude.{List, ℕ, None, length};
+    ghost use Rattle.std.specs.Prelude.{List, ℕ, None, length, refl};
     ghost use Rattle.ion_symtab.specs.declared.limits.Limits.{Limits};
     ghost use Rattle.ion_binary.specs.Grammar.{Document, Whole, OpenRest};
     ghost use Rattle.ion_binary.specs.machine.Run.{trace};
-    ghost use Rattle.ion_binary.specs.machine.Views.{Stands, body_so_far};
+    ghost use Rattle.ion_binary.specs.machine.Views.{Stands, TellsWhole, body_so_far};
     ghost use Rattle.ion_binary.specs.laws.reading.Promises.{exact, one_stream, one_shown, refused, decided, documents_are_pieces, pieces_are_documents, shown, unfinished, reasons, small, grows, no_tables, ends_values};
     ghost use Rattle.ion_binary.specs.laws.reading.Apart.{nodes_between};
-    ghost use Rattle.ion_binary.specs.laws.reading.Standing.{given_of, not_failed, not_refused, bounded};
+    ghost use Rattle.ion_binary.specs.laws.reading.Standing.{given_of, has_told, not_failed, not_refused, bounded};
 
     ghost catalog = { λ r. r.catalog.now };
 
@@ -150,6 +139,8 @@ impl Items for BinaryReader<'_> {
     ghost trace = { trace };
 
     ghost stands = { Stands };
+
+    ghost told = { TellsWhole };
 
     ghost taken = { λ r. r.used };
 
@@ -172,6 +163,12 @@ impl Items for BinaryReader<'_> {
     ghost given_with_next = { λ r u s h. tt };
 
     ghost bounded = { bounded };
+
+    ghost has_told = { λ r u s es h. has_told r u s h.0 };
+
+    ghost nothing_told = { λ r h. (h, refl) };
+
+    ghost one_stands = { λ r u s es h. (r, h.0, refl, refl) };
 
     ghost settled = { grows };
 
@@ -214,21 +211,38 @@ impl Items for BinaryReader<'_> {
         result
     }
 
-    #[inline(always)]
-    fn pass(&mut self, piece: &[u8]) -> Result<Passed, Refusal> {
-        if let Some(refusal) = self.failed {
-            return Err(refusal);
+    fn walk<V: Visitor>(&mut self, piece: &[u8], visitor: &mut V) -> Result<Walked, Refusal> {
+        let so_far = self.used;
+        match self.step(piece) {
+            Err(refusal) => Err(refusal),
+            Ok(step) => {
+                let used = step.used;
+                let ended = step.value.is_some();
+                let went_on = tell_given(&step.value, visitor);
+                drop(step);
+                if went_on {
+                    return Ok(Walked { used, ended });
+                }
+                let refusal = untold(so_far);
+                self.failed = Some(refusal);
+                Err(refusal)
+            }
         }
-        match self.walk(piece) {
-            // (taken apart, so that no other answer goes through memory)
-            None => match self.pass_built(piece) {
-                Err(refusal) => Err(refusal),
-                Ok(passed) => Ok(passed),
-            },
-            Some((used, outline)) => Ok(Passed {
-                used,
-                outline: Some(outline),
-            }),
+    }
+
+    fn finish_by<V: Visitor>(self, visitor: &mut V) -> Result<bool, Refusal> {
+        let end = self.used;
+        match self.finish() {
+            Err(refusal) => Err(refusal),
+            Ok(value) => {
+                let ended = value.is_some();
+                let went_on = tell_given(&value, visitor);
+                drop(value);
+                if went_on {
+                    return Ok(ended);
+                }
+                Err(untold(end))
+            }
         }
     }
 

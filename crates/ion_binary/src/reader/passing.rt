@@ -1,7 +1,6 @@
 //! Values of the top level that lie whole in a piece and are passed over.
 ghost use Rattle.std.specs.Prelude.{◌≡◌, ◌+◌, ◌<◌, ◌^◌, [], true, length, IfSome, IsNone, Ok, Some};
 ghost use Rattle.ion_model.specs.declared.value.Value.{Value};
-ghost use Rattle.ion_model.specs.Outlines.{outline_of};
 ghost use Rattle.ion_binary.specs.machine.Run.{Advances};
 ghost use Rattle.ion_binary.specs.machine.Views.{machine_of, run_of, open_frames, SameSetting};
 ghost use Rattle.ion_binary.specs.declared.state.Phase.TheVariants as phases;
@@ -13,10 +12,7 @@ use super::BinaryReader;
 use crate::alike::alike_value;
 use crate::build::extent;
 use crate::comparison::Comparison;
-use crate::measure::Measure;
-use crate::walk::walk_value;
 use crate::writer::BinaryWriter;
-use ion_model::Outline;
 use ion_symtab::{Fault, Items, Outlet};
 use ion_visiting::Visitable;
 use std::hash::BuildHasher;
@@ -38,37 +34,10 @@ impl BinaryReader<'_> {
         self.is_ready() && self.frames.is_empty() && self.used >= self.walked
     }
 
-    /// Takes up the octets of the value at the front of a piece without building it: how many it
-    /// has, and its outline. `None`, with nothing taken up, where a container is open, or the value
-    /// isn't whole, may not stand here or is in any way unusual.
-    pub(super) fn walk(&mut self, piece: &[u8]) -> Option<(usize, Outline)>
-        requires room { self.old.used + length piece.now < 2 ^ 63 }
-        ensures gives { IfSome result (λ found. (v : Value) × (outline_of v ≡ found.1)
-            × Advances self.old.used (run_of self.old) piece.now
-            (Ok (record { used = found.0; value = Some v })) (machine_of self.new)) }
-        ensures used { IfSome result (λ found. self.new.used ≡ self.old.used + found.0) }
-        ensures none { IsNone result → self.new ≡ self.old }
-        ensures setting { SameSetting self.old self.new }
-    {
-        if !self.may_walk() {
-            return None;
-        }
-        let depth = self.limits.depth;
-        let mut measure = Measure::new();
-        let count = walk_value(&self.context, piece, depth, &mut measure)?;
-        let used = self.used + count as u64;
-        if !self.admits(used) {
-            return None;
-        }
-        self.used = used;
-        self.start = used;
-        Some((count, measure.outline()))
-    }
-
     /// Takes up the octets of the value at the front of a piece and at the front of another
     /// reader's, where it is the same in both, without building it: how many octets of each.
-    /// `None`, with nothing taken up, where `walk` of either would answer so, or the two are not
-    /// seen to be the same.
+    /// `None`, with nothing taken up, where a container is open, or the value isn't whole in both,
+    /// may not stand here, is in any way unusual or isn't seen to be the same.
     fn walk_alike(
         &mut self,
         piece: &[u8],

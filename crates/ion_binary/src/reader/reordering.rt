@@ -14,8 +14,8 @@ use ion_symtab::Items;
 impl BinaryReader<'_> {
     /// Takes up the octets of the value at the front of a piece and of that at the front of another
     /// reader's, where the two are equivalent, without building them: how many octets of each.
-    /// `None`, with nothing taken up, where `walk` of either would answer so, or the two are not
-    /// seen to be equivalent.
+    /// `None`, with nothing taken up, where a container is open, or the value isn't whole in both,
+    /// may not stand here, is in any way unusual or isn't seen to be equivalent.
     fn walk_reordered(
         &mut self,
         piece: &[u8],

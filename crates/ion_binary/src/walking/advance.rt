@@ -1,7 +1,10 @@
 //! Walks over pieces: octets of a body or a pad are taken up at once, else one.
 ghost use Rattle.std.specs.Prelude.{◌≡◌, ◌≢◌, ℕ, ◌+◌, ◌-◌, ◌≤◌, ◌<◌, ◌^◌, [], ◌++◌, List, true, false, length, take, None, Result, IfOk, IfErr, IfSome, IsNone};
 ghost use Rattle.ion_atoms.specs.declared.refusal.Reason.TheVariants.{Memory};
+ghost use Rattle.ion_visiting.specs.Events.{Event};
 ghost use Rattle.ion_symtab.specs.Trace.{Answers};
+ghost use Rattle.ion_symtab.specs.Steps.{RefusesBy, StepsOver};
+ghost use Rattle.ion_symtab.specs.Walks.{EndsOn, WalksOn, if_ended};
 ghost use Rattle.ion_binary.specs.Judge.{judge};
 ghost use Rattle.ion_binary.specs.machine.EachOctet.{judged, moved};
 ghost use Rattle.ion_model.specs.declared.value.Value.{Value as AnyValue};
@@ -10,24 +13,15 @@ ghost use Rattle.ion_binary.specs.machine.Views.{goes_on, is_in_body};
 ghost use Rattle.ion_binary.specs.declared.state.Frame.{Frame as AnyFrame};
 ghost use Rattle.ion_binary.specs.declared.state.Phase.TheVariants as phases;
 ghost use Rattle.ion_binary.specs.walking.Holds.{AreAround, Does, Holds, SameSetting, setting_of, shells, spot_of, told};
-ghost use Rattle.ion_binary.specs.walking.Runs.{EndsSo, Furthers, Led, StandsFor, Took, Walks, refused_by, run_of};
+ghost use Rattle.ion_binary.specs.walking.Runs.{Led, Told, Took, Walks, awaits, failed, kept, pending, run_of, taken};
 
 use super::{BinaryWalk, TableFilter};
 use crate::form::Scalar;
 use crate::state::{Effect, Mark, Phase};
 use ion_model::{Reason, Refusal};
-use ion_symtab::{Catalog, Context, Limits};
+use ion_symtab::{Catalog, Context, Limits, Walked};
 use ion_visiting::Visitor;
 use std::alloc::Global;
-
-/// What a walk used of its piece, and whether it ended a value of the top level.
-#[derive(Clone, Copy, Debug, PartialEq, Eq)]
-pub struct Walked {
-    /// How many octets of the piece were used, all of them where no value ended.
-    pub used: usize,
-    /// Whether a value ended, whose events the visitor was told.
-    pub ended: bool,
-}
 
 impl<'a> BinaryWalk<'a> {
     /// A reader of no octets yet, for a document within these limits that may import the shared
@@ -37,9 +31,11 @@ impl<'a> BinaryWalk<'a> {
         catalog: &'a Catalog,
         limits: Limits,
     ) -> Result<BinaryWalk<'a>, Reason>
-        ensures stands { IfOk result (λ r. StandsFor r [] [] []) }
+        ensures told { IfOk result (λ r. Told r [] [] []) }
         ensures catalog { IfOk result (λ r. r.catalog.now ≡ catalog.now) }
         ensures limits { IfOk result (λ r. r.limits ≡ limits) }
+        ensures used { IfOk result (λ r. r.used ≡ 0) }
+        ensures failed { IfOk result (λ r. r.failed ≡ None) }
         ensures memory { IfErr result (λ reason. reason ≡ Memory) }
     {
         let context = Context::system(alloc)?;
@@ -91,6 +87,14 @@ impl BinaryWalk<'_> {
             × (self.new.used ≤ self.old.used + length piece.now)) }
         ensures setting { SameSetting self.old self.new }
     {
+        if let Some((scalar, front, size)) = self.whole_scalar(piece) {
+            let effect = self.take_scalar(scalar, size, &piece[front..size], visitor)?;
+            return Ok((size, effect));
+        }
+        if let Some((id, size)) = self.whole_name(piece) {
+            let effect = self.take_name(id, size)?;
+            return Ok((size, effect));
+        }
         if let Some((scalar, size)) = self.ending(piece) {
             let effect = self.take_end(scalar, &piece[..size], visitor)?;
             return Ok((size, effect));
@@ -256,36 +260,27 @@ impl BinaryWalk<'_> {
     }
 
     /// Takes up the octets of a piece up to the end of the next value of the top level, and tells a
-    /// visitor what comes of them.
+    /// visitor what comes of them, as `Items::walk` promises it.
     ///
     /// The first refusal comes again with each call. `Memory` comes where memory was refused, or
     /// where the visitor can't go on.
     pub fn walk<V: Visitor>(&mut self, piece: &[u8], visitor: &mut V) -> Result<Walked, Refusal>
-        requires room { self.old.used + length piece.now < 2 ^ 63 }
-        ensures does { self.old.failed ≡ None → (fs : List AnyFrame) → Holds self.old fs →
-            Walks V.takes (told fs) self.old.used (run_of self.old fs) piece.now
-            result self.new visitor.old visitor.new }
-        ensures stands { IfOk result (λ walked. (u : List ℕ) (s : List (AnyValue × ℕ))
-            (fs : List AnyFrame) → StandsFor self.old u s fs →
-            Furthers V.takes (told fs) u s piece.now walked self.new visitor.old visitor.new) }
+        requires room { IsNone self.old.failed → self.old.used + length piece.now < 2 ^ 63 }
+        ensures setting { (self.new.catalog.now ≡ self.old.catalog.now)
+            × (self.new.limits ≡ self.old.limits) }
+        ensures leaves { IfOk result (λ walked. StepsOver taken pending awaits failed
+            self.old self.new piece.now walked.used (if_ended walked.ended)) }
+        ensures tells { IfOk result (λ walked.
+            (u : List ℕ) (s : List (AnyValue × ℕ)) (es : List Event) → Told self.old u s es →
+            WalksOn V.takes Told u s es piece.now walked.used walked.ended
+            self.new visitor.old visitor.new) }
+        ensures answers { IfErr result (λ refusal.
+            (u : List ℕ) (s : List (AnyValue × ℕ)) (es : List Event) → Told self.old u s es →
+            Answers (trace self.old.catalog.now self.old.limits) u s piece.now
+            (Result.Err refusal)) }
+        ensures refuses { IfErr result (RefusesBy taken pending awaits failed
+            self.old self.new piece.now) }
         ensures again { IfSome self.old.failed (λ refusal. result ≡ Result.Err refusal) }
-        ensures within { IfOk result (λ walked. walked.used ≤ length piece.now) }
-        ensures used { IfOk result (λ walked. self.new.used ≡ self.old.used + walked.used) }
-        ensures all { IfOk result (λ walked.
-            walked.ended ≡ false → walked.used ≡ length piece.now) }
-        ensures some { IfOk result (λ walked. walked.ended ≡ true → 0 < walked.used) }
-        ensures answers { IfErr result (λ refusal. (u : List ℕ) (s : List (AnyValue × ℕ))
-            (fs : List AnyFrame) → StandsFor self.old u s fs →
-            Answers (trace self.old.catalog.now self.old.limits)
-            u s piece.now (Result.Err refusal)) }
-        ensures decides { self.old.failed ≡ None → IfErr result (λ refusal.
-            refusal.reason ≢ Memory → (self.old.used < refusal.offset)
-            × (refusal.offset ≤ self.old.used + length piece.now)) }
-        ensures memory { self.old.failed ≡ None → IfErr result (λ refusal.
-            refusal.reason ≡ Memory → refusal.offset ≡ self.old.used) }
-        ensures catalog { self.new.catalog ≡ self.old.catalog }
-        ensures limits { self.new.limits ≡ self.old.limits }
-        ensures failed { self.new.failed ≡ refused_by result }
     {
         if let Some(refusal) = self.failed {
             return Err(refusal);
@@ -311,10 +306,13 @@ impl BinaryWalk<'_> {
 
     /// Ends the octets, which end no value that hasn't ended: whether one ended, so never. A refusal
     /// has the octets of all pieces, `Incomplete` where they end inside a value, a pad or a marker.
-    pub fn finish_by<V: Visitor>(self, _visitor: &mut V) -> Result<bool, Refusal>
-        ensures ends { (u : List ℕ) (s : List (AnyValue × ℕ)) (fs : List AnyFrame) →
-            StandsFor self.entry u s fs →
-            EndsSo (trace self.entry.catalog.now self.entry.limits u).ends result }
+    pub fn finish_by<V: Visitor>(self, visitor: &mut V) -> Result<bool, Refusal>
+        ensures ends { (u : List ℕ) (s : List (AnyValue × ℕ)) (es : List Event) →
+            Told self.entry u s es →
+            EndsOn V.takes (trace self.entry.catalog.now self.entry.limits u) es
+            result visitor.old visitor.new }
+        ensures memory { IfErr result (λ refusal. refusal.reason ≡ Memory →
+            IsNone self.entry.failed → refusal.offset ≡ self.entry.used) }
         ensures again { IfSome self.entry.failed (λ refusal. result ≡ Result.Err refusal) }
     {
         let failed = self.failed;
@@ -331,5 +329,23 @@ impl BinaryWalk<'_> {
             offset: end,
             reason: Reason::Incomplete,
         })
+    }
+
+    /// How many octets were used so far.
+    pub fn used(&self) -> u64
+        ensures { result ≡ taken self.now }
+    {
+        self.used
+    }
+
+    /// How many octets of the body of a scalar are kept, at most as many as the limit on items
+    /// allows.
+    pub fn held(&self) -> usize
+        ensures { result ≡ kept self.now }
+    {
+        match self.phase {
+            Phase::InBody(_, _) => self.body.len(),
+            _ => 0,
+        }
     }
 }

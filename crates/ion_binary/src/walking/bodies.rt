@@ -16,6 +16,7 @@ use ion_visiting::{Bracket, Visitor};
 impl BinaryWalk<'_> {
     /// Tells the scalar that a body is, whose last octet was taken up. A body without earlier octets
     /// is judged where it stands.
+    #[inline(always)]
     pub(super) fn scalar<V: Visitor>(
         &mut self,
         scalar: Scalar,

@@ -1,7 +1,7 @@
 //! Where a value, a pad or a number may stand, and how far it may reach.
 ghost use Rattle.std.specs.Prelude.{◌≡◌, nat_lt};
 ghost use Rattle.ion_binary.specs.machine.EachOctet.{levels, too_long, misfits, stray, nameless, unending, outside, past, unfit};
-ghost use Rattle.ion_binary.specs.walking.Holds.{fields_end, is_named, open_containers, shells, wrapper_end};
+ghost use Rattle.ion_binary.specs.walking.Holds.{fields_end, is_named, items_end, named_end, open_containers, shells, wrapper_end};
 
 use super::{BinaryWalk, Container};
 use crate::form::Form;
@@ -26,6 +26,26 @@ impl BinaryWalk<'_> {
     {
         match self.frames.last() {
             Some(Container::Fields { end }) => Some(*end),
+            _ => None,
+        }
+    }
+
+    /// Where the innermost container ends, if it is a list or an s-expression.
+    pub(super) fn items_end(&self) -> Option<u64>
+        ensures { result ≡ items_end (open_containers self.now) }
+    {
+        match self.frames.last() {
+            Some(Container::Items { end, .. }) => Some(*end),
+            _ => None,
+        }
+    }
+
+    /// Where the innermost container ends, if it is a struct and the value of a field comes next.
+    pub(super) fn named_end(&self) -> Option<u64>
+        ensures { result ≡ named_end (open_containers self.now) }
+    {
+        match self.frames.last() {
+            Some(Container::Named { end }) => Some(*end),
             _ => None,
         }
     }

@@ -1,11 +1,12 @@
 //! Containers that end.
-ghost use Rattle.std.specs.Prelude.{◌≡◌, ◌⊎◌, List, [], ◌∷◌, ◌++◌, IfErr, IfOk, OnOk, Ok, Err, Result, true};
+ghost use Rattle.std.specs.Prelude.{◌≡◌, ◌⊎◌, List, [], ◌∷◌, ◌++◌, IfErr, IfOk, OnOk, Ok, Err, Result, true, false};
 ghost use Rattle.ion_atoms.specs.declared.refusal.Reason.TheVariants.{Memory};
 ghost use Rattle.ion_model.specs.Kinds.{is_table};
 ghost use Rattle.ion_symtab.specs.Next.{next};
 ghost use Rattle.ion_model.specs.declared.value.Field.{Field as AnyField};
 ghost use Rattle.ion_model.specs.declared.value.Value.{Value as AnyValue};
 ghost use Rattle.ion_visiting.specs.Events.{Event, events_of};
+ghost use Rattle.ion_binary.specs.declared.walking.Container.{Container as AnyContainer};
 ghost use Rattle.ion_binary.specs.declared.state.Frame.{Frame as AnyFrame};
 ghost use Rattle.ion_binary.specs.declared.state.Frame.TheVariants as frames;
 ghost use Rattle.ion_binary.specs.declared.state.Effect.TheVariants as effects;
@@ -21,8 +22,64 @@ use ion_model::{Reason, Value};
 use ion_visiting::{Bracket, Visitor};
 
 impl BinaryWalk<'_> {
+    /// Puts a container in the place of the innermost one.
+    pub(super) fn put_innermost(&mut self, container: Container)
+        ensures there { (k : AnyContainer) (ks : List AnyContainer) →
+            open_containers self.old ≡ k ∷ ks → open_containers self.new ≡ container ∷ ks }
+        ensures same { self.new ≡ record self.old { frames = self.new.frames } }
+    {
+        if let Some(innermost) = self.frames.last_mut() {
+            *innermost = container;
+        }
+    }
+
+    /// Whether the innermost container goes on behind a value that was told and ended here; else
+    /// nothing is done.
+    #[inline(always)]
+    fn stays_open(&mut self) -> bool
+        ensures does { result ≡ true → (fs : List AnyFrame) (v : AnyValue) →
+            IsBehind self.old fs v → DoesAlone (told_in fs ++ events_of v)
+            (deliver (setting_of self.old) (spot_of self.old) fs v)
+            (Ok effects.Goes) self.new }
+        ensures none { result ≡ false → self.new ≡ self.old }
+        ensures used { self.new.used ≡ self.old.used }
+        ensures setting { SameSetting self.old self.new }
+    {
+        if let Some(end) = self.items_end() {
+            if self.used != end {
+                self.phase = Phase::Ready;
+                return true;
+            }
+            return false;
+        }
+        if let Some(end) = self.named_end() {
+            if self.used != end {
+                self.put_innermost(Container::Fields { end });
+                self.phase = Phase::InNumber(Purpose::FieldName, 0);
+                return true;
+            }
+        }
+        false
+    }
+
     /// A value that was told ended here, and with it each container that ends here.
+    #[inline(always)]
     pub(super) fn ended<V: Visitor>(&mut self, visitor: &mut V) -> Result<Effect, Reason>
+        ensures does { (fs : List AnyFrame) (v : AnyValue) → IsBehind self.old fs v →
+            Does V.takes (told_in fs ++ events_of v)
+            (deliver (setting_of self.old) (spot_of self.old) fs v)
+            result self.new visitor.old visitor.new }
+        ensures used { self.new.used ≡ self.old.used }
+        ensures setting { SameSetting self.old self.new }
+    {
+        if self.stays_open() {
+            return Ok(Effect::Goes);
+        }
+        self.containers_end(visitor)
+    }
+
+    /// The same where the innermost container may end.
+    fn containers_end<V: Visitor>(&mut self, visitor: &mut V) -> Result<Effect, Reason>
         ensures does { (fs : List AnyFrame) (v : AnyValue) → IsBehind self.old fs v →
             Does V.takes (told_in fs ++ events_of v)
             (deliver (setting_of self.old) (spot_of self.old) fs v)
@@ -157,9 +214,51 @@ impl BinaryWalk<'_> {
         Ok(false)
     }
 
-    /// Goes on behind a pad, or into a container that begins. The innermost container may be whole
-    /// here: where it is empty, or the pad was its last.
+    /// Whether the innermost container, in which no field's name came, goes on here; else nothing
+    /// is done.
+    #[inline(always)]
+    fn goes_inside(&mut self) -> bool
+        ensures does { result ≡ true → (fs : List AnyFrame) → Holds self.old fs →
+            DoesAlone (told fs) (proceed (setting_of self.old) (spot_of self.old) fs)
+            (Ok effects.Goes) self.new }
+        ensures none { result ≡ false → self.new ≡ self.old }
+        ensures used { self.new.used ≡ self.old.used }
+        ensures setting { SameSetting self.old self.new }
+    {
+        if let Some(end) = self.items_end() {
+            if self.used != end {
+                self.phase = Phase::Ready;
+                return true;
+            }
+            return false;
+        }
+        if let Some(end) = self.fields_end() {
+            if self.used != end {
+                self.phase = Phase::InNumber(Purpose::FieldName, 0);
+                return true;
+            }
+        }
+        false
+    }
+
+    /// Goes on behind a pad, or into a container that begins.
+    #[inline(always)]
     pub(super) fn proceed<V: Visitor>(&mut self, visitor: &mut V) -> Result<Effect, Reason>
+        ensures does { (fs : List AnyFrame) → Holds self.old fs → Does V.takes (told fs)
+            (proceed (setting_of self.old) (spot_of self.old) fs)
+            result self.new visitor.old visitor.new }
+        ensures used { self.new.used ≡ self.old.used }
+        ensures setting { SameSetting self.old self.new }
+    {
+        if self.goes_inside() {
+            return Ok(Effect::Goes);
+        }
+        self.proceed_or_end(visitor)
+    }
+
+    /// The same where the innermost container may be whole: where it is empty, or the pad was its
+    /// last.
+    fn proceed_or_end<V: Visitor>(&mut self, visitor: &mut V) -> Result<Effect, Reason>
         ensures does { (fs : List AnyFrame) → Holds self.old fs → Does V.takes (told fs)
             (proceed (setting_of self.old) (spot_of self.old) fs)
             result self.new visitor.old visitor.new }

@@ -1,11 +1,15 @@
 //! VarUInts: lengths, and the ids of field names and annotations.
-ghost use Rattle.std.specs.Prelude.{◌≡◌, ◌<◌, ◌^◌, List};
+ghost use Rattle.std.specs.Prelude.{◌≡◌, ◌+◌, ◌≤◌, ◌<◌, ◌^◌, List, IfSome, length, take};
+ghost use Rattle.ion_scalar.specs.binary.Fields.{VarUInt};
+ghost use Rattle.ion_binary.specs.declared.state.Phase.TheVariants as phases;
+ghost use Rattle.ion_binary.specs.declared.state.Purpose.TheVariants as purposes;
 ghost use Rattle.ion_symtab.specs.Slots.{resolve};
 ghost use Rattle.ion_binary.specs.declared.state.Frame.{Frame as AnyFrame};
-ghost use Rattle.ion_binary.specs.machine.EachOctet.{longer, unsized, name_came, count_came, annotation_came, number_came, on_number};
-ghost use Rattle.ion_binary.specs.walking.Holds.{Does, DoesAlone, Holds, SameSetting, behind_annotation, setting_of, spot_of, told};
+ghost use Rattle.ion_binary.specs.machine.EachOctet.{longer, unsized, name_came, count_came, annotation_came, moved, number_came, on_number};
+ghost use Rattle.ion_binary.specs.walking.Holds.{Does, DoesAlone, Holds, IsWithin, SameSetting, behind_annotation, open_containers, setting_of, spot_of, told};
 
 use super::{BinaryWalk, Container, heard};
+use crate::build::number;
 use crate::form::Form;
 use crate::state::{Effect, Phase, Purpose};
 use ion_model::Reason;
@@ -102,6 +106,42 @@ impl BinaryWalk<'_> {
         }
     }
 
+    /// The id of a field's name at the front of a piece, if such a name begins here and all its
+    /// octets are there and in its struct: and how many they are.
+    #[inline(always)]
+    pub(super) fn whole_name(&self, piece: &[u8]) -> Option<(u64, usize)>
+        requires room { self.now.used + length piece.now < 2 ^ 63 }
+        ensures named { IfSome result (λ name.
+            self.now.phase ≡ phases.InNumber purposes.FieldName 0) }
+        ensures is { IfSome result (λ name. VarUInt (take name.1 piece.now) name.0) }
+        ensures some { IfSome result (λ name. 0 < name.1) }
+        ensures within { IfSome result (λ name. name.1 ≤ length piece.now) }
+        ensures inside { IfSome result (λ name. IsWithin (open_containers self.now)
+            (self.now.used + name.1)) }
+    {
+        let Phase::InNumber(Purpose::FieldName, 0) = self.phase else {
+            return None;
+        };
+        let end = self.fields_end()?;
+        let (id, size) = number(piece)?;
+        if size == 0 || self.used + size as u64 > end {
+            return None;
+        }
+        Some((id, size))
+    }
+
+    /// Takes up a field's name, whose id so many octets are.
+    pub(super) fn take_name(&mut self, id: u64, size: usize) -> Result<Effect, Reason>
+        requires room { self.old.used + size < 2 ^ 63 }
+        ensures does { (fs : List AnyFrame) → Holds self.old fs → DoesAlone (told fs)
+            (name_came (moved (spot_of self.old) (self.old.used + size)) fs id) result self.new }
+        ensures used { self.new.used ≡ self.old.used + size }
+        ensures setting { SameSetting self.old self.new }
+    {
+        self.used += size as u64;
+        self.name_came(id)
+    }
+
     /// Takes the id of a field name, behind which an octet has to be left of the struct. Whether
     /// the id has a symbol counts only if a value follows.
     fn name_came(&mut self, id: u64) -> Result<Effect, Reason>
@@ -118,8 +158,7 @@ impl BinaryWalk<'_> {
         if self.used >= end {
             return Err(Reason::Malformed);
         }
-        self.frames.pop();
-        self.frames.push(Container::Named { end })?;
+        self.put_innermost(Container::Named { end });
         self.name = id;
         self.phase = Phase::Ready;
         Ok(Effect::Goes)

@@ -11,19 +11,42 @@ ghost use Rattle.ion_binary.specs.walking.Holds.{IsNumber, TellsAs};
 
 use super::heard;
 use crate::form::Scalar;
+use crate::walk::is_scalar;
 use ion_model::{Reason, Symbol, Whole};
 use ion_scalar::{Number, decimal_of, timestamp_of, uint_of};
 use ion_symtab::Context;
 use ion_visiting::{Part, TableFilter, Visitor};
 
-/// Tells the scalar that a body is (Ion 1.0, "Ion Binary Encoding", typed value formats).
+/// Tells the scalar that a body is (Ion 1.0, "Ion Binary Encoding", typed value formats). A visitor
+/// that heeds no part isn't told it: that it is one is enough.
 ///
 /// `TooLarge` for an int of magnitude 2^127 and more, `Malformed` for a negative zero, `BadUtf8`
 /// for a string that isn't UTF-8; for a symbol what `Context::symbol` says of its id, and
 /// `TooLarge` from 2^127 on; for a decimal or timestamp what its body is refused for; `Memory` where
 /// the visitor can't go on.
-#[tactic(auto, unfolding(crate::specs::Judge::judge))]
+#[inline(always)]
 pub(super) fn tell_scalar<V: Visitor>(
+    context: &Context,
+    scalar: Scalar,
+    body: &[u8],
+    filter: &mut TableFilter,
+    visitor: &mut V,
+) -> Result<(), Reason>
+    ensures told { OnOk result (TellsAs V.takes (judge context.now scalar body.now)
+        filter.old filter.new visitor.old visitor.new) }
+    ensures refused { IfErr result (λ reason. reason ≢ Memory →
+        judge context.now scalar body.now ≡ Err reason) }
+{
+    if visitor.heeds_nothing() && is_scalar(context, scalar, body) && filter.lets_pass() {
+        return Ok(());
+    }
+    read_scalar(context, scalar, body, filter, visitor)
+}
+
+// The same, where the visitor is told it.
+#[inline(never)]
+#[tactic(auto, unfolding(crate::specs::Judge::judge))]
+fn read_scalar<V: Visitor>(
     context: &Context,
     scalar: Scalar,
     body: &[u8],

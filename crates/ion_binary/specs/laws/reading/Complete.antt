@@ -337,16 +337,31 @@ module _ (g : Catalog) (l : Limits) where
       ∙ (ap (λ x. then_run x (λ n. run g l mid n body)) (header_run spot fs form h (length body) mid d hol a e room)
       ∙ (then_after mid (begin (under g l) (moved spot mid) fs form (length body)) (λ n. run g l mid n body) ∙ k))
 
+  scalar_ends : (spot : Spot) (fs : List Frame) (t : Scalar) (body : List ℕ) (to : ℕ) → to ≡ spot.used + length body
+      → run_on spot.used (λ n. run g l spot.used n body) (begin (under g l) spot fs (forms.Scalar t) (length body))
+      ≡ run_after to (judged (under g l) (moved spot to) fs (judge spot.context t body))
+  scalar_ends spot fs t [] to e =
+      ap (λ n. run_after n (judged (under g l) (moved spot n) fs (judge spot.context t []))) (let j : spot.used ≡ to = omega arith in j)
+  scalar_ends spot fs t (b ∷ bs) to e =
+      ap (run_on spot.used (λ m. run g l spot.used m (b ∷ bs))) (begin_scalar spot fs t (length bs)) ∙ body_run spot fs t (length bs) []
+      (b ∷ bs) to refl e
+
   scalar_begins : (spot : Spot) (fs : List Frame) (t : Scalar) (body : List ℕ) (p : Payload) (to : ℕ) → judge spot.context t body ≡ Ok p
       → to ≡ spot.used + length body
       → run_on spot.used (λ n. run g l spot.used n body) (begin (under g l) spot fs (forms.Scalar t) (length body))
       ≡ run_after to (deliver (under g l) (moved spot to) fs (bare p))
-  scalar_begins spot fs t [] p to i e =
-      ap (λ x. run_after spot.used (judged (under g l) spot fs x)) i
-      ∙ ap (λ n. run_after n (deliver (under g l) (moved spot n) fs (bare p))) (let j : spot.used ≡ to = omega arith in j)
-  scalar_begins spot fs t (b ∷ bs) p to i e =
-      ap (run_on spot.used (λ m. run g l spot.used m (b ∷ bs))) (begin_scalar spot fs t (length bs)) ∙ body_run spot fs t (length bs) [] (b ∷ bs) to refl e
-      ∙ ap (λ x. run_after to (judged (under g l) (moved spot to) fs x)) i
+  scalar_begins spot fs t body p to i e = scalar_ends spot fs t body to e ∙ ap (λ x. run_after to (judged (under g l) (moved spot to) fs x)) i
+
+  -- over a scalar for which there is room, the machine comes to judge its body
+  pub scalar_run : (spot : Spot) (fs : List Frame) (t : Scalar) (h body : List ℕ) (to : ℕ) → Header (forms.Scalar t) (length body) h
+      → hollow (forms.Scalar t) (length body) ≡ None → Admits fs (forms.Scalar t) → to ≡ spot.used + length (h ++ body)
+      → BodyMayEnd l spot.start fs (forms.Scalar t) to
+      → run g l spot.used (at spot fs Ready) (h ++ body) ≡ run_after to (judged (under g l) (moved spot to) fs (judge spot.context t body))
+  scalar_run spot fs t h body to d hol a e r =
+      let k = length-append h body in
+      let m : to ≡ spot.used + length h + length body = omega arith in
+      from_header spot fs (forms.Scalar t) h body (spot.used + length h) _ d hol a refl (subst (BodyMayEnd l spot.start fs (forms.Scalar t)) m r)
+      (scalar_ends (moved spot (spot.used + length h)) fs t body to m)
 
   pad_begins : (spot : Spot) (fs : List Frame) (body : List ℕ) (to : ℕ) → to ≡ spot.used + length body
       → run_on spot.used (λ n. run g l spot.used n body) (begin (under g l) spot fs forms.Pad (length body))

@@ -1,20 +1,8 @@
-use Rattle.ion_model.specs.declared.value.Payload.TheVariants as payloads
-use Rattle.ion_visiting.specs.declared.part.Part.TheVariants as parts
-use Rattle.ion_binary.proofs.Judged.{on_ok, part_leaf, judged_clob, judged_blob}
+use Rattle.ion_binary.proofs.Unread.{unread_told}
 use Rattle.ion_binary.proofs.walking.scalars.tell_scalar.Goals as goal
 
-pub returns-in-Clob-clause-told : goal.returns-in-Clob-clause-told
-returns-in-Clob-clause-told g c = on_ok c.heard.result c.heard.ensures.ok (λ w. (
-  payloads.Clob c.args.body.now,
-  judged_clob c.args.context.now c.args.scalar c.args.body.now c.in-Clob.is,
-  part_leaf (parts.Clob c.args.body),
-  c.part.ensures w,
-))
-
-pub returns-in-Blob-clause-told : goal.returns-in-Blob-clause-told
-returns-in-Blob-clause-told g c = on_ok c.heard-in-Blob.result c.heard-in-Blob.ensures.ok (λ w. (
-  payloads.Blob c.args.body.now,
-  judged_blob c.args.context.now c.args.scalar c.args.body.now c.in-Blob.is,
-  part_leaf (parts.Blob c.args.body),
-  c.part-in-Blob.ensures w,
-))
+pub returns-then-lets_pass-clause-told : goal.returns-then-lets_pass-clause-told
+returns-then-lets_pass-clause-told g c =
+    unread_told g.V.Visitor.takes c.args.context.now c.args.scalar c.args.body.now c.args.filter.now c.lets_pass.new.self c.args.visitor.now
+    (c.lets_pass.ensures.plain c.if-lets_pass.true) (c.lets_pass.ensures.passes c.if-lets_pass.true) (c.heeds_nothing.ensures c.if-heeds_nothing.true)
+    (c.is_scalar.ensures c.if-is_scalar.true)

@@ -5,7 +5,7 @@ use Rattle.ion_binary.specs.declared.state.Frame.{Frame}
 use Rattle.ion_binary.specs.machine.EachOctet.{deliver}
 use Rattle.ion_binary.specs.walking.Holds.{IsBehind, SameSetting, setting_of, spot_of, told_in}
 use Rattle.ion_binary.proofs.Ending.{IsLeft}
-use Rattle.ion_binary.proofs.walking.BinaryWalk.ended.Given as goal
+use Rattle.ion_binary.proofs.walking.BinaryWalk.containers_end.Given as goal
 
 -- What is left to do gives what the whole was to give.
 abbrev pub invariant-loop-container : goal.invariant-loop-container

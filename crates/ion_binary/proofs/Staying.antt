@@ -1,0 +1,123 @@
+-- Containers that go on behind a value in them, in a reader that holds no values.
+use Rattle.std.proofs.Common.{◌≡◌, ℕ, ◌-◌, List, [], ◌∷◌, ◌++◌, length, reverse, false, Some, None, Ok, Err, refl, ap, sym, subst, ◌∙◌, arith, length-append}
+use Rattle.std.specs.Prelude.{◌==◌, if◌then◌else◌, slice_set}
+use Rattle.std.proofs.lemmas.List.{reverse-append, reverse-reverse}
+use Rattle.std.proofs.Math.Seq.{set-append_seam}
+use Rattle.ion_model.specs.declared.value.Value.{Value}
+use Rattle.ion_model.specs.declared.value.Payload.TheVariants as payloads
+use Rattle.ion_model.specs.Measures.{bare, field_of}
+use Rattle.ion_visiting.specs.Events.{events_of}
+use Rattle.ion_visiting.specs.Tables.{WasTold, heard}
+use Rattle.ion_binary.specs.declared.state.Effect.TheVariants.{Goes}
+use Rattle.ion_binary.specs.declared.state.Frame.{Frame}
+use Rattle.ion_binary.specs.declared.state.Frame.TheVariants as frames
+use Rattle.ion_binary.specs.declared.state.Phase.TheVariants.{Ready, InNumber}
+use Rattle.ion_binary.specs.declared.state.Purpose.TheVariants as purposes
+use Rattle.ion_binary.specs.declared.walking.BinaryWalk.{BinaryWalk}
+use Rattle.ion_binary.specs.declared.walking.Container.{Container}
+use Rattle.ion_binary.specs.declared.walking.Container.TheVariants as containers
+use Rattle.ion_binary.specs.Grammar.{listed}
+use Rattle.ion_binary.specs.machine.EachOctet.{at, deliver, goes, proceed}
+use Rattle.ion_binary.specs.walking.Holds.{DoesAlone, Holds, IsBehind, containers_of, fields_end, items_end, named_end, open_containers, setting_of, spot_of, told, told_in}
+use Rattle.ion_binary.proofs.Tellings.{item_told, field_told}
+
+-- another one is put in the place of the last of a list
+pub last_set : {A : Type 0} (xs ks : List A) (n : ℕ) (x y : A) → length xs ≡ n → reverse xs ≡ x ∷ ks → reverse (slice_set xs (n - 1) y) ≡ y ∷ ks
+last_set xs ks n x y size e =
+    let whole : xs ≡ reverse ks ++ x ∷ [] = sym (reverse-reverse xs) ∙ (ap reverse e ∙ reverse-append (x ∷ []) ks) in
+    let last : n - 1 ≡ length (reverse ks) = omega (arith, size, ap length whole, length-append (reverse ks) (x ∷ [])) in
+    ap (λ i. reverse (slice_set xs i y)) last
+    ∙ (ap (λ w. reverse (slice_set w (length (reverse ks)) y)) whole
+    ∙ (ap reverse (set-append_seam (reverse ks) x [] y) ∙ (reverse-append (reverse ks) (y ∷ []) ∙ ap (λ l. y ∷ l) (reverse-reverse ks))))
+
+module _ (r : BinaryWalk) (end : ℕ) (test : (r.used == end) ≡ false) where
+  -- a list or an s-expression goes on
+  pub items_stay : Some end ≡ items_end (open_containers r) → (fs : List Frame) (v : Value) → IsBehind r fs v
+      → DoesAlone (told_in fs ++ events_of v) (deliver (setting_of r) (spot_of r) fs v) (Ok Goes) (record r { phase = Ready })
+  items_stay is [] v h = let e : Some end ≡ None = is ∙ ap items_end h.containers in absurd cc
+  items_stay is (frames.Fields to ms ∷ fs) v h = let e : Some end ≡ None = is ∙ ap items_end h.containers in absurd cc
+  items_stay is (frames.Named to ms n ∷ fs) v h = let e : Some end ≡ None = is ∙ ap items_end h.containers in absurd cc
+  items_stay is (frames.Annotated to ss ∷ fs) v h = let e : Some end ≡ None = is ∙ ap items_end h.containers in absurd cc
+  items_stay is (frames.Items to x vs ∷ fs) v h =
+      let e : Some end ≡ Some to = is ∙ ap items_end h.containers in
+      let same : end ≡ to = cc in
+      let more = item_told to x fs vs v in (
+        frames.Items to x (vs ++ v ∷ []) ∷ fs,
+        ap (λ b. if b then deliver (setting_of r) (spot_of r) fs (bare (listed x (vs ++ v ∷ []))) else goes (at (spot_of r) (frames.Items to x
+            (vs ++ v ∷ []) ∷ fs) Ready))
+            (ap (λ n. r.used == n) (sym same) ∙ test),
+        record {
+          containers = h.containers;
+          named = tt;
+          open_there = h.around;
+          inside = tt;
+          was_told = subst
+              (λ es. WasTold r.filter es) more h.was_told;
+        },
+        ap heard (sym more),
+      )
+
+  -- a struct goes on with the name of the next field
+  module _ (mid : BinaryWalk) (kept : mid ≡ record r { frames = mid.frames })
+      (there : (k : Container) (ks : List Container) → open_containers r ≡ k ∷ ks → open_containers mid ≡ containers.Fields end ∷ ks) where
+    pub named_stay : Some end ≡ named_end (open_containers r) → (fs : List Frame) (v : Value) → IsBehind r fs v
+        → DoesAlone (told_in fs ++ events_of v) (deliver (setting_of r) (spot_of r) fs v) (Ok Goes)
+        (record mid { phase = InNumber purposes.FieldName 0 })
+    named_stay is [] v h = let e : Some end ≡ None = is ∙ ap named_end h.containers in absurd cc
+    named_stay is (frames.Items to x vs ∷ fs) v h = let e : Some end ≡ None = is ∙ ap named_end h.containers in absurd cc
+    named_stay is (frames.Fields to ms ∷ fs) v h = let e : Some end ≡ None = is ∙ ap named_end h.containers in absurd cc
+    named_stay is (frames.Annotated to ss ∷ fs) v h = let e : Some end ≡ None = is ∙ ap named_end h.containers in absurd cc
+    named_stay is (frames.Named to ms (Err n) ∷ fs) v h = absurd h.around
+    named_stay is (frames.Named to ms (Ok n) ∷ fs) v h =
+        let e : Some end ≡ Some to = is ∙ ap named_end h.containers in
+        let same : end ≡ to = cc in
+        let more = field_told to fs ms n v in
+        let all = ms ++ field_of n v ∷ [] in (
+          frames.Fields to all ∷ fs,
+          ap (λ b. if b then deliver (setting_of r) (spot_of r) fs (bare (payloads.Fields all))
+              else goes (at (spot_of r) (frames.Fields to all ∷ fs) (InNumber purposes.FieldName 0))) (ap (λ k. r.used == k) (sym same) ∙ test)
+              ∙ ap (λ (w : BinaryWalk). goes (at (spot_of w) (frames.Fields to all ∷ fs) (InNumber purposes.FieldName 0))) (sym kept),
+          record {
+            containers = there (containers.Named to) (containers_of fs) h.containers ∙ ap (λ k. containers.Fields k ∷ containers_of fs) same;
+            named = tt;
+            open_there = h.around;
+            inside = tt;
+            was_told = subst (λ (w : BinaryWalk). WasTold w.filter (told_in (frames.Fields to all ∷ fs))) (sym kept)
+                (subst (λ es. WasTold r.filter es) more h.was_told);
+          },
+          ap heard (sym more),
+        )
+
+  -- a list or an s-expression that began goes on, or one behind a pad
+  pub items_proceed : Some end ≡ items_end (open_containers r) → (fs : List Frame) → Holds r fs
+      → DoesAlone (told fs) (proceed (setting_of r) (spot_of r) fs) (Ok Goes) (record r { phase = Ready })
+  items_proceed is [] h = let e : Some end ≡ None = is ∙ ap items_end h.containers in absurd cc
+  items_proceed is (frames.Fields to ms ∷ fs) h = let e : Some end ≡ None = is ∙ ap items_end h.containers in absurd cc
+  items_proceed is (frames.Named to ms n ∷ fs) h = let e : Some end ≡ None = is ∙ ap items_end h.containers in absurd cc
+  items_proceed is (frames.Annotated to ss ∷ fs) h = let e : Some end ≡ None = is ∙ ap items_end h.containers in absurd cc
+  items_proceed is (frames.Items to x vs ∷ fs) h =
+      let e : Some end ≡ Some to = is ∙ ap items_end h.containers in
+      let same : end ≡ to = cc in (
+        frames.Items to x vs ∷ fs,
+        ap (λ b. if b then deliver (setting_of r) (spot_of r) fs (bare (listed x vs)) else goes (at (spot_of r) (frames.Items to x vs ∷ fs) Ready))
+            (ap (λ n. r.used == n) (sym same) ∙ test),
+        record { containers = h.containers; named = tt; open_there = h.open_there; inside = tt; was_told = h.was_told },
+        refl,
+      )
+
+  -- a struct does
+  pub fields_proceed : Some end ≡ fields_end (open_containers r) → (fs : List Frame) → Holds r fs
+      → DoesAlone (told fs) (proceed (setting_of r) (spot_of r) fs) (Ok Goes) (record r { phase = InNumber purposes.FieldName 0 })
+  fields_proceed is [] h = let e : Some end ≡ None = is ∙ ap fields_end h.containers in absurd cc
+  fields_proceed is (frames.Items to x vs ∷ fs) h = let e : Some end ≡ None = is ∙ ap fields_end h.containers in absurd cc
+  fields_proceed is (frames.Named to ms n ∷ fs) h = let e : Some end ≡ None = is ∙ ap fields_end h.containers in absurd cc
+  fields_proceed is (frames.Annotated to ss ∷ fs) h = let e : Some end ≡ None = is ∙ ap fields_end h.containers in absurd cc
+  fields_proceed is (frames.Fields to ms ∷ fs) h =
+      let e : Some end ≡ Some to = is ∙ ap fields_end h.containers in
+      let same : end ≡ to = cc in (
+        frames.Fields to ms ∷ fs,
+        ap (λ b. if b then deliver (setting_of r) (spot_of r) fs (bare (payloads.Fields ms))
+            else goes (at (spot_of r) (frames.Fields to ms ∷ fs) (InNumber purposes.FieldName 0))) (ap (λ n. r.used == n) (sym same) ∙ test),
+        record { containers = h.containers; named = tt; open_there = h.open_there; inside = tt; was_told = h.was_told },
+        refl,
+      )
