@@ -23,7 +23,6 @@ use Rattle.ion_text.specs.machine.Alike.{rest_at, rest_behind, IsFront, IsTop}
 use Rattle.ion_text.proofs.Elsewhere.{gives_on, leaves_on}
 use Rattle.ion_text.proofs.Further.{step_stands}
 use Rattle.ion_text.proofs.Pendings.{step_progress}
-use Rattle.ion_atoms.specs.declared.kind.Kind.TheVariants as sorts
 use Rattle.ion_model.specs.declared.value.Payload.{Payload}
 use Rattle.ion_model.specs.Measures.{bare}
 use Rattle.ion_text.specs.declared.reader.walks.Tally.{Tally}
@@ -36,7 +35,7 @@ use Rattle.ion_text.proofs.Tops.{gone_on, top_advances}
 
 -- what was noted, where another scanner rests
 abbrev pub noted_at : Tally → Rest → Tally
-noted_at t r = record { kind = t.kind; level = t.level; nodes = t.nodes; rest = r }
+noted_at t r = record { level = t.level; rest = r }
 
 module _ (level : ℕ) (octets beside : List ℕ) (count : ℕ) (first last : Tally) (w : WalkedTop level octets count first last) (rest : Rest)
     (begins : first.rest ≡ rest_at rest.colon 0 0) (same : take count octets ≡ take count beside) (more : length octets ≤ length beside)
@@ -79,11 +78,8 @@ module _ (level : ℕ) (octets beside : List ℕ) (count : ℕ) (first last : Ta
         some = w.some;
         within = omega arith;
         used = refl;
-        kind = w.kind;
         deep = w.deep;
         left = w.left;
-        few = w.few;
-        counted = w.counted;
       }
 
 -- An item at the front of octets before which none was used is one where a scanner rests before the same octets.
@@ -198,7 +194,7 @@ module _ (old : TextReader) (piece item : List ℕ) (blank count : ℕ) (rest be
 module _ (old : TextReader) (piece item : List ℕ) (blank count : ℕ) (rest behind : Rest) (q : Payload) (f : IsFront old piece blank rest)
     (is : item ≡ take (min (length piece - blank) old.limits.item) (drop blank piece)) (t : FoundLeft item count rest behind q) where
   abbrev begun : Tally
-  begun = record { kind = sorts.Null; level = old.limits.depth; nodes = 0; rest = rest }
+  begun = record { level = old.limits.depth; rest = rest }
 
   ahead : ItemAhead old piece blank item begun
   ahead =
@@ -215,7 +211,6 @@ module _ (old : TextReader) (piece item : List ℕ) (blank count : ℕ) (rest be
         few = omega arith;
         rests = f.rests;
         level = refl;
-        none = refl;
       }
 
   -- a reader behind a blank and a number, a symbol or a long string went on as a run over them does

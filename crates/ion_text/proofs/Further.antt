@@ -78,7 +78,7 @@ module _ (g : Catalog) (l : Limits) where
         (more.given.0, ap (λ w. (trace g l w).given) (sym (whole used)) ∙ (more.given.1 ∙ ap (λ vs. vs ++ more.given.0) front))
     answers_value used (Some v) (Some o) h = stopped used v o h.0 h.1
 
-    answers : (result : Result Step Refusal) (next : Option ℕ) → Advances g l (is_some awaited) to m piece result next now
+    pub answers : (result : Result Step Refusal) (next : Option ℕ) → Advances g l (is_some awaited) to m piece result next now
         → Answers (trace g l) u s piece result
     answers (Ok step) next h = answers_value step.used step.value next h
     answers (Err refusal) next h = λ other.

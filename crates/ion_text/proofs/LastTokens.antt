@@ -1,6 +1,6 @@
 -- Tokens that a reader without values takes up at once, and that end a value of the top level.
-use Rattle.std.proofs.Common.{◌≡◌, ℕ, ◌+◌, ◌-◌, ◌<◌, ◌≤◌, Bool, true, false, List, [], ◌∷◌, length, take, drop, get_or, Some, Result, Ok, Err, refl, ap, sym, ◌∙◌, subst, arith, length-drop, get_or-drop, inl, inr}
-use Rattle.std.specs.Prelude.{◌||◌, if◌then◌else◌, IfOk}
+use Rattle.std.proofs.Common.{◌≡◌, ℕ, ◌+◌, ◌-◌, ◌<◌, ◌≤◌, Bool, true, false, List, [], ◌∷◌, length, take, drop, get_or, Some, Ok, Err, refl, ap, sym, ◌∙◌, subst, arith, length-drop, get_or-drop, inl, inr}
+use Rattle.std.specs.Prelude.{◌||◌, if◌then◌else◌}
 use Rattle.std.proofs.lemmas.Grind.{common_steps}
 use Rattle.std.proofs.lemmas.List.{length-take-le}
 use Rattle.ion_atoms.specs.declared.refusal.Reason.{Reason}
@@ -16,7 +16,6 @@ use Rattle.ion_tokens.specs.declared.mode.TokenKind.{TokenKind}
 use Rattle.ion_tokens.specs.declared.mode.TokenKind.TheVariants as kinds
 use Rattle.ion_tokens.specs.declared.plain_tokens.Rest.{Rest}
 use Rattle.ion_tokens.specs.declared.token_reader.FoundToken.{FoundToken}
-use Rattle.ion_tokens.specs.declared.token_reader.TokenReader.{TokenReader}
 use Rattle.ion_tokens.specs.machine.Rests.{resting, past_blank, past_token, lexeme_at, IsPassed, IsFound}
 use Rattle.ion_tokens.specs.machine.Said.{said}
 use Rattle.ion_tokens.specs.machine.Scanning.{Known, feed}
@@ -43,7 +42,7 @@ use Rattle.ion_text.specs.machine.Run.{State, Effect, eats, is_top, leaves, on_s
 use Rattle.ion_text.specs.walk.Holds.{Does, Holds, SameSetting, reading_of, state_of, told}
 use Rattle.ion_text.specs.walk.Strides.{Ahead, Ended, EndsBy, EndsSo, Strode, TookSo, resting_at}
 use Rattle.ion_visiting.specs.Tables.{heard}
-use Rattle.ion_text.proofs.Strides.{front_same, settings_none, strides_there, strode_none, strode_on, take_short, with_beside, with_moved}
+use Rattle.ion_text.proofs.Strides.{front_same, settings_none, strides_there, strode_none, strode_on, take_short, with_moved}
 use Rattle.ion_visiting.specs.laws.Filters.{hears_both}
 use Rattle.ion_text.proofs.Arms.{blank_used, given_found, left_found, mark_says}
 use Rattle.ion_text.proofs.Nested.{close_found, closing}
@@ -245,34 +244,6 @@ module _ {V : Type 0} (leads : V → Event → V → Type 0) where
   pub ends_err : (old new : TextWalk) (before after : Rest) (octets : List ℕ) (reason : Reason) (a b : V) → reason ≡ Memory → SameSetting old new
       → EndsBy leads old new before after octets (Err reason) a b
   ends_err old new before after octets reason a b memory same = record { ended = tt; memory = memory; same = same }
-
-  -- What is kept beside the scanner never counts.
-  module _ (old new : TextWalk) (k : TokenReader) (before after : Rest) (octets : List ℕ) (a b : V) where
-    beside_so : (fs : List Frame) (ss : Symbols) (count : ℕ) (t : Taken) → EndsSo leads fs ss (with_beside old k) new before after octets count a b t
-        → EndsSo leads fs ss old new before after octets count a b t
-    beside_so fs ss count taken.Uses y = record { frames = y.frames; notes = y.notes; passes = y.passes; ahead = y.ahead; hears = y.hears }
-    beside_so fs ss count taken.Tells y = y
-    beside_so fs ss count taken.Leaves y = y
-
-    beside_ended : (result : Result (ℕ × Taken) Reason) → IfOk result (λ ends. Ended leads (with_beside old k) new before after octets ends a b)
-        → IfOk result (λ ends. Ended leads old new before after octets ends a b)
-    beside_ended (Ok ends) x = record {
-      leads = λ fs ss h. beside_so fs ss ends.0 ends.1 (x.leads fs ss (record { holds = h.holds; still = h.still; fits = h.fits }));
-      within = x.within;
-      used = x.used;
-    }
-    beside_ended (Err reason) x = tt
-
-    -- what comes of a token that was looked for
-    pub beside_ends : (result : Result (ℕ × Taken) Reason) → EndsBy leads (with_beside old k) new before after octets result a b
-        → EndsBy leads old new before after octets result a b
-    beside_ends result x =
-        let s = x.same in
-        record {
-          ended = beside_ended result x.ended;
-          memory = x.memory;
-          same = record { catalog = s.catalog; limits = s.limits; scanner = s.scanner; awaited = s.awaited; failed = s.failed };
-        }
 
   pub ends_so : (old new : TextWalk) (before after : Rest) (octets : List ℕ) (count : ℕ) (t : Taken) (a b : V)
       → ((fs : List Frame) (ss : Symbols) → Ahead old fs ss before (length octets) → EndsSo leads fs ss old new before after octets count a b t)

@@ -42,6 +42,9 @@ pub mod Ends
 pub mod Reaching
 pub mod Ended
 pub mod Opened
+pub mod SaidThere
 pub mod Strides
 pub mod LastTokens
 pub mod Advancing
+pub mod WalkRuns
+pub mod HeardAt

@@ -34,7 +34,7 @@ use Rattle.ion_symtab.specs.Slots.{Slot}
 use Rattle.ion_tokens.specs.Places.{is_name, is_sexp}
 use Rattle.ion_text.specs.declared.reader.walks.Tally.{Tally}
 use Rattle.ion_text.specs.machine.FrontTokens.{ends_symbol}
-use Rattle.ion_text.specs.machine.Walked.{most, rested, LeadsBehind, Walked}
+use Rattle.ion_text.specs.machine.Walked.{rested, LeadsBehind, Walked}
 use Rattle.ion_text.proofs.Arms.{ended_stays, at_drop, blank_used, Moved, with_scanner, ended_place, moved_strides, room}
 use Rattle.ion_tokens.specs.declared.mode.Mode.{Mode}
 use Rattle.ion_tokens.specs.declared.mode.Action.{Action}
@@ -46,7 +46,6 @@ use Rattle.ion_text.specs.declared.state.Now.TheVariants as nows
 use Rattle.ion_tokens.specs.declared.mode.TokenKind.TheVariants as kinds
 use Rattle.ion_text.specs.declared.state.Frame.TheVariants as frames
 use Rattle.ion_model.specs.declared.value.Payload.TheVariants as payloads
-use Rattle.ion_atoms.specs.declared.kind.Kind.TheVariants as sorts
 
 -- the mode of a blank, or of what may be a segment of a long string
 abbrev pub may_be_long : Mode → Bool
@@ -484,12 +483,11 @@ long_leads p level before octets count after text x = λ g l start c ss fs those
 -- with what is noted
 pub walked_long : (p : Place) (level : ℕ) (octets : List ℕ) (count : ℕ) (before after : Tally) (rest : Rest) (text : List ℕ) → before.level ≤ level
     → LongThere p before.rest octets count rest text
-    → after ≡ record { kind = sorts.Str; level = before.level; nodes = min (before.nodes + 1) most; rest = rest }
+    → after ≡ record { level = before.level; rest = rest }
     → (w : Walked p level octets count before after) × (w.payload ≡ payloads.Str text)
 walked_long p level octets count before after rest text low x e =
     let flat = flat_text text in
     let deep = flat.deep in
-    let one = flat.counted in
     let more = x.more in
     rw e (
       record {
@@ -498,7 +496,7 @@ walked_long p level octets count before after rest text low x e =
         within = omega arith;
         used = x.segments.used;
         deep = omega arith;
-        noted = record { kind = sym flat.sort; left = omega arith; counted = omega arith };
+        left = omega arith;
       },
       refl,
     )

@@ -53,7 +53,13 @@ state_in other (Err refusal) = other
 led_same : (m n : State) → led m ≡ led n → n ≡ m
 led_same m n e = sym (ap (λ (r : Run). state_in m r.now) e)
 
-nothing : (o : ℕ) (rest : List ℕ) → [] ≡ o ∷ rest → ⊥
+-- one at most
+pub few : (b : Bool) (o : Option ℕ) → pending_by b o ≤ 1
+few b (Some o) = omega arith
+few true None = omega arith
+few false None = omega arith
+
+pub nothing : (o : ℕ) (rest : List ℕ) → [] ≡ o ∷ rest → ⊥
 nothing o rest e = cc
 
 module _ (g : Catalog) (l : Limits) where
@@ -69,12 +75,6 @@ module _ (g : Catalog) (l : Limits) where
   module _ (to : ℕ) (m now : State) (awaited next : Option ℕ) (piece : List ℕ) where
     abbrev quiet : State → Bool
     quiet n = is_quiet n.reading.now n.scan.mode
-
-    -- one at most
-    few : (b : Bool) (o : Option ℕ) → pending_by b o ≤ 1
-    few b (Some o) = omega arith
-    few true None = omega arith
-    few false None = omega arith
 
     -- a value came before the first octet
     first_left : (awaited : Option ℕ) (v : Value) (o used : ℕ) → StopsBefore g l (is_some awaited) to m piece used v o now

@@ -1,6 +1,6 @@
 -- Tokens that a reader without values takes up at once, one behind the other.
-use Rattle.std.proofs.Common.{◌≡◌, ◌≢◌, ℕ, ◌+◌, ◌-◌, ◌<◌, ◌≤◌, Bool, true, false, List, [], ◌∷◌, ◌++◌, length, take, drop, get_or, Option, Some, Result, Ok, Err, refl, ap, sym, ◌∙◌, subst, arith, length-drop, ◌⊎◌, inl, inr}
-use Rattle.std.specs.Prelude.{if◌then◌else◌, nat_lt, IfOk}
+use Rattle.std.proofs.Common.{◌≡◌, ◌≢◌, ℕ, ◌+◌, ◌-◌, ◌<◌, ◌≤◌, Bool, true, false, List, [], ◌∷◌, ◌++◌, length, take, drop, get_or, Option, Ok, Err, refl, ap, sym, ◌∙◌, subst, arith, length-drop, ◌⊎◌, inl, inr}
+use Rattle.std.specs.Prelude.{if◌then◌else◌, nat_lt}
 use Rattle.std.proofs.lemmas.Bool.Decides.{nat_tests}
 use Rattle.std.proofs.lemmas.Grind.{common_steps}
 use Rattle.std.proofs.lemmas.List.{length-map, length-reverse, length-take}
@@ -11,42 +11,36 @@ use Rattle.ion_model.specs.declared.value.Payload.TheVariants as payloads
 use Rattle.ion_model.specs.Measures.{annotated}
 use Rattle.ion_symtab.specs.declared.limits.Limits.{Limits}
 use Rattle.ion_symtab.specs.declared.catalog.Catalog.{Catalog}
-use Rattle.ion_symtab.specs.Slots.{Slot, resolve}
-use Rattle.ion_scalar.specs.declared.number.Number.{Number}
-use Rattle.ion_tokens.specs.Bodies.{Content, Id, Mark', Number', id_of}
+use Rattle.ion_symtab.specs.Slots.{Slot}
+use Rattle.ion_tokens.specs.Bodies.{Content, Mark'}
 use Rattle.ion_tokens.specs.Lexemes.{takes_colon}
 use Rattle.ion_tokens.specs.Places.{is_name}
 use Rattle.ion_tokens.specs.declared.mode.Place.{Place}
 use Rattle.ion_tokens.specs.declared.mode.Place.TheVariants as places
 use Rattle.ion_tokens.specs.declared.mode.Mark.TheVariants as marks
 use Rattle.ion_tokens.specs.declared.token_reader.FoundToken.{FoundToken}
-use Rattle.ion_tokens.specs.declared.token_reader.TokenReader.{TokenReader}
 use Rattle.ion_tokens.specs.declared.mode.TokenKind.{TokenKind}
 use Rattle.ion_tokens.specs.declared.mode.TokenKind.TheVariants as kinds
 use Rattle.ion_tokens.specs.declared.plain_tokens.Rest.{Rest}
 use Rattle.ion_tokens.specs.machine.Rests.{resting, past_blank, past_token, lexeme_at, before_end, IsPassed, IsFound, RestsBehind}
-use Rattle.ion_tokens.specs.machine.Said.{said, word_said}
+use Rattle.ion_tokens.specs.machine.Said.{said}
 use Rattle.ion_tokens.specs.machine.Scanning.{Known}
 use Rattle.ion_tokens.specs.machine.Views.{scanned}
 use Rattle.ion_tokens.specs.declared.scanner.Scanner.{Scanner}
 use Rattle.ion_tokens.proofs.runs.WholeTokens.{comma_found}
 use Rattle.ion_visiting.specs.declared.bracket.Bracket.{Bracket}
 use Rattle.ion_visiting.specs.Events.{Event}
-use Rattle.ion_visiting.specs.Parts.{number_payload}
-use Rattle.ion_text.specs.declared.reader.finders.Scalar.{Scalar}
 use Rattle.ion_text.specs.declared.state.Frame.{Frame}
 use Rattle.ion_text.specs.declared.state.Frame.TheVariants as frames
 use Rattle.ion_text.specs.declared.state.Held.{Held}
-use Rattle.ion_text.specs.declared.state.Held.TheVariants as helds
 use Rattle.ion_text.specs.declared.state.Listing.TheVariants as listings
 use Rattle.ion_text.specs.declared.state.Now.{Now}
 use Rattle.ion_text.specs.declared.state.Now.TheVariants as nows
 use Rattle.ion_text.specs.declared.state.Effect.TheVariants.{Goes}
 use Rattle.ion_text.specs.declared.walk.TextWalk.{TextWalk}
 use Rattle.ion_text.specs.machine.AtOnce.{Passes, IsStill}
-use Rattle.ion_text.specs.machine.EachToken.{under, spot_at, Reading, Symbols, Turn, at, beyond_depth, begun_at, closed, ended, first_now, goes, held_payload, keyed, named, on_comma, opened, opening, place, place_in, resolved, turn}
-use Rattle.ion_text.specs.machine.FrontTokens.{ends_symbol, held_of, BeginsName, BeginsValue, EndsAtOnce, IsValue}
-use Rattle.ion_text.specs.visiting.Walks.{FoundNumber, FoundPart}
+use Rattle.ion_text.specs.machine.EachToken.{under, spot_at, Reading, Symbols, Turn, at, beyond_depth, begun_at, closed, ended, first_now, goes, held_payload, named, on_comma, opened, opening, place, place_in, turn}
+use Rattle.ion_text.specs.machine.FrontTokens.{ends_symbol, BeginsValue, EndsAtOnce}
 use Rattle.ion_text.specs.machine.LongStrings.{LongThere}
 use Rattle.ion_text.specs.machine.Walked.{behind_note, FoundNote}
 use Rattle.ion_text.specs.machine.Nested.{close_mark, close_octet, closes, open_mark, OpensAt}
@@ -54,7 +48,7 @@ use Rattle.ion_text.specs.machine.Run.{is_top, token_of, with_scan}
 use Rattle.ion_text.specs.machine.Views.{IsCalm}
 use Rattle.ion_visiting.specs.Tables.{heard}
 use Rattle.ion_text.specs.walk.Holds.{AreAround, AreOpen, Does, DoesAlone, Holds, SameSetting, WentOn, bracket_of, brackets_of, calm, open_brackets, reading_of, told}
-use Rattle.ion_text.specs.walk.Rare.{NameThere, SaysThere, SymbolThere, WaitsThere}
+use Rattle.ion_text.specs.walk.Rare.{NameThere, SymbolThere, WaitsThere}
 use Rattle.ion_text.specs.walk.Strides.{Ahead, resting_at, Strides, Strode, StrodeFrom, StridesBy}
 use Rattle.ion_text.proofs.Arms.{StaysIn, after_turns, blank_used, comma_stays, ended_stays, mark_says, named_stays, ready_turns, went}
 use Rattle.ion_visiting.specs.laws.Filters.{hears_both, hears_none}
@@ -62,29 +56,10 @@ use Rattle.ion_text.proofs.Taking.{does_alone}
 use Rattle.ion_text.proofs.Nested.{close_found, close_stays, closing, is_open_left, open_found, opened_stays}
 use Rattle.ion_text.proofs.Passing.{inner_notices, passes_blank, passes_none, passes_on}
 use Rattle.ion_text.proofs.Striding.{still_settles}
-use Rattle.ion_text.proofs.Symbols.{held_in, name_colon, name_passes, names_so, note_passes, symbol_colon, symbol_held, symbol_passes, waits_so}
+use Rattle.ion_text.proofs.Symbols.{name_passes, note_passes, symbol_held, symbol_passes}
 use Rattle.ion_text.proofs.LongStrings.{settled_on}
 use Rattle.ion_text.proofs.Tops.{any_blank, begun_more, note_leads, top_open}
 use Rattle.ion_text.proofs.Walking.{open_goes, token_passes}
-
--- beside the scanner nothing counts
-abbrev pub with_beside : TextWalk → TokenReader → TextWalk
-with_beside r k = record {
-  alloc = r.alloc;
-  catalog = r.catalog;
-  limits = r.limits;
-  scanner = r.scanner;
-  beside = k;
-  recent = r.recent;
-  start = r.start;
-  context = r.context;
-  frames = r.frames;
-  noted = r.noted;
-  stage = r.stage;
-  filter = r.filter;
-  awaited = r.awaited;
-  failed = r.failed;
-}
 
 -- what no token changed behind two of them
 pub settings_on : (a b c : TextWalk) → SameSetting a b → SameSetting b c → SameSetting a c
@@ -158,78 +133,6 @@ open_passes g l start c (f ∷ fs) ss rest octets x deep more opens value fits =
     ∙ open_goes (under g l) (spot_at (rest.used + 1) start c) (f ∷ fs) ss x deep) fits
     (opened_stays start c (f ∷ fs) ss x) (is_open_left x) (open_found x (place r) rest octets opens more value) (inl tt)
 
--- a part that was found is such a value
-pub part_begins : (w : Bool) (p : Place) (r : Rest) (octets : List ℕ) (s : Scalar) (payload : Payload) → FoundPart p r octets s payload → s.waits ≡ w
-    → BeginsValue w p r octets s.token payload
-part_begins w p r octets s payload f e =
-    let t = f.token in
-    record {
-      kept = t.kept;
-      content = t.content;
-      found = t.found;
-      says = t.says;
-      is = subst (λ q. IsValue w t.content q) f.is (subst (λ b. IsValue b t.content t.payload) e t.is);
-    }
-
--- so is a number
-pub number_begins : (p : Place) (r : Rest) (octets : List ℕ) (token : FoundToken) (n : Number) → FoundNumber p r octets token n
-    → BeginsValue false p r octets token (number_payload n)
-number_begins p r octets token n f =
-    record { kept = f.kept; content = Number' n; found = f.found; says = f.says; is = λ setting spot fs ss. refl }
-
--- what may be an annotation waits for `::`
-pub begins_waits : (slots : List Slot) (p : Place) (r : Rest) (octets : List ℕ) (token : FoundToken) (payload : Payload)
-    → BeginsValue true p r octets token payload → (held : Held) × WaitsThere slots p r octets token held × (held_payload held ≡ Ok payload)
-begins_waits slots p r octets token payload b =
-    let pays = held_in (held_of b.content) payload b.is in (
-      pays.0,
-      record {
-        content = b.content;
-        there = record { kept = b.kept; found = b.found; says = b.says };
-        may = symbol_colon p token.kind b.kept b.content pays.0 b.says pays.1;
-        waits = λ setting end start fs ss. waits_so setting (spot_at end start slots) fs ss b.content pays.0 pays.1;
-      },
-      pays.2,
-    )
-
--- a field's name that is no id
-pub begins_name : (slots : List Slot) (r : Rest) (octets : List ℕ) (token : FoundToken) (name : Option (List ℕ))
-    → BeginsName places.Name r octets token name → NameThere slots r octets token name
-begins_name slots r octets token name b = record {
-  content = b.content;
-  there = record { kept = b.kept; found = b.found; says = b.says };
-  may = name_colon places.Name token.kind b.kept b.content name b.says b.names refl;
-  names = λ setting end start fs. names_so setting (spot_at end start slots) fs b.content name b.names;
-}
-
--- what a symbol's id says
-pub id_said : (w : List ℕ) (id : ℕ) → Some id ≡ id_of w → said kinds.Word w ≡ Ok (Id id)
-unfolding said
-id_said w id e = ap (word_said w) (sym e)
-
--- a symbol's id
-module _ (slots : List Slot) (r : Rest) (octets : List ℕ) (token : FoundToken) (id : ℕ) (s : Option (List ℕ)) (word : token.kind ≡ kinds.Word)
-    (is : resolve slots id ≡ Ok s) where
-  pub id_waits : (p : Place) → SaysThere p r octets token (Id id) → SymbolThere slots p r octets token s
-  id_waits p x = record {
-    held = helds.Symbol s;
-    there = record {
-      content = Id id;
-      there = x;
-      may = ap (takes_colon p) word;
-      waits = λ setting end start fs ss. ap (λ k. resolved k (λ s. goes (at start slots fs ss (nows.Pending (helds.Symbol s) end)))) is;
-    };
-    is = refl;
-  }
-
-  pub id_names : SaysThere places.Name r octets token (Id id) → NameThere slots r octets token s
-  id_names x = record {
-    content = Id id;
-    there = x;
-    may = ap (takes_colon places.Name) word;
-    names = λ setting end start fs. ap (λ k. resolved k (λ s. goes (keyed start slots fs s))) is;
-  }
-
 module _ {V : Type 0} (takes : V → Event → V → Type 0) where
   -- nothing was taken up
   pub strode_none : (r : TextWalk) (rest : Rest) (octets : List ℕ) (a : V) → Strode takes r r rest rest octets 0 a a
@@ -247,33 +150,6 @@ module _ {V : Type 0} (takes : V → Event → V → Type 0) where
 
   pub strides_none : (r : TextWalk) (rest : Rest) (octets : List ℕ) (a : V) → StridesBy takes r r rest rest octets (Ok 0) a a
   strides_none r rest octets a = record { strode = strode_none r rest octets a; memory = tt; same = settings_none r }
-
-  -- What is kept beside the scanner never counts.
-  module _ (old new : TextWalk) (k : TokenReader) (before after : Rest) (octets : List ℕ) (a b : V) where
-    beside_strode : (count : ℕ) → Strode takes (with_beside old k) new before after octets count a b → Strode takes old new before after octets count a b
-    beside_strode count x = record {
-      leads = λ fs ss h.
-          let y = x.leads fs ss (record { holds = h.holds; still = h.still; fits = h.fits }) in
-          record { frames = y.frames; notes = y.notes; passes = y.passes; ahead = y.ahead; hears = y.hears };
-      within = x.within;
-      used = x.used;
-    }
-
-    beside_result : (result : Result ℕ Reason) → IfOk result (λ count. Strode takes (with_beside old k) new before after octets count a b)
-        → IfOk result (λ count. Strode takes old new before after octets count a b)
-    beside_result (Ok count) x = beside_strode count x
-    beside_result (Err reason) x = tt
-
-    -- what comes of tokens behind one that was looked for
-    pub beside_answer : (result : Result ℕ Reason) → StridesBy takes (with_beside old k) new before after octets result a b
-        → StridesBy takes old new before after octets result a b
-    beside_answer result x =
-        let s = x.same in
-        record {
-          strode = beside_result result x.strode;
-          memory = x.memory;
-          same = record { catalog = s.catalog; limits = s.limits; scanner = s.scanner; awaited = s.awaited; failed = s.failed };
-        }
 
   -- one behind the other
   pub strode_on : (old mid new : TextWalk) (r s t : Rest) (octets rest : List ℕ) (i j : ℕ) (a m b : V) → rest ≡ drop i octets → SameSetting old mid

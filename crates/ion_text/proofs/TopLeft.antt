@@ -1,5 +1,5 @@
 -- Numbers, symbols and long strings of the top level, whose end the octet behind them shows.
-use Rattle.std.proofs.Common.{◌≡◌, ℕ, ◌+◌, ◌-◌, ◌^◌, ◌<◌, ◌≤◌, min, zero, suc, Bool, true, false, List, [], ◌∷◌, length, take, drop, get_or, inl, inr, Some, Result, Ok, Err, refl, ap, sym, ◌∙◌, subst, arith, length-drop}
+use Rattle.std.proofs.Common.{◌≡◌, ℕ, ◌+◌, ◌-◌, ◌<◌, ◌≤◌, zero, suc, Bool, true, false, List, [], ◌∷◌, length, take, drop, get_or, inl, inr, Some, Result, Ok, Err, refl, ap, sym, ◌∙◌, subst, arith, length-drop}
 use Rattle.std.specs.Prelude.{◌||◌, if◌then◌else◌}
 use Rattle.std.specs.Option.{is_some}
 use Rattle.std.proofs.lemmas.Grind.{common_steps}
@@ -9,9 +9,8 @@ use Rattle.ion_atoms.specs.declared.refusal.Reason.{Reason}
 use Rattle.ion_model.specs.declared.value.Payload.{Payload}
 use Rattle.ion_model.specs.declared.value.Payload.TheVariants as payloads
 use Rattle.ion_model.specs.declared.value.Value.{Value}
-use Rattle.ion_model.specs.Kinds.{is_table, kind_of}
-use Rattle.ion_model.specs.Measures.{bare, depth, nodes}
-use Rattle.ion_model.specs.Outlines.{outline_of}
+use Rattle.ion_model.specs.Kinds.{is_table}
+use Rattle.ion_model.specs.Measures.{bare}
 use Rattle.ion_scalar.specs.declared.number.Number.{Number}
 use Rattle.ion_scalar.specs.declared.number.Number.TheVariants as numbers
 use Rattle.ion_symtab.specs.declared.catalog.Catalog.{Catalog}
@@ -47,7 +46,7 @@ use Rattle.ion_text.proofs.Passing.{NoticesNothing, blank_quiet, blank_waits}
 use Rattle.ion_text.proofs.Symbols.{ends_waits, held_in, waits_so}
 use Rattle.ion_text.proofs.LongStrings.{long_unsettled}
 use Rattle.ion_text.proofs.Walks.{flat_number, flat_text}
-use Rattle.ion_text.proofs.Tops.{on_top, gone_on, passes_then, resumed_same, same_outline, state_there, top_blank, top_ended, top_quiet, waits_notices}
+use Rattle.ion_text.proofs.Tops.{on_top, gone_on, passes_then, resumed_same, state_there, top_blank, top_ended, top_quiet, waits_notices}
 
 -- a number is no local symbol table
 no_table : (n : Number) → is_table (bare (number_payload n)) ≡ false
@@ -60,11 +59,6 @@ from_there : (octets : List ℕ) (n : ℕ) → n < length octets → (behind : L
 from_there [] n more = absurd (omega arith)
 from_there (o ∷ os) zero more = (os, refl)
 from_there (o ∷ os) (suc n) more = from_there os n (omega arith)
-
--- nodes and depth of a value without others in it
-pub flat_outline : (q : Payload) (k : Kind) → IsFlat q k → outline_of (bare q) ≡ record { kind = k; depth = 0; nodes = 1 }
-flat_outline q k f = same_outline (kind_of (bare q)) k (min (depth (bare q)) (2 ^ 64 - 1)) 0 (min (nodes (bare q)) (2 ^ 64 - 1)) 1 f.sort
-    (ap (λ n. min n (2 ^ 64 - 1)) f.deep) (ap (λ n. min n (2 ^ 64 - 1)) f.counted)
 
 -- where a scanner rests at the top level, the octet behind a number gives it, and comes again
 module _ (rest : Rest) (item : List ℕ) (token : FoundToken) (number : Number) (f : FoundNumber places.Top rest item token number)

@@ -1,5 +1,5 @@
 -- Items of the top level that are gone over, with the blank before them.
-use Rattle.std.proofs.Common.{◌≡◌, ℕ, min, ◌+◌, ◌-◌, ◌^◌, ◌<◌, ◌≤◌, Bool, true, false, List, [], ◌∷◌, ◌++◌, length, take, drop, get_or, Option, Some, None, Ok, refl, ap, sym, ◌∙◌, subst, arith, length-drop, length-append, inl, inr}
+use Rattle.std.proofs.Common.{◌≡◌, ℕ, min, ◌+◌, ◌-◌, ◌<◌, ◌≤◌, Bool, true, false, List, [], ◌∷◌, ◌++◌, length, take, drop, get_or, Option, Some, None, Ok, refl, ap, sym, ◌∙◌, subst, arith, length-drop, length-append, inl, inr}
 use Rattle.std.specs.Prelude.{if◌then◌else◌, nat_le, ◌&&◌}
 use Rattle.std.specs.Option.{is_some}
 use Rattle.std.proofs.lemmas.Bool.Decides.{nat_tests}
@@ -9,11 +9,9 @@ use Rattle.std.proofs.lemmas.List.{length-take-le, drop-take}
 use Rattle.ion_model.specs.declared.value.Value.{Value}
 use Rattle.ion_atoms.specs.declared.refusal.Reason.TheVariants as reasons
 use Rattle.ion_atoms.specs.declared.kind.Kind.{Kind}
-use Rattle.ion_model.specs.declared.outline.Outline.{Outline}
 use Rattle.ion_model.specs.Kinds.{kind_of, is_table_of, is_table, is_fields}
-use Rattle.ion_model.specs.Measures.{bare, annotated, depth, nodes}
-use Rattle.ion_model.specs.Outlines.{outline_of}
-use Rattle.ion_model.specs.laws.Measures.{depth-out, nodes-out}
+use Rattle.ion_model.specs.Measures.{bare, annotated, depth}
+use Rattle.ion_model.specs.laws.Measures.{depth-out}
 use Rattle.ion_symtab.specs.declared.limits.Limits.{Limits}
 use Rattle.ion_symtab.specs.declared.catalog.Catalog.{Catalog}
 use Rattle.ion_symtab.specs.Slots.{Slot}
@@ -46,10 +44,10 @@ use Rattle.ion_text.specs.machine.AtOnce.{Passes}
 use Rattle.ion_text.specs.machine.EachToken.{under, spot_at, Reading, Symbols, goes, gives, refuses, at, fresh, place, place_in, settle, turn, turned, within, ended, begun_at, opened, first_now}
 use Rattle.ion_text.specs.machine.Nested.{open_mark, close_mark, OpensAt}
 use Rattle.ion_text.specs.machine.Pieces.{led, drive, go_on, Quiet}
-use Rattle.ion_text.specs.machine.Progress.{Advances, Stands, resumed}
+use Rattle.ion_text.specs.machine.Progress.{Advances, resumed}
 use Rattle.ion_text.specs.machine.Run.{State, Effect, Run, uses, fails, tells, leaves, eats, takes, once_more, on_scan, on_said, behind_given, unsettled, reaches, longest_top, is_long_begun, token_of, run, run_on, with_scan}
-use Rattle.ion_text.specs.machine.Views.{state_of, open_frames, with_beside, base}
-use Rattle.ion_text.specs.machine.Walked.{behind_note, IsFresh, OnlyRests, most, rested, FoundNote, FoundScalar, GivesTop, LeadsPast, Walked, WalkedBare, WalkedContainer, WalkedItem, WalkedNote, WalkedNotes, WalkedTop}
+use Rattle.ion_text.specs.machine.Views.{state_of, open_frames, base}
+use Rattle.ion_text.specs.machine.Walked.{behind_note, IsFresh, OnlyRests, rested, FoundNote, FoundScalar, GivesTop, LeadsPast, Walked, WalkedBare, WalkedContainer, WalkedItem, WalkedNote, WalkedNotes, WalkedTop}
 use Rattle.ion_text.specs.machine.FrontTokens.{held_of, EndsAtOnce, IsValue}
 use Rattle.ion_text.proofs.Arms.{left_found, given_found, mark_says, at_drop, blank_used}
 use Rattle.ion_text.proofs.Nested.{is_open_left, open_found, close_found, closing}
@@ -57,7 +55,7 @@ use Rattle.ion_text.proofs.Passing.{NoticesNothing, inner_notices, passes_blank,
 use Rattle.ion_text.proofs.Fronts.{quiet_within}
 use Rattle.ion_text.proofs.Striding.{still_settles}
 use Rattle.ion_text.proofs.Symbols.{held_in, symbol_colon, symbol_held, note_passes, noted_passes, waits_so}
-use Rattle.ion_text.proofs.Walking.{found_within, open_goes, up_to_close, container_noted}
+use Rattle.ion_text.proofs.Walking.{found_within, open_goes, up_to_close, container_left}
 
 -- a blank at the front of octets, of which more follow
 pub rests_of : (piece front : List ℕ) (n k : ℕ) (before after : Rest) → front ≡ take k piece → n ≤ k → n ≤ length piece → RestsBehind front n before after
@@ -350,7 +348,7 @@ module _ (octets : List ℕ) (token : FoundToken) (f : FoundNote octets token) (
 
   -- with a blank behind it, and what is noted
   pub walked_note : (p : Place) (before mid after : Tally) (n : ℕ) (known_behind : List ℕ) → known_behind ≡ drop (token.count + m + 2) octets
-      → mid ≡ record { kind = before.kind; level = before.level; nodes = min (before.nodes + 1) most; rest = behind_note p before.rest token m }
+      → mid ≡ record { level = before.level; rest = behind_note p before.rest token m }
       → RestsBehind known_behind n mid.rest after.rest → OnlyRests mid after
       → (w : WalkedNote p octets (token.count + m + 2 + n) before after) × (w.name ≡ f.name)
   walked_note p before mid after n known_behind is em blank ea =
@@ -360,9 +358,7 @@ module _ (octets : List ℕ) (token : FoundToken) (f : FoundNote octets token) (
       let few = blank.within in
       let begins : mid.rest ≡ there = ap (λ (t : Tally). t.rest) em in
       let ends = blank.used in
-      let used : mid.rest.used ≡ there.used = ap (λ (r : Rest). r.used) begins in
-      let nodes_mid : mid.nodes ≡ min (before.nodes + 1) most = ap (λ (t : Tally). t.nodes) em in
-      let nodes_after : after.nodes ≡ mid.nodes = ap (λ (t : Tally). t.nodes) ea in (
+      let used : mid.rest.used ≡ there.used = ap (λ (r : Rest). r.used) begins in (
         record {
           name = f.name;
           leads = λ g l start c fs ss here room.
@@ -380,7 +376,6 @@ module _ (octets : List ℕ) (token : FoundToken) (f : FoundNote octets token) (
           used = omega arith;
           free = f.free;
           left = ap (λ (t : Tally). t.level) ea ∙ ap (λ (t : Tally). t.level) em;
-          counted = omega arith;
         },
         refl,
       )
@@ -394,7 +389,6 @@ notes_none p octets before = record {
   used = omega arith;
   free = λ k. refl;
   left = refl;
-  counted = ap (λ n. min n most) (let i : before.nodes ≡ before.nodes + 0 = omega arith in i);
 }
 
 -- one more
@@ -406,9 +400,6 @@ notes_on p octets rest a b before mid after is w x =
     let within' = x.within in
     let used = w.used in
     let used' = x.used in
-    let counted = w.counted in
-    let counted' = x.counted in
-    let more : length (w.notes ++ x.name ∷ []) ≡ length w.notes + 1 = length-append w.notes (x.name ∷ []) in
     record {
       notes = w.notes ++ x.name ∷ [];
       leads = λ g l start c fs here room.
@@ -429,7 +420,6 @@ notes_on p octets rest a b before mid after is w x =
       used = omega arith;
       free = free w.notes w.free;
       left = x.left ∙ w.left;
-      counted = omega arith;
     }
   where
     free : (ss : Symbols) → ((k : Kind) → is_table_of ss k ≡ false) → (k : Kind) → is_table_of (ss ++ x.name ∷ []) k ≡ false
@@ -448,13 +438,9 @@ item_annotated p level octets rest a b before mid after is w x =
     let used' = x.used in
     let deep = x.deep in
     let left = w.left in
-    let left' = x.noted.left in
-    let counted = w.counted in
-    let counted' = x.noted.counted in
+    let left' = x.left in
     let v = annotated w.notes x.payload in
-    let d : depth v ≡ depth (bare x.payload) = depth-out v ∙ sym (depth-out (bare x.payload)) in
-    let n = nodes-out v in
-    let n' = nodes-out (bare x.payload) in (
+    let d : depth v ≡ depth (bare x.payload) = depth-out v ∙ sym (depth-out (bare x.payload)) in (
       record {
         value = v;
         leads = λ g l start c fs those n inner here deep room puts. inside g l start c fs those n inner here deep room puts;
@@ -462,7 +448,6 @@ item_annotated p level octets rest a b before mid after is w x =
         used = omega arith;
         deep = omega arith;
         left = omega arith;
-        counted = omega arith;
       },
       refl,
     )
@@ -492,7 +477,6 @@ walked_bare level octets count before after bracket w more opens low =
     let long : length (drop 1 octets) ≡ length octets - 1 = length-drop 1 octets in
     let some = w.some in
     let deep = w.inside.deep in
-    let nodes_are : after.nodes ≡ min (w.last.nodes + 1) most = ap (λ (t : Tally). t.nodes) w.shuts in
     let begun : w.first.rest.used ≡ before.rest.used + 1 = ap (λ (t : Tally). t.rest.used) w.opens in
     let shut : after.rest.used ≡ w.last.rest.used + 1 = ap (λ (t : Tally). t.rest.used) w.shuts in
     let used = w.inside.used in
@@ -503,26 +487,21 @@ walked_bare level octets count before after bracket w more opens low =
       within = omega arith;
       used = omega arith;
       deep = omega arith;
-      few = omega arith;
-      noted = container_noted places.Top bracket level octets count before after w more opens low;
+      left = container_left places.Top bracket level octets count before after w more opens low;
     }
 
 -- a token at the top level that ends with its last octet is gone over as a value
 pub bare_scalar : (level : ℕ) (octets : List ℕ) (s : Scalar) (before after : Tally) (f : FoundScalar places.Top before.rest octets s) → s.waits ≡ false
     → s.token.left ≡ false → before.level ≤ level
     → after ≡ record {
-      kind = s.kind;
       level = before.level;
-      nodes = min (before.nodes + 1) most;
       rest =
           past_token places.Top before.rest s.token.kind s.token.count;
     } → (w : WalkedBare level octets s.token.count before after) × (w.payload ≡ f.payload)
 bare_scalar level octets s before after f ends given low e =
     let found = f.found in
     let some = found.some in
-    let sort = f.flat.sort in
     let none = f.flat.deep in
-    let one = f.flat.counted in
     rw e (
       record {
         payload = f.payload;
@@ -531,8 +510,7 @@ bare_scalar level octets s before after f ends given low e =
         within = found_within places.Top before.rest octets s.token.kind f.kept s.token.count s.token.left f.found;
         used = refl;
         deep = omega arith;
-        few = omega arith;
-        noted = record { kind = sym sort; left = omega arith; counted = omega arith };
+        left = omega arith;
       },
       refl,
     )
@@ -548,16 +526,11 @@ walked_top level octets rest a b before mid after is w x =
     let used = w.used in
     let used' = x.used in
     let deep = x.deep in
-    let few = x.few in
     let left = w.left in
-    let left' = x.noted.left in
-    let counted = w.counted in
-    let counted' = x.noted.counted in
+    let left' = x.left in
     let p = x.payload in
     let v = annotated w.notes p in
     let d : depth v ≡ depth (bare p) = depth-out v ∙ sym (depth-out (bare p)) in
-    let n = nodes-out v in
-    let n' = nodes-out (bare p) in
     let total : mid.rest.used + b ≡ before.rest.used + (a + b) = omega arith in
     record {
       value = v;
@@ -572,33 +545,9 @@ walked_top level octets rest a b before mid after is w x =
       some = omega arith;
       within = omega arith;
       used = omega arith;
-      kind = x.noted.kind;
       deep = omega arith;
       left = omega arith;
-      few = few;
-      counted = omega arith;
     }
-
-pub same_outline : (j k : Kind) (c d m n : ℕ) → j ≡ k → c ≡ d → m ≡ n
-    → Path Outline (record { kind = j; depth = c; nodes = m }) (record { kind = k; depth = d; nodes = n })
-same_outline j k c d m n e f h =
-    ap (λ x. record { kind = x; depth = c; nodes = m }) e
-    ∙ (ap (λ x. record { kind = k; depth = x; nodes = m }) f ∙ ap (λ x. record { kind = k; depth = d; nodes = x }) h)
-
--- what is told of it
-pub outlined : (level : ℕ) (item : List ℕ) (count : ℕ) (before after : Tally) (w : WalkedTop level item count before after) → before.level ≡ level
-    → before.nodes ≡ 0 → level < 2 ^ 32
-    → (after.level ≤ level) × (outline_of w.value ≡ record { kind = after.kind; depth = level - after.level; nodes = after.nodes })
-outlined level item count before after w low none levels =
-    let deep = w.deep in
-    let left = w.left in
-    let counted = w.counted in
-    let d : min (depth w.value) (2 ^ 64 - 1) ≡ level - after.level = omega arith in
-    let n : min (nodes w.value) (2 ^ 64 - 1) ≡ after.nodes = omega arith in (
-      omega arith,
-      same_outline (kind_of w.value) after.kind (min (depth w.value) (2 ^ 64 - 1)) (level - after.level) (min (nodes w.value) (2 ^ 64 - 1)) after.nodes
-          (sym w.kind) d n,
-    )
 
 -- with the blank before it
 module _ (g : Catalog) (l : Limits) (level : ℕ) (item : List ℕ) (count : ℕ) (before after : Tally) (w : WalkedTop level item count before after) (s : ℕ)
@@ -704,7 +653,3 @@ top_advances old moved b level item count before after w rest piece n k h there 
             (omega arith) x.1.1,
       ),
     )
-
--- what a reader stands for has nothing to do with what it reads tokens with beside its scanner
-pub beside_stands : (r : TextReader) (b : TokenReader) (u : List ℕ) (s : List (Value × ℕ)) → Stands r u s → Stands (with_beside r b) u s
-beside_stands r b u s h = record { fine = h.fine; scanner_fine = h.scanner_fine; counted = h.counted; steady = h.steady; ran = h.ran }

@@ -17,7 +17,7 @@ use Rattle.ion_visiting.specs.Visits.{IsPart, Visits, part, annotation, name, ba
 use Rattle.ion_text.specs.declared.reader.finders.Scalar.{Scalar}
 use Rattle.ion_text.specs.declared.reader.walks.Tally.{Tally}
 use Rattle.ion_text.specs.machine.Nested.{OpensAt}
-use Rattle.ion_text.specs.machine.Walked.{most, IsFlat, FoundLeft, LeadsBehind, behind_open, behind_close, Walked, WalkedName, WalkedNote, WalkedBare}
+use Rattle.ion_text.specs.machine.Walked.{IsFlat, FoundLeft, LeadsBehind, behind_open, behind_close, Walked, WalkedName, WalkedNote, WalkedBare}
 use Rattle.ion_text.specs.visiting.Walks.{FoundPart, VisitedValue, VisitedItem, VisitedContainer, VisitedInside, VisitedName, VisitedNotes, VisitedLeft, VisitedBare, VisitedTop}
 use Rattle.ion_text.proofs.Tops.{bare_scalar, item_annotated, notes_none, notes_on, walked_bare, walked_top}
 use Rattle.ion_text.proofs.Walking.{ListGone, SexpGone, FieldsGone, found_within, item_bare, scalar_leads, walked_container, walked_scalar, list_inside, sexp_inside, fields_inside, inside_by}
@@ -42,9 +42,7 @@ module _ {S M : Type 0} (h : Visits S M) where
   pub scalar_passed : (p : Place) (octets : List ℕ) (s : Scalar) (q : Payload) (level total : ℕ) (before after : Tally) (a b : S)
       → FoundPart p before.rest octets s q → s.waits ≡ false → before.level ≤ level → total ≡ s.token.count + 0
       → after ≡ record {
-        kind = s.kind;
         level = before.level;
-        nodes = min (before.nodes + 1) most;
         rest = past_blank (past_token p before.rest s.token.kind s.token.count) 0;
       } → h.takes a (part q) b → VisitedValue h p level octets total before after a b
   scalar_passed p octets s q level total before after a b f ends low sum e t =
@@ -82,9 +80,7 @@ module _ {S M : Type 0} (h : Visits S M) where
   pub bare_passed : (octets : List ℕ) (s : Scalar) (q : Payload) (level total : ℕ) (before after : Tally) (a b : S)
       → FoundPart places.Top before.rest octets s q → s.waits ≡ false → s.token.left ≡ false → before.level ≤ level → total ≡ s.token.count + 0
       → after ≡ record {
-        kind = s.kind;
         level = before.level;
-        nodes = min (before.nodes + 1) most;
         rest = past_blank (past_token places.Top before.rest s.token.kind s.token.count) 0;
       } → h.takes a (part q) b → VisitedBare h level octets total before after a b
   bare_passed octets s q level total before after a b f ends given low sum e t =

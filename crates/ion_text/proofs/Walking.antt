@@ -1,16 +1,12 @@
 -- The machine over octets of values that are gone over.
-use Rattle.std.proofs.Common.{◌≡◌, ◌≢◌, ℕ, suc, min, max, map, sum, ◌+◌, ◌-◌, ◌<◌, ◌≤◌, Bool, true, false, List, [], ◌∷◌, ◌++◌, length, take, drop, get_or, Option, Ok, refl, ap, sym, ◌∙◌, subst, arith, length-drop, get_or-drop, ◌⊎◌, inl, inr}
+use Rattle.std.proofs.Common.{◌≡◌, ◌≢◌, ℕ, suc, min, max, ◌+◌, ◌-◌, ◌<◌, ◌≤◌, Bool, true, false, List, [], ◌∷◌, ◌++◌, length, take, drop, get_or, Option, Ok, refl, ap, sym, ◌∙◌, subst, arith, length-drop, get_or-drop, ◌⊎◌, inl, inr}
 use Rattle.std.specs.Prelude.{if◌then◌else◌, nat_lt}
-use Rattle.std.specs.List.{sum_by}
-use Rattle.std.proofs.lemmas.List.Sums.{sum-map, sum_by-append, sum_by-cons}
 use Rattle.std.proofs.lemmas.Bool.Decides.{nat_tests}
 use Rattle.ion_model.specs.declared.value.Field.{Field}
 use Rattle.ion_model.specs.declared.value.Value.{Value}
 use Rattle.ion_model.specs.declared.value.Payload.TheVariants as payloads
-use Rattle.ion_model.specs.declared.value.Payload.TheViews as views
-use Rattle.ion_model.specs.Kinds.{kind_of, layer_kind}
-use Rattle.ion_model.specs.Measures.{depth, nodes, bare, annotated, field_of}
-use Rattle.ion_model.specs.laws.Measures.{deepest-more, nodes-more, nodes-bare}
+use Rattle.ion_model.specs.Measures.{depth, bare, annotated, field_of}
+use Rattle.ion_model.specs.laws.Measures.{deepest-more}
 use Rattle.ion_symtab.specs.declared.limits.Limits.{Limits}
 use Rattle.ion_symtab.specs.declared.catalog.Catalog.{Catalog}
 use Rattle.ion_symtab.specs.Slots.{Slot}
@@ -44,7 +40,7 @@ use Rattle.ion_text.specs.machine.Pieces.{Quiet}
 use Rattle.ion_text.specs.machine.Nested.{bracket_in, open_mark, close_mark, OpensAt, closes, close_octet}
 use Rattle.ion_text.specs.machine.Views.{IsCalm}
 use Rattle.ion_text.specs.machine.AtOnce.{Passes, IsStill}
-use Rattle.ion_text.specs.machine.Walked.{behind_key, most, Contents, holding, has_commas, now_within, place_within, OnlyRests, WalkedBetween, FoundScalar, FoundName, rested, Leads, LeadsBehind, Noted, Walked, WalkedItem, WalkedContainer, WalkedInside, WalkedName, kind_in}
+use Rattle.ion_text.specs.machine.Walked.{behind_key, Contents, holding, has_commas, now_within, place_within, OnlyRests, WalkedBetween, FoundScalar, FoundName, rested, Leads, LeadsBehind, Walked, WalkedItem, WalkedContainer, WalkedInside, WalkedName}
 use Rattle.ion_text.specs.laws.reading.Brackets.{open_turns}
 use Rattle.ion_text.proofs.Arms.{StaysIn, ready_turns, ended_stays, left_passes, given_passes, mark_says, at_drop, blank_used}
 use Rattle.ion_text.proofs.Nested.{is_open_left, open_found, opened_stays, close_found, closing}
@@ -118,12 +114,11 @@ module _ (p : Place) (level : ℕ) (rest : Rest) (octets : List ℕ) (s : Scalar
   -- with what is noted
   pub walked_scalar : (before after : Tally) (m : ℕ) → before.level ≤ level → before.rest ≡ rest → count + m ≤ length octets
       → LeadsBehind p level rest octets (count + m) (past_blank (past_token p rest s.token.kind count) m) f.payload
-      → after ≡ record { kind = s.kind; level = before.level; nodes = min (before.nodes + 1) most; rest = past_blank (past_token p rest s.token.kind count) m }
+      → after ≡ record { level = before.level; rest = past_blank (past_token p rest s.token.kind count) m }
       → (w : Walked p level octets (count + m) before after) × (w.payload ≡ f.payload)
   walked_scalar before after m low same within leads e =
       let flat = f.flat in
       let deep = flat.deep in
-      let one = flat.counted in
       let total : (past_blank (past_token p rest s.token.kind count) m).used ≡ rest.used + count + m = blank_used (past_token p rest s.token.kind count) m in
       let begun : before.rest.used ≡ rest.used = ap (λ (r : Rest). r.used) same in
       rw e (
@@ -133,7 +128,7 @@ module _ (p : Place) (level : ℕ) (rest : Rest) (octets : List ℕ) (s : Scalar
           within = within;
           used = omega arith;
           deep = omega arith;
-          noted = record { kind = sym flat.sort; left = omega arith; counted = omega arith };
+          left = omega arith;
         },
         refl,
       )
@@ -173,7 +168,7 @@ module _ (rest : Rest) (octets : List ℕ) (token : FoundToken) (f : FoundName r
 
   -- with a blank behind it, and what is noted
   pub walked_name : (before mid after : Tally) (n : ℕ) (behind : List ℕ) → before.rest ≡ rest → behind ≡ drop (token.count + m + 1) octets
-      → mid ≡ record { kind = before.kind; level = before.level; nodes = min (before.nodes + 1) most; rest = (behind_key rest token m) }
+      → mid ≡ record { level = before.level; rest = (behind_key rest token m) }
       → RestsBehind behind n mid.rest after.rest → OnlyRests mid after
       → (w : WalkedName octets (token.count + m + 1 + n) before after) × (w.name ≡ f.name)
   walked_name before mid after n behind same is em blank ea =
@@ -183,9 +178,7 @@ module _ (rest : Rest) (octets : List ℕ) (token : FoundToken) (f : FoundName r
       let few = blank.within in
       let ends = blank.used in
       let begins : mid.rest ≡ behind_key rest token m = ap (λ (t : Tally). t.rest) em in
-      let used : mid.rest.used ≡ (behind_key rest token m).used = ap (λ (r : Rest). r.used) begins in
-      let nodes_mid : mid.nodes ≡ min (before.nodes + 1) most = ap (λ (t : Tally). t.nodes) em in
-      let nodes_after : after.nodes ≡ mid.nodes = ap (λ (t : Tally). t.nodes) ea in (
+      let used : mid.rest.used ≡ (behind_key rest token m).used = ap (λ (r : Rest). r.used) begins in (
         record {
           name = f.name;
           leads = λ level ms.
@@ -201,7 +194,6 @@ module _ (rest : Rest) (octets : List ℕ) (token : FoundToken) (f : FoundName r
           within = omega arith;
           used = omega arith;
           left = ap (λ (t : Tally). t.level) ea ∙ ap (λ (t : Tally). t.level) em;
-          counted = omega arith;
         },
         refl,
       )
@@ -234,9 +226,7 @@ comma_leads brackets.Fields h level r octets ms some first = λ g l start c ss f
 -- a comma between items is gone over
 pub comma_between : (bracket : Bracket) (octets : List ℕ) (before after : Tally) → has_commas bracket ≡ true → 0 < length octets → get_or octets 0 0 ≡ 44
     → after ≡ record {
-      kind = before.kind;
       level = before.level;
-      nodes = before.nodes;
       rest = past_token (place_within bracket) before.rest (kinds.Mark marks.Comma) 1;
     } → WalkedBetween bracket true false octets 1 before after
 comma_between bracket octets before after commas some first e = rw e (
@@ -280,7 +270,7 @@ between_on bracket a b d octets rest m n before mid after is x y =
     }
   where
     noted_at : Tally → Rest → Tally
-    noted_at t r = record { kind = t.kind; level = t.level; nodes = t.nodes; rest = r }
+    noted_at t r = record { level = t.level; rest = r }
 
 -- values in containers
 
@@ -293,8 +283,7 @@ item_bare p level octets n before after w = record {
   within = w.within;
   used = w.used;
   deep = w.deep;
-  left = w.noted.left;
-  counted = w.noted.counted;
+  left = w.left;
 }
 
 module _ (level : ℕ) (octets : List ℕ) (count : ℕ) (before after : Tally) where
@@ -395,20 +384,17 @@ module _ (p : Place) (bracket : Bracket) (level : ℕ) (octets : List ℕ) (coun
       (rested (past_token (place k) w.last.rest (kinds.Mark close) 1) start c those [] n) (drop 1 octets) w.behind 1
       (up_to_close g l start c ss fs deep room) last)))
 
-  -- what is noted of it
-  pub container_noted : before.level ≤ level → Noted level w.inside.payload before after
-  container_noted low =
+  -- how many levels it left
+  pub container_left : before.level ≤ level → after.level ≡ min before.level (level - depth (bare w.inside.payload))
+  container_left low =
       let x = w.inside in
       let some = w.some in
       let deepest = x.deep in
       let least = x.some in
       let left = x.left in
-      let many = x.counted in
       let first_level : w.first.level ≡ min before.level (level - 1) = ap (λ (t : Tally). t.level) w.opens in
-      let first_nodes : w.first.nodes ≡ before.nodes = ap (λ (t : Tally). t.nodes) w.opens in
       let last_level : after.level ≡ w.last.level = ap (λ (t : Tally). t.level) w.shuts in
-      let last_nodes : after.nodes ≡ min (w.last.nodes + 1) most = ap (λ (t : Tally). t.nodes) w.shuts in
-      record { kind = ap (λ (t : Tally). t.kind) w.shuts ∙ sym x.kind; left = omega arith; counted = omega arith }
+      omega arith
 
   unfoldable pub walked_container : is_name p ≡ false → before.level ≤ level → Walked p level octets count before after
   walked_container value low =
@@ -427,49 +413,46 @@ module _ (p : Place) (bracket : Bracket) (level : ℕ) (octets : List ℕ) (coun
         within = omega arith;
         used = omega arith;
         deep = omega arith;
-        noted = container_noted low;
+        left = container_left low;
       }
 
--- So many octets behind the open of a container were gone over: it stands so now, and what is in it is so deep and of so many nodes.
+-- So many octets behind the open of a container were gone over: it stands so now, and what is in it is so deep.
 pub record Gone (bracket : Bracket) (level : ℕ) (octets : List ℕ) (at : ℕ) (before now : Tally) (h : Symbols → Frame) (n : Now)
-    (deepest many : ℕ) : Type 0 where
+    (deepest : ℕ) : Type 0 where
   pub leads : Leads level before.rest octets at now.rest (opened bracket) (first_now bracket) h n
   pub within : at ≤ length octets
   pub used : now.rest.used ≡ before.rest.used + at
   pub few : deepest ≤ level
   pub left : now.level ≡ min before.level (level - deepest)
-  pub counted : min now.nodes most ≡ min (before.nodes + many) most
 
 -- directly behind an open no octets of the container are gone over
 pub gone_none : (bracket : Bracket) (level : ℕ) (octets : List ℕ) (before : Tally) → before.level ≤ level
-    → Gone bracket level octets 0 before before (opened bracket) (first_now bracket) 0 0
+    → Gone bracket level octets 0 before before (opened bracket) (first_now bracket) 0
 gone_none bracket level octets before low = record {
   leads = λ g l start c ss fs deep room. passes_none g l (rested before.rest start c (opened bracket ss ∷ fs) [] (first_now bracket)) octets;
   within = omega arith;
   used = omega arith;
   few = omega arith;
   left = omega arith;
-  counted = omega arith;
 }
 
-module _ (bracket : Bracket) (level : ℕ) (octets rest : List ℕ) (at : ℕ) (before now : Tally) (h : Symbols → Frame) (n : Now) (deepest many : ℕ)
-    (x : Gone bracket level octets at before now h n deepest many) (is : rest ≡ drop at octets) where
+module _ (bracket : Bracket) (level : ℕ) (octets rest : List ℕ) (at : ℕ) (before now : Tally) (h : Symbols → Frame) (n : Now) (deepest : ℕ)
+    (x : Gone bracket level octets at before now h n deepest) (is : rest ≡ drop at octets) where
   pub gone_length : length rest ≡ length octets - at
   gone_length = ap (λ (w : List ℕ). length w) is ∙ length-drop at octets
 
   pub gone_low : now.level ≤ level
   gone_low = let left = x.left in omega arith
 
-  pub gone_on : (next : Tally) (k : Symbols → Frame) (o : Now) (j deeper more d e : ℕ) → Leads level now.rest rest j next.rest h n k o → j ≤ length rest
+  pub gone_on : (next : Tally) (k : Symbols → Frame) (o : Now) (j deeper d : ℕ) → Leads level now.rest rest j next.rest h n k o → j ≤ length rest
       → next.rest.used ≡ now.rest.used + j → deeper ≤ level → next.level ≡ min now.level (level - deeper)
-      → min next.nodes most ≡ min (now.nodes + more) most → d ≡ max deepest deeper → e ≡ many + more → Gone bracket level octets (at + j) before next k o d e
-  gone_on next k o j deeper more d e leads within used few left counted ed ee =
+      → d ≡ max deepest deeper → Gone bracket level octets (at + j) before next k o d
+  gone_on next k o j deeper d leads within used few left ed =
       let size = gone_length in
       let a = x.within in
       let b = x.used in
       let c = x.few in
       let f = x.left in
-      let y = x.counted in
       record {
         leads =
             leads_on level before.rest now.rest next.rest octets at j (opened bracket) h k (first_now bracket) n o a b x.leads
@@ -478,7 +461,6 @@ module _ (bracket : Bracket) (level : ℕ) (octets rest : List ℕ) (at : ℕ) (
         used = omega arith;
         few = omega arith;
         left = omega arith;
-        counted = omega arith;
       }
 
 -- Elements of a list, and fields of a struct.
@@ -495,13 +477,8 @@ pub field_closes : (b : Bool) (ss : Symbols) (ms : List Field) (fs : List Frame)
 field_closes true ss ms fs = refl
 field_closes false ss ms fs = refl
 
--- how many nodes a field has: one more than its value
-abbrev pub field_nodes : Field → ℕ
-field_nodes m = suc (nodes m.value)
-
 abbrev pub ItemsGone : Listing → ℕ → List ℕ → ℕ → Tally → Tally → List Value → Now → Type 0
 ItemsGone listing level octets at before now vs n = Gone (bracket_in listing) level octets at before now (λ ss. frames.Items listing ss vs) n (depths vs)
-    (sum (map nodes vs))
 
 -- so many octets behind the open of a list were gone over, and these are its elements so far
 abbrev pub ListGone : ℕ → List ℕ → ℕ → Tally → Tally → List Value → Bool → Type 0
@@ -513,17 +490,8 @@ SexpGone level octets at before now vs = ItemsGone listings.Sexp level octets at
 
 -- so many octets behind the open of a struct were gone over, and these are its fields so far
 abbrev pub FieldsGone : ℕ → List ℕ → ℕ → Tally → Tally → List Field → Bool → Type 0
-FieldsGone level octets at before now ms b = Gone brackets.Fields level octets at before now (λ ss. frames.Fields ss ms) (now_within brackets.Fields b) (field_depths ms)
-    (sum (map field_nodes ms))
-
-fields-more : (ms : List Field) (m : Field) → sum (map field_nodes (ms ++ m ∷ [])) ≡ sum (map field_nodes ms) + field_nodes m
-fields-more ms m =
-    let all = sum-map field_nodes (ms ++ m ∷ []) in
-    let front = sum-map field_nodes ms in
-    let cut = sum_by-append field_nodes ms (m ∷ []) in
-    let one = sum_by-cons field_nodes m [] in
-    let none : sum_by field_nodes [] ≡ 0 = refl in
-    omega arith
+FieldsGone level octets at before now ms b = Gone brackets.Fields level octets at before now (λ ss. frames.Fields ss ms) (now_within brackets.Fields b)
+    (field_depths ms)
 
 module _ (level : ℕ) (octets rest : List ℕ) (at : ℕ) (before now next : Tally) (is : rest ≡ drop at octets) where
   -- behind one more value the list or s-expression has that value, too
@@ -531,46 +499,41 @@ module _ (level : ℕ) (octets rest : List ℕ) (at : ℕ) (before now next : Ta
       (w : WalkedItem (item_place listing) level rest j now next)
       → ItemsGone listing level octets (at + j) before next (vs ++ w.value ∷ []) (behind_item listing)
   item_value_on listing vs x j w =
-      gone_on (bracket_in listing) level octets rest at before now (λ ss. frames.Items listing ss vs) nows.Ready (depths vs) (sum (map nodes vs)) x is next
-      (λ ss. frames.Items listing ss (vs ++ w.value ∷ [])) (behind_item listing) j (depth w.value) (nodes w.value) _ _
-      (item_value level rest j now next listing w vs) w.within w.used w.deep w.left w.counted (deepest-more vs w.value)
-      (nodes-more vs w.value)
+      gone_on (bracket_in listing) level octets rest at before now (λ ss. frames.Items listing ss vs) nows.Ready (depths vs) x is next
+      (λ ss. frames.Items listing ss (vs ++ w.value ∷ [])) (behind_item listing) j (depth w.value) _
+      (item_value level rest j now next listing w vs) w.within w.used w.deep w.left (deepest-more vs w.value)
 
   -- what stands before the next item, or before the close
-  pub between_gone : (bracket : Bracket) (c : Contents bracket) (behind last : Bool) (deepest many : ℕ)
-      (x : Gone bracket level octets at before now (λ ss. holding bracket c ss) (now_within bracket behind) deepest many) (j : ℕ)
+  pub between_gone : (bracket : Bracket) (c : Contents bracket) (behind last : Bool) (deepest : ℕ)
+      (x : Gone bracket level octets at before now (λ ss. holding bracket c ss) (now_within bracket behind) deepest) (j : ℕ)
       → WalkedBetween bracket behind last rest j now next
-      → Gone bracket level octets (at + j) before next (λ ss. holding bracket c ss) (now_within bracket last) deepest many
-  between_gone bracket c behind last deepest many x j w =
-      let low = gone_low bracket level octets rest at before now (λ ss. holding bracket c ss) (now_within bracket behind) deepest many x is in
+      → Gone bracket level octets (at + j) before next (λ ss. holding bracket c ss) (now_within bracket last) deepest
+  between_gone bracket c behind last deepest x j w =
+      let low = gone_low bracket level octets rest at before now (λ ss. holding bracket c ss) (now_within bracket behind) deepest x is in
       let same : next.level ≡ now.level = ap (λ (t : Tally). t.level) w.noted in
-      let nodes_same : next.nodes ≡ now.nodes = ap (λ (t : Tally). t.nodes) w.noted in
-      gone_on bracket level octets rest at before now (λ ss. holding bracket c ss) (now_within bracket behind) deepest many x is next
-      (λ ss. holding bracket c ss) (now_within bracket last) j 0 0 deepest many (w.leads level c) w.within w.used (omega arith) (omega arith) (omega arith)
-      (omega arith) (omega arith)
+      gone_on bracket level octets rest at before now (λ ss. holding bracket c ss) (now_within bracket behind) deepest x is next
+      (λ ss. holding bracket c ss) (now_within bracket last) j 0 deepest (w.leads level c) w.within w.used (omega arith) (omega arith) (omega arith)
 
   -- a field's name
   pub name_on : (ms : List Field) (x : FieldsGone level octets at before now ms false) (j : ℕ) (w : WalkedName rest j now next)
-      → Gone brackets.Fields level octets (at + j) before next (λ ss. frames.Named ss ms w.name) nows.Ready (field_depths ms) (sum (map field_nodes ms) + 1)
+      → Gone brackets.Fields level octets (at + j) before next (λ ss. frames.Named ss ms w.name) nows.Ready (field_depths ms)
   name_on ms x j w =
-      let low = gone_low brackets.Fields level octets rest at before now (λ ss. frames.Fields ss ms) nows.Name (field_depths ms) (sum (map field_nodes ms)) x
+      let low = gone_low brackets.Fields level octets rest at before now (λ ss. frames.Fields ss ms) nows.Name (field_depths ms) x
       is in
       let left = w.left in
-      gone_on brackets.Fields level octets rest at before now (λ ss. frames.Fields ss ms) nows.Name (field_depths ms) (sum (map field_nodes ms)) x is next
-      (λ ss. frames.Named ss ms w.name) nows.Ready j 0 1 (field_depths ms) (sum (map field_nodes ms) + 1)
-      (w.leads level ms) w.within w.used (omega arith) (omega arith) w.counted (omega arith) refl
+      gone_on brackets.Fields level octets rest at before now (λ ss. frames.Fields ss ms) nows.Name (field_depths ms) x is next
+      (λ ss. frames.Named ss ms w.name) nows.Ready j 0 (field_depths ms)
+      (w.leads level ms) w.within w.used (omega arith) (omega arith) (omega arith)
 
   -- and its value
   pub field_value_on : (ms : List Field) (name : Option (List ℕ))
-      (x : Gone brackets.Fields level octets at before now (λ ss. frames.Named ss ms name) nows.Ready (field_depths ms) (sum (map field_nodes ms) + 1)) (j : ℕ)
+      (x : Gone brackets.Fields level octets at before now (λ ss. frames.Named ss ms name) nows.Ready (field_depths ms)) (j : ℕ)
       (w : WalkedItem places.FieldValue level rest j now next)
       → FieldsGone level octets (at + j) before next (ms ++ field_of name w.value ∷ []) true
   field_value_on ms name x j w =
-      let more = fields-more ms (field_of name w.value) in
-      gone_on brackets.Fields level octets rest at before now (λ ss. frames.Named ss ms name) nows.Ready (field_depths ms) (sum (map field_nodes ms) + 1) x is
-      next (λ ss. frames.Fields ss (ms ++ field_of name w.value ∷ [])) nows.After j (depth w.value) (nodes w.value) _ _
-      (field_value level rest j now next w ms name) w.within w.used w.deep w.left w.counted (field_deepest-more ms (field_of name w.value))
-      (omega arith)
+      gone_on brackets.Fields level octets rest at before now (λ ss. frames.Named ss ms name) nows.Ready (field_depths ms) x is
+      next (λ ss. frames.Fields ss (ms ++ field_of name w.value ∷ [])) nows.After j (depth w.value) _
+      (field_value level rest j now next w ms name) w.within w.used w.deep w.left (field_deepest-more ms (field_of name w.value))
 
 -- an octet behind so many
 pub octet_behind : (octets rest : List ℕ) (at j o : ℕ) → rest ≡ drop at octets → (j < length rest) × (get_or rest j 0 ≡ o)
@@ -583,16 +546,15 @@ octet_behind octets rest at j o is x =
 -- up to the close
 module _ (level : ℕ) (octets : List ℕ) (at : ℕ) (before now : Tally) (inside : at < length octets) where
   -- what has come of a container is this value with its close
-  unfoldable pub inside_by : (bracket : Bracket) (payload : Payload) (whole : Symbols → Frame) (n : Now) (deepest many : ℕ)
-      → Gone bracket level octets at before now whole n deepest many → depth (bare payload) ≡ suc deepest → nodes (bare payload) ≡ suc many
-      → kind_of (bare payload) ≡ kind_in bracket → ((ss : Symbols) (fs : List Frame) → closes bracket (whole ss ∷ fs) n ≡ true)
+  unfoldable pub inside_by : (bracket : Bracket) (payload : Payload) (whole : Symbols → Frame) (n : Now) (deepest : ℕ)
+      → Gone bracket level octets at before now whole n deepest → depth (bare payload) ≡ suc deepest
+      → ((ss : Symbols) (fs : List Frame) → closes bracket (whole ss ∷ fs) n ≡ true)
       → ((setting : Setting) (spot : Spot) (ss : Symbols) (fs : List Frame)
       → closed bracket setting spot (whole ss ∷ fs) ≡ ended setting spot fs (annotated ss payload)) → get_or octets at 0 ≡ close_octet bracket
       → WalkedInside bracket level octets at before now
-  inside_by bracket payload whole n deepest many x deep nodes_are kind may ends e =
+  inside_by bracket payload whole n deepest x deep may ends e =
       let few = x.few in
       let left = x.left in
-      let counted = x.counted in
       record {
         payload = payload;
         whole = whole;
@@ -605,31 +567,26 @@ module _ (level : ℕ) (octets : List ℕ) (at : ℕ) (before now : Tally) (insi
         used = x.used;
         some = omega arith;
         deep = omega arith;
-        kind = kind;
         left = omega arith;
-        counted = omega arith;
       }
 
   unfoldable pub list_inside : (vs : List Value) (b : Bool) → ListGone level octets at before now vs b → get_or octets at 0 ≡ 93
       → WalkedInside brackets.List level octets at before now
   list_inside vs b x e =
       let deep = depth-list [] vs in
-      let many = nodes-bare (payloads.List vs) _ (views.outs-List vs) in
-      inside_by brackets.List (payloads.List vs) (λ ss. frames.Items listings.List ss vs) (now_within brackets.List b) (depths vs) (sum (map nodes vs)) x (omega arith)
-      (omega arith) (ap layer_kind (views.outs-List vs)) (λ ss fs. element_closes b ss vs fs) (λ setting spot ss fs. refl) e
+      inside_by brackets.List (payloads.List vs) (λ ss. frames.Items listings.List ss vs) (now_within brackets.List b) (depths vs) x (omega arith)
+      (λ ss fs. element_closes b ss vs fs) (λ setting spot ss fs. refl) e
 
   unfoldable pub sexp_inside : (vs : List Value) → SexpGone level octets at before now vs → get_or octets at 0 ≡ 41
       → WalkedInside brackets.Sexp level octets at before now
   sexp_inside vs x e =
       let deep = depth-sexp [] vs in
-      let many = nodes-bare (payloads.Sexp vs) _ (views.outs-Sexp vs) in
-      inside_by brackets.Sexp (payloads.Sexp vs) (λ ss. frames.Items listings.Sexp ss vs) nows.Ready (depths vs) (sum (map nodes vs)) x (omega arith)
-      (omega arith) (ap layer_kind (views.outs-Sexp vs)) (λ ss fs. refl) (λ setting spot ss fs. refl) e
+      inside_by brackets.Sexp (payloads.Sexp vs) (λ ss. frames.Items listings.Sexp ss vs) nows.Ready (depths vs) x (omega arith)
+      (λ ss fs. refl) (λ setting spot ss fs. refl) e
 
   unfoldable pub fields_inside : (ms : List Field) (b : Bool) → FieldsGone level octets at before now ms b → get_or octets at 0 ≡ 125
       → WalkedInside brackets.Fields level octets at before now
   fields_inside ms b x e =
       let deep = depth-struct [] ms in
-      let many = nodes-bare (payloads.Fields ms) _ (views.outs-Fields ms) in
-      inside_by brackets.Fields (payloads.Fields ms) (λ ss. frames.Fields ss ms) (now_within brackets.Fields b) (field_depths ms) (sum (map field_nodes ms)) x (omega arith)
-      (omega arith) (ap layer_kind (views.outs-Fields ms)) (λ ss fs. field_closes b ss ms fs) (λ setting spot ss fs. refl) e
+      inside_by brackets.Fields (payloads.Fields ms) (λ ss. frames.Fields ss ms) (now_within brackets.Fields b) (field_depths ms) x (omega arith)
+      (λ ss fs. field_closes b ss ms fs) (λ setting spot ss fs. refl) e

@@ -4,3 +4,4 @@ pub mod Walks
 pub mod Transcribing
 pub mod TextOut
 pub mod Building
+pub mod Telling

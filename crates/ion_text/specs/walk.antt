@@ -6,3 +6,4 @@ pub mod Ends
 pub mod Fronts
 pub mod Advances
 pub mod Rare
+pub mod Runs

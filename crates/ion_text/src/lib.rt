@@ -22,4 +22,5 @@ pub use reader::TextReader;
 pub use scalar::symbol_text;
 pub use spelled::text_of;
 pub use text_out::TextOut;
+pub use walk::TextWalk;
 pub use writer::TextWriter;

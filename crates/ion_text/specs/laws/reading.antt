@@ -8,4 +8,5 @@ pub mod Promises
 pub mod Stops
 pub mod Reasons
 pub mod Stands
+pub mod Tells
 pub mod Rows

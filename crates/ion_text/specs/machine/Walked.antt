@@ -1,7 +1,6 @@
 -- What a walk over octets in memory finds of a value that it doesn't build.
 use Rattle.std.specs.Prelude.{◌≡◌, ◌+◌, ◌-◌, ◌^◌, ◌≤◌, ◌<◌, ℕ, suc, min, Bool, true, false, List, [], ◌∷◌, ◌++◌, length, take, drop, get_or, Option, Ok}
 use Rattle.ion_atoms.specs.declared.kind.Kind.{Kind}
-use Rattle.ion_atoms.specs.declared.kind.Kind.TheVariants as kinds
 use Rattle.ion_model.specs.declared.value.Field.{Field}
 use Rattle.ion_model.specs.declared.value.Payload.{Payload}
 use Rattle.ion_model.specs.declared.value.Payload.TheVariants as payloads
@@ -47,10 +46,6 @@ pub record IsFresh (r : TextReader) (rest : Rest) : Type 0 where
   pub bare : r.notes ≡ []
   pub ready : r.stage ≡ nows.Ready
 
--- the most nodes that are counted
-abbrev pub most : ℕ
-most = 2 ^ 64 - 1
-
 -- a value of this kind without others in it
 pub record IsFlat (payload : Payload) (kind : Kind) : Type 0 where
   pub sort : kind_of (bare payload) ≡ kind
@@ -89,12 +84,6 @@ LeadsBehind p level before octets count after payload = (g : Catalog) (l : Limit
     → before.used + length octets ≤ l.item + start → Puts fs (annotated ss payload) (Ok n) those
     → Passes g l (rested before start c fs ss nows.Ready) octets count (rested after start c those [] n)
 
--- what is noted of a value, where there may be so many levels
-pub record Noted (level : ℕ) (payload : Payload) (before after : Tally) : Type 0 where
-  pub kind : after.kind ≡ kind_of (bare payload)
-  pub left : after.level ≡ min before.level (level - depth (bare payload))
-  pub counted : min after.nodes most ≡ min (before.nodes + nodes (bare payload)) most
-
 -- octets begin with a value of at most so many levels
 pub record Walked (p : Place) (level : ℕ) (octets : List ℕ) (count : ℕ) (before after : Tally) : Type 0 where
   pub payload : Payload
@@ -102,13 +91,7 @@ pub record Walked (p : Place) (level : ℕ) (octets : List ℕ) (count : ℕ) (b
   pub within : count ≤ length octets
   pub used : after.rest.used ≡ before.rest.used + count
   pub deep : depth (bare payload) ≤ level
-  pub noted : Noted level payload before after
-
--- the kind of a container
-abbrev pub kind_in : Bracket → Kind
-kind_in brackets.List = kinds.List
-kind_in brackets.Sexp = kinds.Sexp
-kind_in brackets.Fields = kinds.Fields
+  pub left : after.level ≡ min before.level (level - depth (bare payload))
 
 -- behind the open of a container octets lead up to its close, where it is this value of at most so many levels more
 pub record WalkedInside (bracket : Bracket) (level : ℕ) (octets : List ℕ) (count : ℕ) (before after : Tally) : Type 0 where
@@ -124,25 +107,19 @@ pub record WalkedInside (bracket : Bracket) (level : ℕ) (octets : List ℕ) (c
   pub used : after.rest.used ≡ before.rest.used + count
   pub some : 0 < depth (bare payload)
   pub deep : depth (bare payload) ≤ suc level
-  pub kind : kind_of (bare payload) ≡ kind_in bracket
   pub left : after.level ≡ min before.level (suc level - depth (bare payload))
-  pub counted : min (after.nodes + 1) most ≡ min (before.nodes + nodes (bare payload)) most
 
 -- behind the open of a container, and behind its close
 abbrev pub behind_open : Place → Bracket → ℕ → Tally → Tally
 behind_open p bracket level t = record {
-  kind = t.kind;
   level = min t.level (level - 1);
-  nodes = t.nodes;
   rest = past_token p t.rest (tokens.Mark (open_mark bracket)) 1;
 }
 
 -- what is noted behind the close of a container
 abbrev pub behind_close : Place → Bracket → Tally → Tally
 behind_close p bracket t = record {
-  kind = kind_in bracket;
   level = t.level;
-  nodes = min (t.nodes + 1) most;
   rest = past_token p t.rest (tokens.Mark (close_mark bracket)) 1;
 }
 
@@ -180,7 +157,7 @@ place_within brackets.Fields = places.FieldValue
 
 -- what is noted is the same, wherever it rests
 abbrev pub OnlyRests : Tally → Tally → Type 0
-OnlyRests before after = after ≡ record { kind = before.kind; level = before.level; nodes = before.nodes; rest = after.rest }
+OnlyRests before after = after ≡ record { level = before.level; rest = after.rest }
 
 -- Between the items of a container, directly behind one or not, octets lead to where its next item may come, or only the close or a comma.
 pub record WalkedBetween (bracket : Bracket) (behind last : Bool) (octets : List ℕ) (count : ℕ) (before after : Tally) : Type 0 where
@@ -214,7 +191,6 @@ pub record WalkedName (octets : List ℕ) (count : ℕ) (before after : Tally) :
   pub within : count ≤ length octets
   pub used : after.rest.used ≡ before.rest.used + count
   pub left : after.level ≡ before.level
-  pub counted : min after.nodes most ≡ min (before.nodes + 1) most
 
 -- the token at the front of octets is an annotation if `::` follows, and names no local symbol tables
 pub record FoundNote (octets : List ℕ) (token : FoundToken) : Type 0 where
@@ -238,7 +214,6 @@ pub record WalkedNote (p : Place) (octets : List ℕ) (count : ℕ) (before afte
   pub used : after.rest.used ≡ before.rest.used + count
   pub free : names_table name ≡ false
   pub left : after.level ≡ before.level
-  pub counted : min after.nodes most ≡ min (before.nodes + 1) most
 
 -- Octets where a value may come in such a place begin with all annotations of it, the first of which names no local symbol tables.
 pub record WalkedNotes (p : Place) (octets : List ℕ) (count : ℕ) (before after : Tally) : Type 0 where
@@ -251,7 +226,6 @@ pub record WalkedNotes (p : Place) (octets : List ℕ) (count : ℕ) (before aft
   pub used : after.rest.used ≡ before.rest.used + count
   pub free : (k : Kind) → is_table_of notes k ≡ false
   pub left : after.level ≡ before.level
-  pub counted : min after.nodes most ≡ min (before.nodes + length notes) most
 
 -- Where a value may come in such a place, and so many levels are left, so many octets lead behind this value with its annotations.
 abbrev pub LeadsPast : Place → ℕ → Rest → List ℕ → ℕ → Rest → Value → Type 0
@@ -267,7 +241,6 @@ pub record WalkedItem (p : Place) (level : ℕ) (octets : List ℕ) (count : ℕ
   pub used : after.rest.used ≡ before.rest.used + count
   pub deep : depth value ≤ level
   pub left : after.level ≡ min before.level (level - depth value)
-  pub counted : min after.nodes most ≡ min (before.nodes + nodes value) most
 
 -- A run over so many octets gives this value with their last.
 abbrev pub GivesTop : Catalog → Limits → Rest → ℕ → List Slot → Symbols → List ℕ → ℕ → Rest → Value → Type 0
@@ -305,8 +278,7 @@ pub record WalkedBare (level : ℕ) (octets : List ℕ) (count : ℕ) (before af
   pub within : count ≤ length octets
   pub used : after.rest.used ≡ before.rest.used + count
   pub deep : depth (bare payload) ≤ level
-  pub few : after.nodes ≤ most
-  pub noted : Noted level payload before after
+  pub left : after.level ≡ min before.level (level - depth (bare payload))
 
 -- Octets at the top level begin with an item, which ends with the last of so many: a value with its annotations.
 pub record WalkedTop (level : ℕ) (octets : List ℕ) (count : ℕ) (before after : Tally) : Type 0 where
@@ -317,8 +289,5 @@ pub record WalkedTop (level : ℕ) (octets : List ℕ) (count : ℕ) (before aft
   pub some : 0 < count
   pub within : count ≤ length octets
   pub used : after.rest.used ≡ before.rest.used + count
-  pub kind : after.kind ≡ kind_of value
   pub deep : depth value ≤ level
   pub left : after.level ≡ min before.level (level - depth value)
-  pub few : after.nodes ≤ most
-  pub counted : after.nodes ≡ min (before.nodes + nodes value) most

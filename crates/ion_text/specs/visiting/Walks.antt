@@ -57,7 +57,6 @@ pub record ItemAhead (r : TextReader) (piece : List ℕ) (blank : ℕ) (item : L
   pub few : length item ≤ r.limits.item
   pub rests : RestsBehind piece blank rest begun.rest
   pub level : begun.level ≡ r.limits.depth
-  pub none : begun.nodes ≡ 0
 
 module _ {S M : Type 0} (h : Visits S M) where
   -- in this place octets begin with a value of which the visitor took the parts

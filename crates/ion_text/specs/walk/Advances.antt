@@ -5,10 +5,10 @@ use Rattle.ion_atoms.specs.declared.refusal.Reason.TheVariants.{Memory}
 use Rattle.ion_atoms.specs.declared.refusal.Refusal.{Refusal}
 use Rattle.ion_symtab.specs.declared.limits.Limits.{Limits}
 use Rattle.ion_symtab.specs.declared.catalog.Catalog.{Catalog}
+use Rattle.ion_symtab.specs.declared.items.Walked.{Walked}
 use Rattle.ion_visiting.specs.Events.{Event}
 use Rattle.ion_text.specs.declared.state.Frame.{Frame}
 use Rattle.ion_text.specs.declared.walk.TextWalk.{TextWalk}
-use Rattle.ion_text.specs.declared.walk.advance.Walked.{Walked}
 use Rattle.ion_text.specs.machine.EachToken.{Symbols}
 use Rattle.ion_text.specs.machine.Progress.{Advances, resumed}
 use Rattle.ion_text.specs.machine.Run.{State}

@@ -1,19 +1,14 @@
 -- What the end of the octets says to a reader that holds no values, and what a visitor hears there.
-use Rattle.std.specs.Prelude.{◌≡◌, ◌≢◌, ℕ, List, [], Bool, true, false, Option, Some, None, Result, Ok, Err, IsNone}
+use Rattle.std.specs.Prelude.{◌≡◌, ◌≢◌, ℕ, List, [], Bool, true, false, Option, Some, None, Result, Ok, Err}
 use Rattle.ion_model.specs.declared.value.Value.{Value}
 use Rattle.ion_atoms.specs.declared.refusal.Reason.{Reason}
 use Rattle.ion_atoms.specs.declared.refusal.Reason.TheVariants.{Memory}
 use Rattle.ion_atoms.specs.declared.refusal.Refusal.{Refusal}
-use Rattle.ion_symtab.specs.declared.limits.Limits.{Limits}
-use Rattle.ion_symtab.specs.declared.catalog.Catalog.{Catalog}
-use Rattle.ion_tokens.specs.machine.Bounds.{IsSteady}
-use Rattle.ion_tokens.specs.machine.Views.{scanned, looks, failure}
+use Rattle.ion_tokens.specs.machine.Views.{scanned, failure}
 use Rattle.ion_visiting.specs.Events.{Event, events_of}
 use Rattle.ion_visiting.specs.Tables.{Hears, heard}
 use Rattle.ion_text.specs.declared.walk.TextWalk.{TextWalk}
 use Rattle.ion_text.specs.machine.Progress.{or_first}
-use Rattle.ion_text.specs.machine.Run.{begun}
-use Rattle.ion_text.specs.walk.Holds.{Holds, state_of}
 
 -- the refusal that each call answers, if one came: by the reader or by its scanner
 abbrev pub failed : TextWalk → Option Refusal
@@ -22,16 +17,6 @@ failed r = or_first r.failed (failure r.scanner)
 -- how many octets were used
 abbrev pub octets_used : TextWalk → ℕ
 octets_used r = (scanned r.scanner).used
-
--- a reader of no octets yet, under this catalog and within these limits
-pub record Begins (g : Catalog) (l : Limits) (r : TextWalk) : Type 0 where
-  pub holds : Holds r [] []
-  pub state : state_of r [] [] ≡ begun
-  pub catalog : r.catalog.now ≡ g
-  pub limits : r.limits ≡ l
-  pub steady : IsSteady (scanned r.scanner) (looks r.scanner)
-  pub fine : IsNone (failed r)
-  pub awaits : r.awaited ≡ None
 
 module _ {V : Type 0} (takes : V → Event → V → Type 0) (es : List Event) where
   -- The end was answered so, where so much was told before: whether a value ended there, of which a visitor heard what there is to hear; else

@@ -177,7 +177,7 @@ fn left_alike(
     }
     let most = octets.len().min(beside.len());
     let mut tokens = TokenReader::new(alloc);
-    let (count, after, _) = left_at(&mut tokens, &octets[..most], at_front(rest.colon))?;
+    let (count, after) = left_at(&mut tokens, &octets[..most], at_front(rest.colon))?;
     if !fronts_alike(octets, beside, count + 1) {
         return None;
     }
@@ -317,8 +317,8 @@ impl TextReader<'_> {
 
     /// Takes up a blank and the item behind it at the front of a piece and at the front of another
     /// reader's, where it has the same octets in both, without building it: how many octets of
-    /// each. `None`, with nothing taken up, where `walk` of either would answer so, or the octets
-    /// aren't the same.
+    /// each. `None`, with nothing taken up, where an item is open, or the value isn't whole, may be
+    /// a local symbol table, may not stand here, is in any way unusual or hasn't the same octets.
     fn walk_alike(
         &mut self,
         piece: &[u8],

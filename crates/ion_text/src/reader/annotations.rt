@@ -1,5 +1,5 @@
 //! Annotations that lie whole in a piece, wherever a value may come, which a visitor takes.
-ghost use Rattle.std.specs.Prelude.{◌≡◌, ◌+◌, ◌-◌, ◌<◌, ◌^◌, min, length, Some, IfSome};
+ghost use Rattle.std.specs.Prelude.{◌≡◌, ◌+◌, ◌<◌, ◌^◌, length, Some, IfSome};
 ghost use Rattle.ion_visiting.specs.Visits.{annotation};
 ghost use Rattle.ion_text.specs.machine.Walked.{behind_note, FoundNote, WalkedNote};
 ghost use Rattle.ion_text.specs.visiting.Walks.{NoteThere, VisitedNotes};
@@ -11,23 +11,19 @@ use ion_tokens::{FoundToken, Mark, Place, TokenKind, quoted_symbol, word};
 use ion_visiting::TextVisitor;
 
 impl Tally {
-    /// Notes an annotation, and rests behind its token, a blank and `::`: how many octets they
-    /// have.
+    /// It rests behind the token of an annotation, a blank and `::`: how many octets they have.
     #[inline(always)]
     fn pass_note(&mut self, here: Place, token: FoundToken, blank: usize) -> usize
         requires room { self.old.rest.used + token.count + blank + 2 < 2 ^ 63 }
         ensures total { result ≡ token.count + blank + 2 }
         ensures noted { self.new ≡ record {
-          kind = self.old.kind;
           level = self.old.level;
-          nodes = min (self.old.nodes + 1) (2 ^ 64 - 1);
           rest = behind_note here self.old.rest token blank;
         } }
     {
         self.pass_token(here, token.kind, token.count);
         self.pass_blank(blank);
         self.pass_token(here, TokenKind::Mark(Mark::Colons), 2);
-        self.note_annotation();
         token.count + blank + 2
     }
 }

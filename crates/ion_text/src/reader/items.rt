@@ -1,6 +1,5 @@
 //! The reader as `Items`: steps over pieces, and the end.
-ghost use Rattle.std.specs.Prelude.{◌≡◌, ◌+◌, ◌++◌, ◌<◌, ◌^◌, ℕ, List, length, take, Err, Option, IfOk, IfErr, IfSome, IsNone, option_map};
-ghost use Rattle.ion_model.specs.Outlines.{outline_of};
+ghost use Rattle.std.specs.Prelude.{◌≡◌, ◌+◌, ◌++◌, ◌<◌, ◌^◌, ℕ, List, [], length, take, Err, Some, Option, IfOk, IfErr, IfSome, IsNone};
 ghost use Rattle.ion_model.specs.declared.value.Value.{Value as AnyValue};
 ghost use Rattle.ion_atoms.specs.declared.refusal.Reason.TheVariants.{Memory};
 ghost use Rattle.ion_symtab.specs.Trace.{Answers, Finishes, given_at};
@@ -8,14 +7,15 @@ ghost use Rattle.ion_symtab.specs.Steps.{RefusesBy, StepsOver};
 ghost use Rattle.ion_symtab.specs.IsNew.{IsNew};
 ghost use Rattle.ion_text.specs.machine.Run.{trace};
 ghost use Rattle.ion_text.specs.machine.Progress.{BeginsWith, Stands, failed, octets_used, pending};
+ghost use Rattle.ion_text.specs.visiting.Telling.{HeardAt};
 
 use super::TextReader;
 use crate::state::Now;
 use ion_lookahead::seems_cut;
 use ion_model::{Reason, Refusal, Sequence, Value};
-use ion_symtab::{Catalog, Context, Glance, Items, Limits, Passed, Step};
+use ion_symtab::{Catalog, Context, Glance, Items, Limits, Step, Walked};
 use ion_tokens::{Scanner, TokenReader};
-use ion_visiting::RecentSymbols;
+use ion_visiting::{RecentSymbols, Visitor, tell};
 use std::alloc::Global;
 
 impl<'a> TextReader<'a> {
@@ -84,34 +84,6 @@ impl TextReader<'_> {
         result
     }
 
-    /// What `pass` answers of such a step. It stands by itself so that `pass` has no room for a value
-    /// to clear each time.
-    #[inline(never)]
-    fn pass_by_tokens(&mut self, piece: &[u8]) -> Result<Passed, Refusal>
-        requires well { IsNone (failed self.old) }
-        requires room { octets_used self.old + length piece.now < 2 ^ 63 }
-        requires begins { BeginsWith self.old.awaited piece.now }
-        ensures setting { (self.new.catalog.now ≡ self.old.catalog.now)
-            × (self.new.limits ≡ self.old.limits) }
-        ensures leaves { IfOk result (λ passed. StepsOver octets_used pending (λ r. r.awaited)
-            failed self.old self.new piece.now passed.used passed.outline) }
-        ensures stands { IfOk result (λ passed. (u : List ℕ) (s : List (AnyValue × ℕ)) →
-            Stands self.old u s → (value : Option AnyValue)
-            × (option_map outline_of value ≡ passed.outline)
-            × Stands self.new (u ++ take passed.used piece.now)
-            (s ++ given_at value (length u + passed.used))) }
-        ensures answers { IfErr result (λ refusal. (u : List ℕ) (s : List (AnyValue × ℕ)) →
-            Stands self.old u s → Answers (trace self.old.catalog.now self.old.limits)
-            u s piece.now (Err refusal)) }
-        ensures refuses { IfErr result (RefusesBy octets_used pending (λ r. r.awaited) failed
-            self.old self.new piece.now) }
-    {
-        match self.step_by_tokens(piece) {
-            Err(refusal) => Err(refusal),
-            Ok(step) => Ok(step.passed()),
-        }
-    }
-
     /// What the end answers, where a step refused before too.
     fn end_or_refuse(&mut self) -> Result<Option<Value>, Refusal>
         requires { IsNone self.old.awaited }
@@ -131,9 +103,55 @@ impl TextReader<'_> {
             Err(reason) => Err(Refusal { offset, reason }),
         }
     }
+
+    /// Tells a visitor the value that a step gave, if it gave one, behind `before` octets.
+    fn tell_step<V: Visitor>(
+        &mut self,
+        before: u64,
+        step: Step,
+        visitor: &mut V,
+    ) -> Result<Walked, Refusal>
+        ensures told { IfOk result (λ walked. (walked.used ≡ step.used) × (self.new ≡ self.old)
+            × HeardAt V.takes step.value walked.ended visitor.old visitor.new) }
+        ensures memory { IfErr result (λ refusal.
+            (refusal.reason ≡ Memory) × (refusal.offset ≡ before)) }
+        ensures fails { IfErr result (λ refusal. failed self.new ≡ Some refusal) }
+        ensures unawaited { IfErr result (λ _. IsNone self.new.awaited) }
+        ensures setting { (self.new.catalog ≡ self.old.catalog)
+            × (self.new.limits ≡ self.old.limits) }
+    {
+        let used = step.used;
+        match tell_given(step.value, visitor) {
+            Some(ended) => Ok(Walked { used, ended }),
+            None => {
+                let refusal = Refusal {
+                    offset: before,
+                    reason: Reason::Memory,
+                };
+                self.awaited = None;
+                self.failed = Some(refusal);
+                Err(refusal)
+            }
+        }
+    }
+}
+
+// Tells a visitor a value, if there is one: whether there is. `None` where it can't go on.
+fn tell_given<V: Visitor>(given: Option<Value>, visitor: &mut V) -> Option<bool>
+    ensures { IfSome result (λ ended. HeardAt V.takes given ended visitor.old visitor.new) }
+{
+    match given {
+        None => Some(false),
+        Some(value) => {
+            let told = tell(&value, visitor);
+            drop(value);
+            if told { Some(true) } else { None }
+        }
+    }
 }
 
 impl Items for TextReader<'_> {
+    ghost use Rattle.std.proofs.Common.{refl};
     ghost use Rattle.ion_text.specs.Grammar.{Document, Whole, OpenRest};
     ghost use Rattle.ion_text.specs.machine.Run.{trace};
     ghost use Rattle.ion_text.specs.machine.Pieces.{grows};
@@ -142,6 +160,7 @@ impl Items for TextReader<'_> {
     ghost use Rattle.ion_text.specs.laws.reading.Stops.{decided, unfinished, no_tables};
     ghost use Rattle.ion_text.specs.laws.reading.small.Small.{is_small};
     ghost use Rattle.ion_text.specs.laws.reading.Stands.{not_failed, not_refused, given_so_far, given_with_next};
+    ghost use Rattle.ion_text.specs.laws.reading.Tells.{reader_told};
     ghost use Rattle.ion_text.specs.laws.reading.small.Bounded.{bounded};
     ghost use Rattle.ion_text.specs.laws.showing.tokens.Alone.{document_pieces, whole_document};
     ghost use Rattle.ion_text.specs.laws.reading.small.Apart.{nodes_between};
@@ -164,6 +183,8 @@ impl Items for TextReader<'_> {
 
     ghost stands = { Stands };
 
+    ghost told = { λ r u s es. Stands r u s × (es ≡ []) };
+
     ghost taken = { octets_used };
 
     ghost failed = { failed };
@@ -185,6 +206,12 @@ impl Items for TextReader<'_> {
     ghost given_with_next = { given_with_next };
 
     ghost bounded = { bounded };
+
+    ghost has_told = { λ r u s es h. reader_told r u s h.0 };
+
+    ghost nothing_told = { λ r h. (h, refl) };
+
+    ghost one_stands = { λ r u s es h. (r, h.0, refl, refl) };
 
     ghost settled = { grows };
 
@@ -227,18 +254,25 @@ impl Items for TextReader<'_> {
         self.step_by_tokens(piece)
     }
 
-    #[inline(never)]
-    fn pass(&mut self, piece: &[u8]) -> Result<Passed, Refusal> {
-        if let Some(refusal) = self.failure() {
-            self.awaited = None;
-            return Err(refusal);
+    fn walk<V: Visitor>(&mut self, piece: &[u8], visitor: &mut V) -> Result<Walked, Refusal> {
+        let before = self.scanner.used();
+        match self.step(piece) {
+            Err(refusal) => Err(refusal),
+            Ok(step) => self.tell_step(before, step, visitor),
         }
-        match self.walk(piece) {
-            None => self.pass_by_tokens(piece),
-            Some((used, outline)) => Ok(Passed {
-                used,
-                outline: Some(outline),
-            }),
+    }
+
+    fn finish_by<V: Visitor>(self, visitor: &mut V) -> Result<bool, Refusal> {
+        let offset = self.scanner.used();
+        match self.finish() {
+            Err(refusal) => Err(refusal),
+            Ok(given) => match tell_given(given, visitor) {
+                Some(ended) => Ok(ended),
+                None => Err(Refusal {
+                    offset,
+                    reason: Reason::Memory,
+                }),
+            },
         }
     }
 

@@ -9,7 +9,7 @@ ghost use Rattle.ion_visiting.specs.Parts.{number_payload, payload_of};
 ghost use Rattle.ion_text.specs.machine.Walked.{FoundLeft, IsFlat};
 ghost use Rattle.ion_text.specs.visiting.Walks.{VisitedLeft};
 
-use super::finders::{begins_number, begins_symbol, number_at, number_kind, symbol_at};
+use super::finders::{begins_number, begins_symbol, number_at, symbol_at};
 use super::long_strings::{begins_long, join_segments, one_segment};
 use super::symbols::ends_symbol;
 use ion_model::Kind;
@@ -72,27 +72,22 @@ fn long_left(beside: &mut TokenReader, octets: &[u8], rest: Rest) -> Option<(usi
 }
 
 /// The number, the symbol or the long string there: how many octets it has, with the blank behind a
-/// symbol or a long string, where a scanner rests behind them, and of which kind it is.
-pub(super) fn left_at(
-    beside: &mut TokenReader,
-    octets: &[u8],
-    rest: Rest,
-) -> Option<(usize, Rest, Kind)>
+/// symbol or a long string, and where a scanner rests behind them.
+pub(super) fn left_at(beside: &mut TokenReader, octets: &[u8], rest: Rest) -> Option<(usize, Rest)>
     requires room { rest.used + length octets.now < 2 ^ 63 }
-    ensures { IfSome result (λ left. (payload : Payload) × IsFlat payload left.2
+    ensures { IfSome result (λ left. (payload : Payload)
         × FoundLeft octets.now left.0 rest left.1 payload) }
 {
     if begins_number(octets) {
-        let (count, behind, number) = number_left(octets, rest)?;
-        return Some((count, behind, number_kind(number)));
+        let (count, behind, _) = number_left(octets, rest)?;
+        return Some((count, behind));
     }
     if begins_long(octets) {
-        let (count, behind) = long_left(beside, octets, rest)?;
-        return Some((count, behind, Kind::Str));
+        return long_left(beside, octets, rest);
     }
     if begins_symbol(octets) {
-        let (count, behind, kind, _) = symbol_left(octets, rest)?;
-        return Some((count, behind, kind));
+        let (count, behind, _, _) = symbol_left(octets, rest)?;
+        return Some((count, behind));
     }
     None
 }

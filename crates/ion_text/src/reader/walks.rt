@@ -1,7 +1,6 @@
 //! Values that lie whole in a piece: they are judged and not built, and a visitor takes them. What
 //! is cut, refused or unusual isn't told here: the reader takes it up token by token.
 ghost use Rattle.std.specs.Prelude.{◌≡◌, ◌+◌, ◌-◌, ◌≤◌, ◌<◌, ◌^◌, min, Bool, true, false, length, get_or, drop, IfSome, Some};
-ghost use Rattle.ion_atoms.specs.declared.kind.Kind.TheVariants as kinds;
 ghost use Rattle.ion_tokens.specs.Places.{is_name};
 ghost use Rattle.ion_tokens.specs.declared.mode.Place.{Place};
 ghost use Rattle.ion_tokens.specs.declared.plain_tokens.Rest.{Rest};
@@ -11,7 +10,7 @@ ghost use Rattle.ion_tokens.specs.declared.mode.TokenKind.TheVariants as tokens;
 ghost use Rattle.ion_tokens.specs.machine.Rests.{past_blank, past_token, IsPassed, RestsBehind};
 ghost use Rattle.ion_text.specs.machine.FrontTokens.{ends_symbol, BeginsName};
 ghost use Rattle.ion_text.specs.machine.Nested.{close_octet, OpensAt};
-ghost use Rattle.ion_text.specs.machine.Walked.{kind_in, behind_close, behind_key, behind_open, has_commas, place_within, OnlyRests, WalkedBetween};
+ghost use Rattle.ion_text.specs.machine.Walked.{behind_close, behind_key, behind_open, has_commas, place_within, OnlyRests, WalkedBetween};
 ghost use Rattle.ion_visiting.specs.declared.bracket.Bracket.TheVariants as brackets;
 ghost use Rattle.ion_visiting.specs.Parts.{payload_of};
 ghost use Rattle.ion_text.specs.visiting.Walks.{FoundPart, FoundNumber, VisitedValue, VisitedItem, VisitedContainer, VisitedInside, VisitedName};
@@ -25,7 +24,6 @@ use super::finders::{
 use super::long_strings::walk_long;
 use super::nested_containers::{bracket_at, close_mark, open_mark};
 use super::symbols::{behind_name, behind_symbol};
-use ion_model::{Kind, Outline};
 use ion_scalar::Number;
 use ion_tokens::{
     Body, FoundToken, Mark, Place, Rest, TokenKind, TokenReader, blank_with_comments,
@@ -35,12 +33,8 @@ use ion_visiting::{Bracket, Part, TextVisitor};
 /// What a walk noted of the values that it went over, and where it rests.
 #[derive(Clone, Copy, Drop)]
 pub(crate) struct Tally {
-    /// The kind of the last value.
-    kind: Kind,
     /// How many levels the deepest left.
     level: u32,
-    /// How many nodes all had; it stops at 2^64-1.
-    nodes: u64,
     /// Where a scanner rests behind the octets.
     pub rest: Rest,
 }
@@ -48,41 +42,9 @@ pub(crate) struct Tally {
 impl Tally {
     /// Of no value yet, where there may be so many levels.
     pub fn new(level: u32, rest: Rest) -> Tally
-        ensures { result ≡ record { kind = kinds.Null; level = level; nodes = 0; rest = rest } }
+        ensures { result ≡ record { level = level; rest = rest } }
     {
-        Tally {
-            kind: Kind::Null,
-            level,
-            nodes: 0,
-            rest,
-        }
-    }
-
-    /// Notes the node of a value of this kind.
-    #[inline(always)]
-    fn count_node(&mut self, kind: Kind)
-        ensures { self.new ≡ record {
-          kind = kind;
-          level = self.old.level;
-          nodes = min (self.old.nodes + 1) (2 ^ 64 - 1);
-          rest = self.old.rest;
-        } }
-    {
-        self.kind = kind;
-        self.nodes = self.nodes.saturating_add(1);
-    }
-
-    /// Notes the node of an annotation.
-    #[inline(always)]
-    pub fn note_annotation(&mut self)
-        ensures { self.new ≡ record {
-          kind = self.old.kind;
-          level = self.old.level;
-          nodes = min (self.old.nodes + 1) (2 ^ 64 - 1);
-          rest = self.old.rest;
-        } }
-    {
-        self.nodes = self.nodes.saturating_add(1);
+        Tally { level, rest }
     }
 
     /// It rests behind a token of so many octets.
@@ -90,9 +52,7 @@ impl Tally {
     pub fn pass_token(&mut self, place: Place, kind: TokenKind, count: usize)
         requires room { self.old.rest.used + count < 2 ^ 63 }
         ensures { self.new ≡ record {
-          kind = self.old.kind;
           level = self.old.level;
-          nodes = self.old.nodes;
           rest = past_token place self.old.rest kind count;
         } }
     {
@@ -104,65 +64,53 @@ impl Tally {
     pub fn pass_blank(&mut self, count: usize)
         requires room { self.old.rest.used + count < 2 ^ 63 }
         ensures { self.new ≡ record {
-          kind = self.old.kind;
           level = self.old.level;
-          nodes = self.old.nodes;
           rest = past_blank self.old.rest count;
         } }
     {
         self.rest = self.rest.past_blank(count);
     }
 
-    /// Notes such a value, and rests behind its token and a blank: how many octets they have.
+    /// It rests behind the token of such a value and a blank: how many octets they have.
     #[inline(always)]
     pub(super) fn pass_scalar(&mut self, place: Place, scalar: Scalar, blank: usize) -> usize
         requires room { self.old.rest.used + scalar.token.count + blank < 2 ^ 63 }
         ensures total { result ≡ scalar.token.count + blank }
         ensures noted { self.new ≡ record {
-          kind = scalar.kind;
           level = self.old.level;
-          nodes = min (self.old.nodes + 1) (2 ^ 64 - 1);
           rest = past_blank
               (past_token place self.old.rest scalar.token.kind scalar.token.count) blank;
         } }
     {
         self.pass_token(place, scalar.token.kind, scalar.token.count);
         self.pass_blank(blank);
-        self.count_node(scalar.kind);
         scalar.token.count + blank
     }
 
-    /// Notes a long string, behind whose octets it rests.
+    /// It rests behind the octets of a long string.
     #[inline(always)]
     pub(super) fn pass_long(&mut self, behind: Rest)
         ensures { self.new ≡ record {
-          kind = kinds.Str;
           level = self.old.level;
-          nodes = min (self.old.nodes + 1) (2 ^ 64 - 1);
           rest = behind;
         } }
     {
         self.rest = behind;
-        self.count_node(Kind::Str);
     }
 
-    /// Notes a field's name, and rests behind its token, a blank and a colon: how many octets they
-    /// have.
+    /// It rests behind the token of a field's name, a blank and a colon: how many octets they have.
     #[inline(always)]
     pub(super) fn pass_key(&mut self, token: FoundToken, blank: usize) -> usize
         requires room { self.old.rest.used + token.count + blank + 1 < 2 ^ 63 }
         ensures total { result ≡ token.count + blank + 1 }
         ensures noted { self.new ≡ record {
-          kind = self.old.kind;
           level = self.old.level;
-          nodes = min (self.old.nodes + 1) (2 ^ 64 - 1);
           rest = behind_key self.old.rest token blank;
         } }
     {
         self.pass_token(Place::Name, token.kind, token.count);
         self.pass_blank(blank);
         self.pass_token(Place::Name, TokenKind::Mark(Mark::Colon), 1);
-        self.nodes = self.nodes.saturating_add(1);
         token.count + blank + 1
     }
 
@@ -176,40 +124,12 @@ impl Tally {
         self.pass_token(here, TokenKind::Mark(Mark::FieldsOpen), 1);
     }
 
-    /// Notes a struct, behind whose close it rests.
+    /// It rests behind the close of a struct.
     pub(super) fn close_struct(&mut self, here: Place)
         requires room { self.old.rest.used + 1 < 2 ^ 63 }
         ensures { self.new ≡ behind_close here brackets.Fields self.old }
     {
         self.pass_token(here, TokenKind::Mark(Mark::FieldsClose), 1);
-        self.count_node(Kind::Fields);
-    }
-
-    /// The outline of one value that was walked over, where there might be so many levels.
-    pub fn outline(&self, level: u32) -> Outline
-        requires { self.now.level ≤ level }
-        ensures { result ≡ record {
-          kind = self.now.kind;
-          depth = level - self.now.level;
-          nodes = self.now.nodes;
-        } }
-    {
-        Outline {
-            kind: self.kind,
-            depth: (level - self.level) as u64,
-            nodes: self.nodes,
-        }
-    }
-}
-
-// The kind of such a container.
-fn kind_in(bracket: Bracket) -> Kind
-    ensures { result ≡ kind_in bracket }
-{
-    match bracket {
-        Bracket::List => Kind::List,
-        Bracket::Sexp => Kind::Sexp,
-        Bracket::Fields => Kind::Fields,
     }
 }
 
@@ -630,7 +550,6 @@ pub(super) fn walk_container<T: TextVisitor>(
         return None;
     }
     tally.pass_token(here, TokenKind::Mark(close_mark(bracket)), 1);
-    tally.count_node(kind_in(bracket));
     Some(count + 2)
 }
 

@@ -1,31 +1,47 @@
 //! Walks over pieces.
-ghost use Rattle.std.specs.Prelude.{◌≡◌, ◌≢◌, ◌+◌, ◌<◌, ◌≤◌, ◌^◌, List, Some, Err, length, IfOk, IfErr, IfSome, IsNone};
+ghost use Rattle.std.specs.Prelude.{◌≡◌, ◌≢◌, ◌+◌, ◌<◌, ◌≤◌, ◌^◌, ℕ, List, [], ◌∷◌, Some, None, Err, false, true, length, drop, IfOk, IfErr, IfSome, IsSome, IsNone};
 ghost use Rattle.std.specs.Option.{is_some};
 ghost use Rattle.ion_atoms.specs.declared.refusal.Reason.TheVariants.{Memory};
+ghost use Rattle.ion_model.specs.declared.value.Value.{Value as AnyValue};
+ghost use Rattle.ion_symtab.specs.Steps.{RefusesBy, StepsOver};
+ghost use Rattle.ion_symtab.specs.Trace.{Answers};
+ghost use Rattle.ion_symtab.specs.Walks.{WalksOn, if_ended};
 ghost use Rattle.ion_tokens.specs.machine.Views.{scanned};
+ghost use Rattle.ion_visiting.specs.Events.{Event};
 ghost use Rattle.ion_text.specs.declared.state.Frame.{Frame};
 ghost use Rattle.ion_text.specs.machine.EachToken.{Symbols};
 ghost use Rattle.ion_text.specs.machine.Progress.{BeginsWith};
+ghost use Rattle.ion_text.specs.machine.Run.{trace};
 ghost use Rattle.ion_text.specs.walk.Advances.{DidAdvance, SameSettings};
-ghost use Rattle.ion_text.specs.walk.Ends.{failed};
+ghost use Rattle.ion_text.specs.walk.Ends.{failed, octets_used};
 ghost use Rattle.ion_text.specs.walk.Fronts.{IsWithin, TookFront};
 ghost use Rattle.ion_text.specs.walk.Holds.{Holds, state_of, told};
+ghost use Rattle.ion_text.specs.walk.Runs.{Told, pending};
 ghost use Rattle.ion_text.specs.walk.Takes.{IsFine, SameReader, StaysSteady};
 
 use super::TextWalk;
 use crate::reader::advance::with_memory_at;
-use crate::state::Taken;
+use crate::state::{Now, Taken};
 use ion_model::{Reason, Refusal};
+use ion_symtab::Walked;
 use ion_visiting::Visitor;
 
-/// What a walk used of its piece, and whether it ended a value of the top level.
-#[derive(Clone, Copy, Debug, PartialEq, Eq)]
-pub struct Walked {
-    /// How many octets of the piece were used, from its first on: all of them where no value ended.
-    pub used: usize,
-    /// Whether a value ended, with the last octet used or before the one behind that; the visitor
-    /// was told its events.
-    pub ended: bool,
+// The refusal, with an octet of a piece of so many octets behind `before`. One with another octet
+// couldn't come, and would be told as memory that ran out, which says nothing of the octets.
+fn within_piece(before: u64, length: usize, refusal: Refusal) -> Refusal
+    requires room { before + length < 2 ^ 63 }
+    ensures memory { result.reason ≡ Memory → result.offset ≡ before }
+    ensures other { result.reason ≢ Memory → result ≡ refusal }
+    ensures decides { result.reason ≢ Memory →
+        (before < result.offset) × (result.offset ≤ before + length) }
+{
+    if before < refusal.offset && refusal.offset <= before + length as u64 {
+        return with_memory_at(before, refusal);
+    }
+    Refusal {
+        offset: before,
+        reason: Reason::Memory,
+    }
 }
 
 impl TextWalk<'_> {
@@ -111,17 +127,25 @@ impl TextWalk<'_> {
     /// a value before shows the end of no second one.
     fn advance<V: Visitor>(&mut self, piece: &[u8], visitor: &mut V) -> Result<Walked, Refusal>
         requires fine { IsFine self.old }
-        requires room { (scanned self.old.scanner).used + length piece.now < 2 ^ 63 }
+        requires room { octets_used self.old + length piece.now < 2 ^ 63 }
         requires begins { BeginsWith self.old.awaited piece.now }
         ensures does { (fs : List Frame) (ss : Symbols) → Holds self.old fs ss →
             DidAdvance V.takes (told fs ss) self.old.catalog.now self.old.limits
             (is_some self.old.awaited) (scanned self.old.scanner).used
             (state_of self.old fs ss) piece.now result self.new visitor.old visitor.new }
         ensures used { IfOk result (λ walked.
-            (scanned self.new.scanner).used ≡ (scanned self.old.scanner).used + walked.used) }
+            octets_used self.new ≡ octets_used self.old + walked.used) }
         ensures within { IfOk result (λ walked. walked.used ≤ length piece.now) }
+        ensures all { IfOk result (λ walked.
+            walked.ended ≡ false → walked.used ≡ length piece.now) }
+        ensures next { IfOk result (λ walked. IfSome self.new.awaited (λ octet.
+            (rest : List ℕ) × (drop walked.used piece.now ≡ octet ∷ rest))) }
+        ensures still { IfOk result (λ _. piece.now ≡ [] → pending self.new ≡ pending self.old) }
+        ensures decides { IfErr result (λ refusal. refusal.reason ≢ Memory →
+            (octets_used self.old < refusal.offset)
+            × (refusal.offset ≤ octets_used self.old + length piece.now)) }
         ensures memory { IfErr result (λ refusal.
-            refusal.reason ≡ Memory → refusal.offset ≡ (scanned self.old.scanner).used) }
+            refusal.reason ≡ Memory → refusal.offset ≡ octets_used self.old) }
         ensures unawaited { IfErr result (λ _. IsNone self.new.awaited) }
         ensures fine { IfOk result (λ _. IsFine self.new) }
         ensures steady { IfOk result (λ _. StaysSteady self.old self.new) }
@@ -133,7 +157,7 @@ impl TextWalk<'_> {
         let mut i = 0;
         while i < piece.len() {
             match self.take_up(&piece[i..], visitor) {
-                Err(refusal) => return Err(with_memory_at(before, refusal)),
+                Err(refusal) => return Err(within_piece(before, piece.len(), refusal)),
                 Ok((count, Taken::Uses)) => i += count,
                 Ok((count, Taken::Tells)) => {
                     return Ok(Walked {
@@ -160,36 +184,101 @@ impl TextWalk<'_> {
         })
     }
 
-    /// Takes up the octets of a piece up to the end of the next value of the top level, and tells a
-    /// visitor what comes of them. An octet that showed the end of a value begins the next piece.
-    ///
-    /// The first refusal comes again with each call. `Memory` comes where memory was refused, or
-    /// where the visitor can't go on.
-    pub fn walk<V: Visitor>(&mut self, piece: &[u8], visitor: &mut V) -> Result<Walked, Refusal>
-        requires room { (scanned self.old.scanner).used + length piece.now < 2 ^ 63 }
+    /// Whether a value has begun of which no octet showed the end, so that the next one may.
+    fn owes(&self) -> bool
+        ensures { result ≡ true → pending self.now ≡ 1 }
+    {
+        match (self.awaited, &self.stage) {
+            (Some(_), _) => false,
+            (None, Now::Ready) => self.scanner.begun().is_some(),
+            (None, _) => true,
+        }
+    }
+
+    /// Whether a value may have ended so: with an octet of the piece, or shown by the first where
+    /// one was owed.
+    fn may_end_so(&self, owed: bool, walked: Walked) -> bool
+        ensures { result ≡ true → walked.ended ≡ true → walked.used ≡ 0 →
+            (owed ≡ true) × IsSome self.now.awaited }
+    {
+        if !walked.ended || walked.used > 0 {
+            return true;
+        }
+        owed && self.awaited.is_some()
+    }
+
+    /// What `advance` does, in the words of `Items`. So that a caller's calls end, a value ends with
+    /// an octet of the piece, or was owed. Another answer couldn't come, and would be told as memory
+    /// that ran out, which says nothing of the octets.
+    fn advance_on<V: Visitor>(&mut self, piece: &[u8], visitor: &mut V) -> Result<Walked, Refusal>
+        requires fine { IsNone (failed self.old) }
+        requires room { octets_used self.old + length piece.now < 2 ^ 63 }
         requires begins { BeginsWith self.old.awaited piece.now }
-        ensures does { IsNone (failed self.old) → (fs : List Frame) (ss : Symbols) →
-            Holds self.old fs ss → DidAdvance V.takes (told fs ss) self.old.catalog.now
-            self.old.limits (is_some self.old.awaited) (scanned self.old.scanner).used
-            (state_of self.old fs ss) piece.now result self.new visitor.old visitor.new }
-        ensures again { IfSome (failed self.old) (λ refusal. result ≡ Err refusal) }
-        ensures used { IfOk result (λ walked.
-            (scanned self.new.scanner).used ≡ (scanned self.old.scanner).used + walked.used) }
-        ensures within { IfOk result (λ walked. walked.used ≤ length piece.now) }
-        ensures memory { IfErr result (λ refusal. refusal.reason ≡ Memory →
-            IsNone (failed self.old) → refusal.offset ≡ (scanned self.old.scanner).used) }
+        ensures leaves { IfOk result (λ walked. StepsOver octets_used pending (λ r. r.awaited)
+            failed self.old self.new piece.now walked.used (if_ended walked.ended)) }
+        ensures tells { IfOk result (λ walked.
+            (u : List ℕ) (s : List (AnyValue × ℕ)) (es : List Event) → Told self.old u s es →
+            WalksOn V.takes Told u s es piece.now walked.used walked.ended
+            self.new visitor.old visitor.new) }
+        ensures answers { IfErr result (λ refusal.
+            (u : List ℕ) (s : List (AnyValue × ℕ)) (es : List Event) → Told self.old u s es →
+            Answers (trace self.old.catalog.now self.old.limits) u s piece.now (Err refusal)) }
+        ensures decides { IfErr result (λ refusal. refusal.reason ≢ Memory →
+            (octets_used self.old < refusal.offset)
+            × (refusal.offset ≤ octets_used self.old + length piece.now)) }
+        ensures memory { IfErr result (λ refusal.
+            refusal.reason ≡ Memory → refusal.offset ≡ octets_used self.old) }
         ensures unawaited { IfErr result (λ _. IsNone self.new.awaited) }
-        ensures refuses { IfErr result (λ refusal. failed self.new ≡ Some refusal) }
-        ensures fine { IfOk result (λ _. IsNone (failed self.new)) }
-        ensures steady { IfOk result (λ _. StaysSteady self.old self.new) }
-        ensures setting { (self.new.catalog ≡ self.old.catalog)
+        ensures setting { SameSettings self.old self.new }
+    {
+        let before = self.scanner.used();
+        let owed = self.owes();
+        match self.advance(piece, visitor) {
+            Err(refusal) => Err(refusal),
+            Ok(walked) => {
+                if self.may_end_so(owed, walked) {
+                    return Ok(walked);
+                }
+                self.awaited = None;
+                Err(Refusal {
+                    offset: before,
+                    reason: Reason::Memory,
+                })
+            }
+        }
+    }
+
+    /// Takes up octets of the piece, at most up to the end of the next value, and tells a visitor
+    /// what comes of them, event by event. Without a value it used the whole piece.
+    ///
+    /// It does what `Items::walk` promises. A refusal names the octet that decides, counted from the
+    /// document's first, and comes again with each call. `Memory` comes where memory was refused, or
+    /// where the visitor can't go on. An octet that shows the end of a value without being part of
+    /// it isn't used, and begins the next piece.
+    pub fn walk<V: Visitor>(&mut self, piece: &[u8], visitor: &mut V) -> Result<Walked, Refusal>
+        requires room { IsNone (failed self.old) →
+            octets_used self.old + length piece.now < 2 ^ 63 }
+        requires begins { BeginsWith self.old.awaited piece.now }
+        ensures setting { (self.new.catalog.now ≡ self.old.catalog.now)
             × (self.new.limits ≡ self.old.limits) }
+        ensures leaves { IfOk result (λ walked. StepsOver octets_used pending (λ r. r.awaited)
+            failed self.old self.new piece.now walked.used (if_ended walked.ended)) }
+        ensures tells { IfOk result (λ walked.
+            (u : List ℕ) (s : List (AnyValue × ℕ)) (es : List Event) → Told self.old u s es →
+            WalksOn V.takes Told u s es piece.now walked.used walked.ended
+            self.new visitor.old visitor.new) }
+        ensures answers { IfErr result (λ refusal.
+            (u : List ℕ) (s : List (AnyValue × ℕ)) (es : List Event) → Told self.old u s es →
+            Answers (trace self.old.catalog.now self.old.limits) u s piece.now (Err refusal)) }
+        ensures refuses { IfErr result (RefusesBy octets_used pending (λ r. r.awaited) failed
+            self.old self.new piece.now) }
+        ensures again { IfSome (failed self.old) (λ refusal. result ≡ Err refusal) }
     {
         if let Some(refusal) = self.failure() {
             self.awaited = None;
             return Err(refusal);
         }
-        let result = self.advance(piece, visitor);
+        let result = self.advance_on(piece, visitor);
         if let Err(refusal) = &result {
             self.failed = Some(*refusal);
         }

@@ -2,15 +2,19 @@
 ghost use Rattle.std.specs.Prelude.{◌≡◌, ℕ, List, Result, Option, Ok, Err, IfErr, IfOk, IfSome, IsNone};
 ghost use Rattle.ion_atoms.specs.declared.refusal.Reason.{Reason};
 ghost use Rattle.ion_atoms.specs.declared.refusal.Reason.TheVariants.{Memory};
+ghost use Rattle.ion_model.specs.declared.value.Value.{Value as AnyValue};
+ghost use Rattle.ion_symtab.specs.Walks.{EndsOn};
 ghost use Rattle.ion_tokens.specs.Lexemes.{Lexeme};
 ghost use Rattle.ion_tokens.specs.machine.Views.{scanned};
 ghost use Rattle.ion_tokens.specs.machine.Steps.{Ends};
+ghost use Rattle.ion_visiting.specs.Events.{Event};
 ghost use Rattle.ion_text.specs.declared.state.Frame.{Frame};
 ghost use Rattle.ion_text.specs.machine.EachToken.{Symbols, settle, turn};
-ghost use Rattle.ion_text.specs.machine.Run.{is_fresh, end_settled, end_waiting, end_ready, end_turned, ends};
+ghost use Rattle.ion_text.specs.machine.Run.{is_fresh, end_settled, end_waiting, end_ready, end_turned, ends, trace};
 ghost use Rattle.ion_text.specs.machine.Views.{token_in};
 ghost use Rattle.ion_text.specs.walk.Holds.{Holds, reading_of, state_of, told};
-ghost use Rattle.ion_text.specs.walk.Ends.{Begins, EndedSo, FinishedSo, failed, octets_used};
+ghost use Rattle.ion_text.specs.walk.Ends.{EndedSo, FinishedSo, failed, octets_used};
+ghost use Rattle.ion_text.specs.walk.Runs.{Begins, Told, octets_kept};
 ghost use Rattle.ion_text.specs.walk.Takes.{IsFine};
 
 use super::TextWalk;
@@ -26,11 +30,7 @@ use std::mem;
 impl<'a> TextWalk<'a> {
     /// A reader of no octets yet, for a document within these limits that may import the shared
     /// tables of `catalog`. The only refusal is `Memory`.
-    pub(crate) fn new(
-        alloc: Global,
-        catalog: &'a Catalog,
-        limits: Limits,
-    ) -> Result<TextWalk<'a>, Reason>
+    pub fn new(alloc: Global, catalog: &'a Catalog, limits: Limits) -> Result<TextWalk<'a>, Reason>
         ensures begins { IfOk result (Begins catalog.now limits) }
         ensures memory { IfErr result (λ reason. reason ≡ Memory) }
     {
@@ -223,15 +223,17 @@ impl TextWalk<'_> {
         }
     }
 
-    /// Ends the octets: whether a value ended that only the end shows to be whole, which the visitor
-    /// heard then, or the refusal of octets that are no document.
+    /// Ends the octets: whether a value ended that only the end shows to be whole, of which the
+    /// visitor was told all then; or the refusal of octets that are no document.
     ///
     /// A refusal's offset is the number of octets used, or that of the call that refused before.
-    /// `Memory` alone doesn't say that the octets are no document.
-    pub(crate) fn finish_by<V: Visitor>(self, visitor: &mut V) -> Result<bool, Refusal>
-        ensures ends { IsNone (failed self.entry) → (fs : List Frame) (ss : Symbols) →
-            Holds self.entry fs ss → FinishedSo V.takes (told fs ss)
-            (ends self.entry.catalog.now self.entry.limits (state_of self.entry fs ss))
+    /// `Memory` alone doesn't say that the octets are no document. An octet that the reader awaits
+    /// has to be handed in before.
+    pub fn finish_by<V: Visitor>(self, visitor: &mut V) -> Result<bool, Refusal>
+        requires { IsNone self.awaited }
+        ensures ends { (u : List ℕ) (s : List (AnyValue × ℕ)) (es : List Event) →
+            Told self.entry u s es →
+            EndsOn V.takes (trace self.entry.catalog.now self.entry.limits u) es
             result visitor.old visitor.new }
         ensures memory { IfErr result (λ refusal. refusal.reason ≡ Memory →
             IsNone (failed self.entry) → refusal.offset ≡ octets_used self.entry) }
@@ -241,5 +243,20 @@ impl TextWalk<'_> {
         let answer = reader.end_or_refuse(visitor);
         drop(reader);
         answer
+    }
+
+    /// How many octets were used so far.
+    pub fn used(&self) -> u64
+        ensures { result ≡ octets_used self.now }
+    {
+        self.scanner.used()
+    }
+
+    /// How many octets of the open token are kept, at most as many as the limit on items allows.
+    /// The octet with which the next piece has to begin isn't counted.
+    pub fn held(&self) -> usize
+        ensures { result ≡ octets_kept self.now }
+    {
+        self.scanner.held()
     }
 }

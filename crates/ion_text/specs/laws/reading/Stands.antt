@@ -8,7 +8,7 @@ use Rattle.ion_symtab.specs.declared.catalog.Catalog.{Catalog}
 use Rattle.ion_symtab.specs.Trace.{IsFront}
 use Rattle.ion_tokens.specs.machine.Views.{failure}
 use Rattle.ion_text.specs.declared.reader.TextReader.{TextReader}
-use Rattle.ion_text.specs.machine.Run.{State, Run, run, run_on, eats, begun, trace, trace_of}
+use Rattle.ion_text.specs.machine.Run.{State, Run, run, run_on, eats, ends, begun, trace, trace_of}
 use Rattle.ion_text.specs.machine.Pieces.{then_run, run-append}
 use Rattle.ion_text.specs.machine.Views.{state_of}
 use Rattle.ion_text.specs.machine.Progress.{Ran, Stands, failed, or_first, BeginsWith, resumed, octets_used}
@@ -35,7 +35,7 @@ module _ (g : Catalog) (l : Limits) where
       ∙ (ap (λ vs. record { given = vs; now = onward.now }) values
       ∙ ap (λ x. behind s (resumed g l true to m x)) (sym begins.1)))))
 
-none_is : {X : Type 0} (o : Option X) → IsNone o → o ≡ None
+pub none_is : {X : Type 0} (o : Option X) → IsNone o → o ≡ None
 none_is None h = refl
 none_is (Some x) h = absurd cc
 
@@ -44,15 +44,20 @@ pub not_failed : (r : TextReader) (u : List ℕ) (s : List (Value × ℕ)) → S
 not_failed r u s h = ap (λ o. or_first o (failure r.scanner)) h.fine ∙ none_is (failure r.scanner) h.scanner_fine
 
 module _ (g : Catalog) (l : Limits) (u : List ℕ) (s : List (Value × ℕ)) (m : State) where
-  ran_unrefused : (awaited : Option ℕ) → Ran g l u s m awaited → (trace g l u).refused ≡ None
+  pub ran_unrefused : (awaited : Option ℕ) → Ran g l u s m awaited → (trace g l u).refused ≡ None
   ran_unrefused None h = ap (λ (x : Run). (trace_of g l x).refused) h
   ran_unrefused (Some o) h = ap (λ (x : Run). (trace_of g l x).refused) h.ran
 
-  ran_given : (awaited : Option ℕ) → IsNone awaited → Ran g l u s m awaited → (trace g l u).given ≡ s
+  pub ran_given : (awaited : Option ℕ) → IsNone awaited → Ran g l u s m awaited → (trace g l u).given ≡ s
   ran_given None none h = ap (λ (x : Run). (trace_of g l x).given) h
   ran_given (Some o) none h = absurd cc
 
-  ran_front : (to : ℕ) (awaited : Option ℕ) → to ≡ length u → Ran g l u s m awaited → IfSome awaited (λ octet. IsFront s (trace g l (u ++ octet ∷ [])).given)
+  -- what the end answers is what it answers from there
+  pub ran_ends : (awaited : Option ℕ) → IsNone awaited → Ran g l u s m awaited → (trace g l u).ends ≡ ends g l m
+  ran_ends None none h = ap (λ (x : Run). (trace_of g l x).ends) h
+  ran_ends (Some o) none h = absurd cc
+
+  pub ran_front : (to : ℕ) (awaited : Option ℕ) → to ≡ length u → Ran g l u s m awaited → IfSome awaited (λ octet. IsFront s (trace g l (u ++ octet ∷ [])).given)
   ran_front to None e h = tt
   ran_front to (Some o) e h =
       ((resumed g l true to m (o ∷ [])).given, ap (λ (x : Run). (trace_of g l x).given) (further g l to u (o ∷ []) s m (Some o) e h ([], refl)))

@@ -33,5 +33,4 @@ returns c =
       rests = rests_of piece front n (min (length piece) most) c.in_ok-rest.rest c.new-tally.result.rest c.up_to.ensures (omega arith) within
           (subst (λ r. RestsBehind front n c.in_ok-rest.rest r) (sym (ap (λ (t : Tally). t.rest) c.new-tally.ensures)) c.blank_with_comments-before.ensures.rests);
       level = ap (λ (t : Tally). t.level) c.new-tally.ensures;
-      none = ap (λ (t : Tally). t.nodes) c.new-tally.ensures;
     }

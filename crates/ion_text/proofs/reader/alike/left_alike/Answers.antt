@@ -16,5 +16,5 @@ returns c =
     let room : length octets < 2 ^ 63 = omega (arith, c.requires.room) in
     let both = both_lefts octets beside (take c.min-most.result octets) left.count rest c.args.other_rest left.after found.0
     colons (ap (λ n. take n octets) most) same room
-    (subst (λ r. FoundLeft (take c.min-most.result octets) left.count r left.after found.0) c.at_front.ensures found.2) in
+    (subst (λ r. FoundLeft (take c.min-most.result octets) left.count r left.after found.0) c.at_front.ensures found.1) in
     rw (c.in_ok-behind.ensures, c.in_ok-behind-2.ensures) (found.0, both.0, both.1)

@@ -1,9 +1,9 @@
-use Rattle.std.proofs.Common.{◌-◌, ◌+◌, ◌≡◌, [], ◌∷◌, ◌++◌, length, length-append, length-set, take, drop, map, sum, refl, subst, ◌∙◌, arith}
+use Rattle.std.proofs.Common.{◌-◌, ◌+◌, ◌≡◌, [], ◌∷◌, ◌++◌, length, length-append, length-set, take, drop, refl, subst, ◌∙◌, arith}
 use Rattle.std.proofs.lemmas.List.{take_rest}
 use Rattle.ion_model.specs.Measures.{field_of}
 use Rattle.ion_visiting.specs.declared.bracket.Bracket.TheVariants as brackets
 use Rattle.ion_text.specs.laws.reading.complete.Complete.{field_depths}
-use Rattle.ion_text.proofs.Walking.{FieldsGone, between_gone, field_nodes, gone_none, octet_behind}
+use Rattle.ion_text.proofs.Walking.{FieldsGone, between_gone, gone_none, octet_behind}
 use Rattle.std.proofs.lemmas.Option.{slice_get_within}
 use Rattle.ion_text.proofs.Reordered.{field_on, fields_paired, pair_more, pair_none}
 use Rattle.ion_text.proofs.reader.paired_fields.pair_fields.Goals as goal
@@ -27,7 +27,7 @@ returns-then-many-slots c =
     let rest = take (length octets - at) (drop at octets) in
     let close = octet_behind octets rest at j 125 (take_rest octets at) (c.in_ok-between.ensures.close c.if-closes.true) in
     let gone = between_gone c.args.level octets rest at c.args.tally.now c.loop-many.tally c.walk_between.new.tally (take_rest octets at) brackets.Fields ms
-    c.loop-many.behind between.0 (field_depths ms) (sum (map field_nodes ms)) c.loop-many.invariant.gone j between.2 in
+    c.loop-many.behind between.0 (field_depths ms) c.loop-many.invariant.gone j between.2 in
     fields_paired c.args.level octets (at + j) c.args.tally.now c.walk_between.new.tally close.0 ms between.0 gone close.1 c.args.slots.now c.loop-many.taken
     c.loop-many.invariant.pairs (c.loop-many.invariant.long ∙ c.if-many-slots.true)
 
@@ -48,7 +48,7 @@ loop-many-preserved c =
     let partner = c.in_ok-place.ensures in
     let m = field_of found.name.name found.value.value in
     let gone = between_gone c.args.level octets (take (length octets - at) (drop at octets)) at c.args.tally.now c.loop-many.tally c.walk_between.new.tally
-    (take_rest octets at) brackets.Fields ms c.loop-many.behind between.0 (field_depths ms) (sum (map field_nodes ms)) c.loop-many.invariant.gone j between.2 in
+    (take_rest octets at) brackets.Fields ms c.loop-many.behind between.0 (field_depths ms) c.loop-many.invariant.gone j between.2 in
     let long = c.loop-many.invariant.long in
     let more : length (ms ++ m ∷ []) ≡ length ms + 1 = length-append ms (m ∷ []) in
     record {

@@ -1,11 +1,11 @@
-use Rattle.std.proofs.Common.{rules, ◌<◌, ◌+◌, ◌-◌, [], ◌∷◌, ◌++◌, length, take, drop, map, sum, false, subst, arith}
+use Rattle.std.proofs.Common.{rules, ◌<◌, ◌+◌, ◌-◌, [], ◌∷◌, ◌++◌, length, take, drop, false, subst, arith}
 use Rattle.std.proofs.lemmas.List.{take_rest}
-use Rattle.ion_model.specs.Measures.{nodes, field_of}
+use Rattle.ion_model.specs.Measures.{field_of}
 use Rattle.ion_visiting.specs.Visits.{no_items, one_item, no_fields, one_field}
 use Rattle.ion_visiting.specs.declared.bracket.Bracket.TheVariants as brackets
 use Rattle.ion_text.specs.declared.state.Listing.TheVariants as listings
 use Rattle.ion_text.specs.laws.reading.complete.Complete.{depths, field_depths}
-use Rattle.ion_text.proofs.Walking.{gone_none, between_gone, octet_behind, field_nodes, ListGone, FieldsGone, item_value_on, name_on, field_value_on}
+use Rattle.ion_text.proofs.Walking.{gone_none, between_gone, octet_behind, ListGone, FieldsGone, item_value_on, name_on, field_value_on}
 use Rattle.ion_text.proofs.Visited.{containers_visited, item_annotated_visited, item_bare_visited, container_visited, list_visited, sexp_visited, fields_visited}
 use Rattle.ion_text.proofs.reader.walks.+walk.Goals as goal
 
@@ -65,7 +65,7 @@ walk_list-returns-then-closes g t c =
     let close = octet_behind octets rest at j 93 (take_rest octets at) (c.in_ok-between.ensures.close c.if-closes.true) in
     list_visited g.T.TextVisitor.visits c.args.level octets (at + j) c.args.tally.now c.walk_between.new.tally close.0 _ _ vs between.0
     (between_gone c.args.level octets rest at c.args.tally.now c.loop.tally c.walk_between.new.tally (take_rest octets at) brackets.List vs c.loop.behind
-    between.0 (depths vs) (sum (map nodes vs)) c.loop.invariant.gone j between.2)
+    between.0 (depths vs) c.loop.invariant.gone j between.2)
     close.1 c.loop.invariant.visited
 
 pub walk_list-loop-init : goal.walk_list-loop-init
@@ -83,7 +83,7 @@ walk_list-loop-preserved g t c =
     let vs = c.loop.invariant.values in
     let between = c.in_ok-between.ensures.walked in
     let gone = between_gone c.args.level octets (take (length octets - at) (drop at octets)) at c.args.tally.now c.loop.tally c.walk_between.new.tally
-    (take_rest octets at) brackets.List vs c.loop.behind between.0 (depths vs) (sum (map nodes vs)) c.loop.invariant.gone j between.2 in
+    (take_rest octets at) brackets.List vs c.loop.behind between.0 (depths vs) c.loop.invariant.gone j between.2 in
     record {
       values = vs ++ c.in_ok-value.ensures.walked.value ∷ [];
       gone = item_value_on c.args.level octets (take (length octets - (at + j)) (drop (at + j) octets)) (at + j) c.args.tally.now c.walk_between.new.tally
@@ -105,7 +105,7 @@ walk_sexp-returns-then-closes g t c =
     let close = octet_behind octets rest at j 41 (take_rest octets at) (c.in_ok-between.ensures.close c.if-closes.true) in
     sexp_visited g.T.TextVisitor.visits c.args.level octets (at + j) c.args.tally.now c.walk_between.new.tally close.0 _ _ vs
     (between_gone c.args.level octets rest at c.args.tally.now c.loop.tally c.walk_between.new.tally (take_rest octets at) brackets.Sexp vs false
-    between.0 (depths vs) (sum (map nodes vs)) c.loop.invariant.gone j between.2)
+    between.0 (depths vs) c.loop.invariant.gone j between.2)
     close.1 c.loop.invariant.visited
 
 pub walk_sexp-loop-init : goal.walk_sexp-loop-init
@@ -123,7 +123,7 @@ walk_sexp-loop-preserved g t c =
     let vs = c.loop.invariant.values in
     let between = c.in_ok-between.ensures.walked in
     let gone = between_gone c.args.level octets (take (length octets - at) (drop at octets)) at c.args.tally.now c.loop.tally c.walk_between.new.tally
-    (take_rest octets at) brackets.Sexp vs false between.0 (depths vs) (sum (map nodes vs)) c.loop.invariant.gone j between.2 in
+    (take_rest octets at) brackets.Sexp vs false between.0 (depths vs) c.loop.invariant.gone j between.2 in
     record {
       values = vs ++ c.in_ok-value.ensures.walked.value ∷ [];
       gone = item_value_on c.args.level octets (take (length octets - (at + j)) (drop (at + j) octets)) (at + j) c.args.tally.now c.walk_between.new.tally
@@ -143,7 +143,7 @@ walk_struct-returns-then-closes g t c =
     let close = octet_behind octets rest at j 125 (take_rest octets at) (c.in_ok-between.ensures.close c.if-closes.true) in
     fields_visited g.T.TextVisitor.visits c.args.level octets (at + j) c.args.tally.now c.walk_between.new.tally close.0 _ _ ms between.0
     (between_gone c.args.level octets rest at c.args.tally.now c.loop.tally c.walk_between.new.tally (take_rest octets at) brackets.Fields ms c.loop.behind
-    between.0 (field_depths ms) (sum (map field_nodes ms)) c.loop.invariant.gone j between.2)
+    between.0 (field_depths ms) c.loop.invariant.gone j between.2)
     close.1 c.loop.invariant.visited
 
 pub walk_struct-loop-init : goal.walk_struct-loop-init
@@ -163,7 +163,7 @@ walk_struct-loop-preserved g t c =
     let ms = c.loop.invariant.fields in
     let between = c.in_ok-between.ensures.walked in
     let gone = between_gone c.args.level octets (take (length octets - at) (drop at octets)) at c.args.tally.now c.loop.tally c.walk_between.new.tally
-    (take_rest octets at) brackets.Fields ms c.loop.behind between.0 (field_depths ms) (sum (map field_nodes ms)) c.loop.invariant.gone j between.2 in
+    (take_rest octets at) brackets.Fields ms c.loop.behind between.0 (field_depths ms) c.loop.invariant.gone j between.2 in
     let key = name_on c.args.level octets (take (length octets - (at + j)) (drop (at + j) octets)) (at + j) c.args.tally.now c.walk_between.new.tally
     c.walk_name.new.tally (take_rest octets (at + j)) ms
     (subst (λ b. FieldsGone c.args.level octets (at + j) c.args.tally.now c.walk_between.new.tally ms b) (between.1 c.if-closes.false) gone) i

@@ -15,8 +15,6 @@ returns-clause-walked c =
   where
     resting_past : Place → Tally
     resting_past p = record {
-      kind = c.args.tally.now.kind;
       level = c.args.tally.now.level;
-      nodes = c.args.tally.now.nodes;
       rest = past_token p c.args.tally.now.rest (kinds.Mark marks.Comma) 1;
     }

@@ -1,13 +1,16 @@
-use Rattle.std.proofs.Common.{rules, ◌≡◌, ◌-◌, ◌+◌, ◌<◌, true, Err, length, take, drop, [], arith, ap, sym, ◌∙◌, subst, refl}
+use Rattle.std.proofs.Common.{rules, ◌≡◌, ◌-◌, ◌+◌, ◌<◌, ℕ, suc, List, true, Err, length, take, drop, [], arith, ap, sym, ◌∙◌, subst, refl, length-drop}
+use Rattle.std.proofs.lemmas.List.{take_rest}
+use Rattle.std.proofs.Math.Seq.{drop-cons}
 use Rattle.std.specs.Option.{is_some}
 use Rattle.ion_atoms.specs.declared.refusal.Refusal.{Refusal}
 use Rattle.ion_atoms.specs.declared.refusal.Reason.TheVariants as reasons
 use Rattle.ion_tokens.specs.machine.Views.{scanned}
 use Rattle.ion_text.specs.declared.state.Taken.{Taken}
-use Rattle.ion_text.specs.walk.Fronts.{Reached}
+use Rattle.ion_text.specs.walk.Fronts.{IsWithin, Reached}
 use Rattle.ion_text.specs.walk.Holds.{state_of, told}
 use Rattle.ion_text.proofs.Advancing.{led_none, led_on, led_tells, led_leaves, led_second, led_refused, led_end}
 use Rattle.ion_text.proofs.Leading.{begins_some, onward_where}
+use Rattle.ion_text.proofs.WalkRuns.{still_pending}
 use Rattle.ion_text.proofs.walk.TextWalk.advance.Goals as goal
 
 pub loop-i-init : goal.loop-i-init
@@ -18,6 +21,7 @@ loop-i-init g c =
       ran = λ fs ss h. led_none g.V.Visitor.takes fs ss c.args.self.now _ c.args.piece.now c.args.visitor.now h refl;
       used = zero;
       none = refl;
+      still = λ none. (refl, refl);
       fine = c.requires.fine;
       steady = λ x. x;
       setting = record { catalog = refl; limits = refl; failed = refl };
@@ -35,6 +39,7 @@ loop-i-preserved g c =
     let h = c.loop-i.invariant in
     let used = c.in-Ok-default-Uses.ensures.used in
     let had = h.used in
+    let within = subst (λ (t : Taken). IsWithin (length rest) k t) c.in-Ok-default-Uses.field-0-1-is c.in-Ok-default-Uses.ensures.within in
     record {
       i = search rules;
       ran =
@@ -47,6 +52,7 @@ loop-i-preserved g c =
           (c.in-Ok-default-Uses.ensures.took x.frames x.notes x.went.holds));
       used = omega arith;
       none = c.in-Ok-default-Uses.ensures.same.awaited ∙ h.none;
+      still = λ none. absurd (omega (arith, none, within.0));
       fine = c.in-Ok-default-Uses.ensures.fine;
       steady = λ x. c.in-Ok-default-Uses.ensures.steady (h.steady x);
       setting = search rules;
@@ -75,7 +81,7 @@ returns-in-Err-clause-does g c = λ fs ss holds other.
     let m = c.loop-i.self in
     let h = c.loop-i.invariant in
     let x = h.ran fs ss holds in
-    let same = c.with_memory_at.ensures.other other in
+    let same = c.within_piece.ensures.other other in
     led_refused g.V.Visitor.takes first m c.args.piece.now c.loop-i.i fs ss c.args.visitor.now c.loop-i.visitor x
     (ap (λ (b : _). b.now) h.setting.catalog) h.setting.limits h.used c.in-Err.refusal c.loop-i-test.true
     (c.in-Err.ensures.took x.frames x.notes x.went.holds (λ e. other (ap (λ (q : Refusal). q.reason) same ∙ e)))
@@ -126,3 +132,21 @@ returns-clause-does g c = λ fs ss holds.
     led_end g.V.Visitor.takes first m c.args.piece.now c.loop-i.i fs ss c.args.visitor.now c.loop-i.visitor (h.ran fs ss holds)
     (ap (λ (b : _). b.now) h.setting.catalog) h.setting.limits h.used (omega arith) (begins_some first.awaited c.args.piece.now c.requires.begins)
     h.i h.none
+
+pub returns-clause-still : goal.returns-clause-still
+returns-clause-still g c = λ none.
+    let h = c.loop-i.invariant in
+    let size : length c.args.piece.now ≡ 0 = ap (λ (w : List ℕ). length w) none in
+    let at : c.loop-i.i ≡ 0 = let inside = h.i in omega arith in
+    let same = h.still at in
+    still_pending c.args.self.now c.loop-i.self c.args.piece.now c.requires.begins none same.0 same.1 h.none
+
+pub returns-in-Ok-default-Leaves-clause-next : goal.returns-in-Ok-default-Leaves-clause-next
+returns-in-Ok-default-Leaves-clause-next g c =
+    let piece = c.args.piece.now in
+    let i = c.loop-i.i in
+    let k = c.in-Ok-default-Leaves.count in
+    let rest = take (length piece - i) (drop i piece) in
+    let size : length rest ≡ length piece - i = ap (λ (w : List ℕ). length w) (take_rest piece i) ∙ length-drop i piece in
+    let within = subst (λ (t : Taken). IsWithin (length rest) k t) c.in-Ok-default-Leaves.field-0-1-is c.in-Ok-default-Leaves.ensures.within in
+    (drop (suc (i + k)) piece, drop-cons piece (i + k) 0 (omega (arith, size, within)))

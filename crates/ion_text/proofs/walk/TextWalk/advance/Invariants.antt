@@ -14,6 +14,7 @@ invariant-loop-i g l = record {
   ran : (fs : List Frame) (ss : Symbols) → Holds l.fn.self fs ss → LedSo g.V.Visitor.takes fs ss l.fn.self l.self l.piece l.i l.fn.visitor l.visitor;
   used : (scanned l.self.scanner).used ≡ (scanned l.fn.self.scanner).used + l.i;
   none : l.self.awaited ≡ None;
+  still : l.i ≡ 0 → (l.self.stage ≡ l.fn.self.stage) × (l.self.scanner ≡ l.fn.self.scanner);
   fine : IsFine l.self;
   steady : StaysSteady l.fn.self l.self;
   setting : SameSettings l.fn.self l.self;

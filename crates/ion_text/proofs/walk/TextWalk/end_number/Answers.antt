@@ -10,7 +10,7 @@ use Rattle.ion_text.specs.machine.EachToken.{ended, spot_at}
 use Rattle.ion_text.specs.walk.Holds.{Does, SameSetting, setting_of, told}
 use Rattle.ion_text.specs.walk.Strides.{EndsBy}
 use Rattle.ion_text.proofs.LastTokens.{leaves_answer}
-use Rattle.ion_text.proofs.Strides.{number_begins}
+use Rattle.ion_text.proofs.SaidThere.{number_begins}
 use Rattle.ion_text.proofs.walk.TextWalk.end_number.Goals as goal
 
 pub returns-in-Ok-Gives : goal.returns-in-Ok-Gives

@@ -1,4 +1,4 @@
-use Rattle.ion_text.proofs.Strides.{id_waits}
+use Rattle.ion_text.proofs.SaidThere.{id_waits}
 use Rattle.ion_text.proofs.walk.TextWalk.take_dollar.Goals as goal
 
 pub take_known-requires-clause-there : goal.take_known-requires-clause-there

@@ -1,5 +1,5 @@
 use Rattle.ion_tokens.specs.declared.mode.Place.TheVariants as places
-use Rattle.ion_text.proofs.Strides.{id_names}
+use Rattle.ion_text.proofs.SaidThere.{id_names}
 use Rattle.ion_text.proofs.walk.TextWalk.take_dollar_name.Goals as goal
 
 pub take_known_name-requires-clause-there : goal.take_known_name-requires-clause-there

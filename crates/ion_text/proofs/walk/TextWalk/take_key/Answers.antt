@@ -9,7 +9,8 @@ use Rattle.ion_text.specs.declared.state.Frame.{Frame}
 use Rattle.ion_text.specs.machine.EachToken.{named}
 use Rattle.ion_text.specs.walk.Holds.{Does, Holds, told}
 use Rattle.ion_text.specs.walk.Strides.{StridesBy}
-use Rattle.ion_text.proofs.Strides.{begins_name, key_answer}
+use Rattle.ion_text.proofs.SaidThere.{begins_name}
+use Rattle.ion_text.proofs.Strides.{key_answer}
 use Rattle.ion_text.proofs.walk.TextWalk.take_key.Goals as goal
 
 pub returns-in-Ok-Goes : goal.returns-in-Ok-Goes

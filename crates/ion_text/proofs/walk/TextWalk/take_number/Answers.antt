@@ -8,7 +8,8 @@ use Rattle.ion_text.specs.declared.state.Frame.{Frame}
 use Rattle.ion_text.specs.machine.EachToken.{Symbols, ended}
 use Rattle.ion_text.specs.walk.Holds.{Does, Holds, setting_of, spot_of, told}
 use Rattle.ion_text.specs.walk.Strides.{StridesBy}
-use Rattle.ion_text.proofs.Strides.{number_begins, value_answer, value_place}
+use Rattle.ion_text.proofs.SaidThere.{number_begins}
+use Rattle.ion_text.proofs.Strides.{value_answer, value_place}
 use Rattle.ion_text.proofs.walk.TextWalk.take_number.Goals as goal
 
 pub returns-in-Ok-Goes : goal.returns-in-Ok-Goes

@@ -1,7 +1,7 @@
 use Rattle.std.proofs.Common.{Ok, ap, sym, ◌∙◌}
 use Rattle.ion_model.specs.declared.value.Payload.TheVariants as payloads
 use Rattle.ion_visiting.specs.Parts.{payload_of}
-use Rattle.ion_text.proofs.Strides.{begins_waits}
+use Rattle.ion_text.proofs.SaidThere.{begins_waits}
 use Rattle.ion_text.proofs.walk.TextWalk.take_rare_note.Goals as goal
 
 pub take_known_note-requires-clause-there : goal.take_known_note-requires-clause-there

@@ -7,7 +7,8 @@ use Rattle.ion_text.specs.declared.state.Frame.{Frame}
 use Rattle.ion_text.specs.machine.EachToken.{Symbols, ended}
 use Rattle.ion_text.specs.walk.Holds.{Does, Holds, setting_of, spot_of, told}
 use Rattle.ion_text.specs.walk.Strides.{StridesBy}
-use Rattle.ion_text.proofs.Strides.{part_begins, value_answer}
+use Rattle.ion_text.proofs.SaidThere.{part_begins}
+use Rattle.ion_text.proofs.Strides.{value_answer}
 use Rattle.ion_text.proofs.walk.TextWalk.take_whole.Goals as goal
 
 pub returns-in-Ok-Goes : goal.returns-in-Ok-Goes

@@ -5,7 +5,8 @@ use Rattle.ion_text.specs.declared.state.Effect.{Effect}
 use Rattle.ion_text.specs.declared.state.Frame.{Frame}
 use Rattle.ion_text.specs.machine.EachToken.{Symbols, ended}
 use Rattle.ion_text.specs.walk.Holds.{Does, Holds, setting_of, spot_of, told}
-use Rattle.ion_text.proofs.Strides.{begins_waits, part_begins, word_answer}
+use Rattle.ion_text.proofs.SaidThere.{begins_waits, part_begins}
+use Rattle.ion_text.proofs.Strides.{word_answer}
 use Rattle.ion_text.proofs.walk.TextWalk.take_word.Goals as goal
 
 pub returns-in-Ok-Goes : goal.returns-in-Ok-Goes

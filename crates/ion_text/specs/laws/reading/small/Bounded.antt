@@ -348,7 +348,7 @@ module _ (g : Catalog) (l : Limits) where
       → held_in m.scan ≤ l.item
   led_kept u s m looked h steady = let b = led_stood u s m h in stood_kept g l u (plain s) m b (led_within u s m h) looked steady
 
-  ran_kept : (u : List ℕ) (s : List (Value × ℕ)) (m : State) (awaited : Option ℕ) (looked : ℕ) → Ran g l u s m awaited → IsSteady m.scan looked
+  pub ran_kept : (u : List ℕ) (s : List (Value × ℕ)) (m : State) (awaited : Option ℕ) (looked : ℕ) → Ran g l u s m awaited → IsSteady m.scan looked
       → held_in m.scan ≤ l.item
   ran_kept u s m None looked h steady = led_kept u s m looked h steady
   ran_kept u s m (Some o) looked h steady = by left
