@@ -2,6 +2,7 @@
 use Rattle.std.proofs.Common.{◌≡◌, ℕ, ◌+◌, List, [], ◌∷◌, ◌++◌, length, ap, sym, ◌∙◌, arith, append-nil, append_assoc}
 use Rattle.ion_model.specs.declared.value.Value.{Value}
 use Rattle.ion_model.specs.Outlines.{outline_of}
+use Rattle.ion_visiting.specs.Events.{Event}
 use Rattle.ion_model.specs.declared.outline.Outline.{Outline}
 use Rattle.std.proofs.lemmas.List.{map-append, length-map}
 use Rattle.ion_symtab.specs.Trace.{plain}
@@ -13,8 +14,9 @@ use Rattle.ion_symtab.specs.declared.inlet.Inlet.{Ghosts as Inlet}
 use Rattle.ion_symtab.specs.declared.items.Items.{Ghosts as Items}
 use Rattle.ion_symtab.specs.declared.outlet.Outlet.{Ghosts as Outlet}
 use Rattle.ion_streams.specs.Listing.{line_of, lines_from, lines_of, accepted_line, ShowsSoFar, in_reading, at_refusal, at_end}
-use Rattle.ion_streams.specs.reading.Read.{left_of}
+use Rattle.ion_streams.specs.reading.Read.{left_of, GaveSoFar}
 use Rattle.ion_streams.specs.reading.Standing.{Stood}
+use Rattle.ion_streams.specs.reading.Telling.{telling}
 use Rattle.ion_streams.specs.declared.source.Standing.{Standing}
 use Rattle.ion_streams.specs.declared.source.Standing.TheVariants as TheStanding
 
@@ -36,11 +38,33 @@ line_next given v total o n count told =
     ∙ sym (append-nil (line_of (1 + length (plain given)) (outline_of v)))) in
     ap (λ x. lines_of (plain given) ++ x) line ∙ (sym (lines_more 1 (plain given) (v ∷ [])) ∙ ap lines_of (sym all))
 
-module _ {S X T : Type 0} (R : Inlet S) (I : Items X) (W : Outlet T) (g : Catalog) (l : Limits) where
-  -- a front of the lines so far, wherever the document stands
-  pub so_far : (first now : S) (old new : T) (place : Standing X) (s : List Value) → Stood R I g l first now place s
+-- where a reader told what octets are, one stands for them
+abbrev pub OneStands : {X : Type 0} → Items X → Type 0
+OneStands {X} I = (r : X) (u : List ℕ) (s : List (Value × ℕ)) (es : List Event) → I.told r u s es
+    → (q : X) × I.stands q u s × (I.catalog q ≡ I.catalog r) × (I.limits q ≡ I.limits r)
+
+-- so where a reader told these values so far, one gave them
+pub gave_told : {S X : Type 0} (R : Inlet S) (I : Items X) (g : Catalog) (l : Limits) (first now : S) (s : List Value) (es : List Event)
+    → OneStands I → GaveSoFar R (telling I es) g l first now s → GaveSoFar R I g l first now s
+gave_told R I g l first now s es stands h =
+    let each = h.gave.each in
+    let q = stands h.items each.u h.gave.given es each.stood in
+    record {
+      items = q.0;
+      left = h.left;
+      ended = h.ended;
+      gave = record {
+        given = h.gave.given;
+        each = record { u = each.u; heard = each.heard; stood = q.1; under = q.2 ∙ each.under; within = q.3 ∙ each.within };
+        values = h.gave.values;
+      };
+    }
+
+module _ {S X T : Type 0} (R : Inlet S) (I : Items X) (W : Outlet T) (g : Catalog) (l : Limits) (stands : OneStands I) where
+  -- a front of the lines so far, wherever the document stands between two values
+  pub so_far : (first now : S) (old new : T) (place : Standing X) (s : List Value) → Stood R (telling I []) g l first now place s
       → TookFront W.took W.written old new (lines_of s) → ShowsSoFar R I W g l first now old new
   so_far first now old new (TheStanding.Open source) s h front =
-      in_reading s (record { items = source.items; left = left_of source; ended = source.ended; gave = h }) front
+      in_reading s (gave_told R I g l first now s [] stands (record { items = source.items; left = left_of source; ended = source.ended; gave = h })) front
   so_far first now old new (TheStanding.Refused refusal) s h front = at_refusal s refusal h front
   so_far first now old new TheStanding.Ended s h front = at_end s h (Front-more W.took W.written old new (lines_of s) (accepted_line (length s)) front)

@@ -13,7 +13,7 @@ use Rattle.ion_symtab.specs.Told.{Told}
 use Rattle.ion_symtab.specs.Heard.{AnsweredEnd, Heard}
 use Rattle.ion_symtab.specs.Cause.{WereMade}
 use Rattle.ion_streams.specs.reading.Read.{between, left_of, Begins, IsReady, HasToAsk, NoneFailed, NoReadFailed, Reads}
-use Rattle.ion_streams.specs.reading.Gathered.{IsWidened, HasRoom, CanJoin, Gathers}
+use Rattle.ion_streams.specs.reading.Gathered.{IsWidened, HasRoom, CanJoin, Fills, Gathers}
 use Rattle.ion_streams.specs.declared.source.Source.{Source}
 use Rattle.ion_streams.proofs.Steps.{reads_filled}
 
@@ -98,6 +98,13 @@ room_widened before wide after w h =
       reads = h.reads ∙ w.reads;
       ended = h.ended ∙ w.ended;
     }
+
+-- more octets were read where room was made first
+pub fills_room : {S X : Type 0} (R : Inlet S) (old now : S) (before room after : Source X) (more : List ℕ) → before.ended ≡ false
+    → HasRoom before room
+    → Heard R old now more after.ended → left_of after ≡ left_of room ++ more → after.items ≡ room.items → Fills R old now before after
+fills_room R old now before room after more going moved heard left items =
+    record { going = going; more = more; heard = heard; left = left ∙ ap (λ x. x ++ more) moved.left; items = items ∙ moved.items }
 
 -- octets that were moved to the front are the same
 pub between_moved : (piece : List ℕ) (at end : ℕ) → at ≤ end → end ≤ length piece → between (paste piece 0 (drop at piece) (end - at)) 0 (end - at)

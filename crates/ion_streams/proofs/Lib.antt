@@ -5,6 +5,7 @@ pub mod Endings
 pub mod Steps
 pub mod Wholes
 pub mod Passes
+pub mod Telling
 pub mod Driven
 pub mod Shown
 pub mod Courses

@@ -44,7 +44,7 @@ module _ {S X A : Type 0} (of : Value → A) (R : Inlet S) (I : Items X) (g : Ca
       → Reaches of R I g l first now after given (AValue found)
   passes_on first now source after given found h go under within ended =
       let w = go h.u given h.stood in
-      one_more first now after given found w.0 w.1 (reads_by R I g l first now source after given w.0 h w.2 under within ended)
+      one_more first now after given found w.0 w.1 (reads_by R I g l I first now source after given w.0 h w.2 under within ended)
 
   -- the end gave what is told
   pub gave_last : (first now : S) (place : Standing X) (given : List (Value × ℕ)) (last : Option (Value × ℕ)) → IfRefused place (last ≡ None)

@@ -1,5 +1,5 @@
 -- How far a document has been read, step by step.
-use Rattle.std.proofs.Common.{◌≡◌, ℕ, ◌+◌, ◌^◌, ◌≤◌, List, [], ◌∷◌, ◌++◌, length, refl, ap, sym, subst, ◌∙◌, arith, Bool, true, false, Option, Some, None, option_map, option_to_list, append-nil, append_assoc, Result, Ok, Err, OnErr}
+use Rattle.std.proofs.Common.{◌≡◌, ◌⊎◌, inl, inr, ℕ, ◌+◌, ◌^◌, ◌≤◌, List, [], ◌∷◌, ◌++◌, length, refl, ap, sym, subst, ◌∙◌, arith, Bool, true, false, Option, Some, None, option_map, option_to_list, append-nil, append_assoc, Result, Ok, Err, OnErr}
 use Rattle.std.proofs.lemmas.List.{map-append}
 use Rattle.ion_model.specs.declared.value.Value.{Value}
 use Rattle.ion_atoms.specs.declared.refusal.Refusal.{Refusal}
@@ -13,6 +13,7 @@ use Rattle.ion_symtab.specs.laws.Heard.{Heard-nil, Heard-trans, Heard-end}
 use Rattle.ion_symtab.specs.laws.Causes.{WereMade-nil}
 use Rattle.ion_streams.specs.Formats.{format_of}
 use Rattle.ion_streams.specs.reading.Read.{left_of, Begins, IsReady, IsWithin, Went, GaveEach, GaveSoFar, Reads, ReadsEach}
+use Rattle.ion_streams.specs.reading.Gathered.{Fills, Refills}
 use Rattle.ion_streams.specs.Outcomes.{EndsWell, EndsRefused, ToldEach, ToldRefusedEach}
 use Rattle.ion_streams.specs.reading.Standing.{IfRefused, MatchClosed, Stood, StoodEach}
 use Rattle.ion_streams.specs.declared.source.Source.{Source}
@@ -37,12 +38,12 @@ plain_next given found value s values same =
     ∙ ap (λ (x : Option Value). s ++ option_to_list x) same)
 
 module _ {S X : Type 0} (R : Inlet S) (I : Items X) (g : Catalog) (l : Limits) where
-  -- some octets were used
-  pub reads_by : (first now : S) (source after : Source X) (given : List (Value × ℕ)) (value : Option Value) (h : ReadsEach R I g l first now source given)
-      → Went I h.u given (left_of source) after value →
-      I.catalog after.items ≡ I.catalog source.items → I.limits after.items ≡ I.limits source.items → after.ended ≡ source.ended
-      → ReadsEach R I g l first now after (given ++ given_at value after.used)
-  reads_by first now source after given value h w under within ended =
+  -- some octets were used; of the reader something else may be known behind them
+  pub reads_by : (J : Items X) (first now : S) (source after : Source X) (given : List (Value × ℕ)) (value : Option Value)
+      (h : ReadsEach R I g l first now source given) → Went J h.u given (left_of source) after value →
+      J.catalog after.items ≡ I.catalog source.items → J.limits after.items ≡ I.limits source.items → after.ended ≡ source.ended
+      → ReadsEach R J g l first now after (given ++ given_at value after.used)
+  reads_by J first now source after given value h w under within ended =
       record {
         u = w.to;
         heard = subst (λ (x : List ℕ). Heard R first now x after.ended) (sym w.octets)
@@ -58,7 +59,7 @@ module _ {S X : Type 0} (R : Inlet S) (I : Items X) (g : Catalog) (l : Limits) w
       I.catalog after.items ≡ I.catalog source.items → I.limits after.items ≡ I.limits source.items → after.ended ≡ source.ended
       → ReadsEach R I g l first now after (given ++ given_at value after.used)
   reads_went first now source after given value h go under within ended =
-      reads_by first now source after given value h (go h.u given h.stood) under within ended
+      reads_by I first now source after given value h (go h.u given h.stood) under within ended
 
   -- the device was asked again, and more octets stand behind those that were left
   pub reads_filled : (first now new : S) (source after : Source X) (more : List ℕ) (ended : Bool) (given : List (Value × ℕ))
@@ -87,6 +88,21 @@ module _ {S X : Type 0} (R : Inlet S) (I : Items X) (g : Catalog) (l : Limits) w
   gave_so_far first now items left ended given s values each =
       record { items = items; left = left; ended = ended; gave = record { given = given; each = each; values = values } }
 
+  -- where the device told nothing more, the same values were given so far
+  pub kept_so_far : (first now new : S) (source : Source X) (s : List Value) → Reads R I g l first now source s → source.ended ≡ false
+      → Heard R now new [] false → GaveSoFar R I g l first new s
+  kept_so_far first now new source s h going heard =
+      gave_so_far first new source.items (left_of source) false h.given s h.values (reads_kept first now new source h.given h.each going heard)
+
+  -- the device may have been asked again
+  pub reads_refilled : (first old now : S) (before after : Source X) (given : List (Value × ℕ)) → Refills R old now before after
+      → ReadsEach R I g l first old before given → ReadsEach R I g l first now after given
+  reads_refilled first old now before after given h reads = go h.either
+    where
+      go : ((now ≡ old) × (after ≡ before)) ⊎ Fills R old now before after → ReadsEach R I g l first now after given
+      go (inl both) = rw (both.0, both.1) reads
+      go (inr f) = reads_filled first old now before after f.more after.ended given reads f.going f.heard f.left f.items
+
   -- a step refused
   pub reads_failed : (first now : S) (source : Source X) (given : List (Value × ℕ)) (r : Refusal) → ReadsEach R I g l first now source given →
       ((u : List ℕ) (given : List (Value × ℕ)) → I.stands source.items u given → (more : List ℕ)
@@ -97,22 +113,22 @@ module _ {S X : Type 0} (R : Inlet S) (I : Items X) (g : Catalog) (l : Limits) w
   heard_all : (first now : S) (u rest : List ℕ) → Heard R first now (u ++ rest) true → rest ≡ [] → Heard R first now u true
   heard_all first now u rest heard empty = subst (λ (x : List ℕ). Heard R first now x true) (ap (λ x. u ++ x) empty ∙ append-nil u) heard
 
-  reads_ended : (first now : S) (items : X) (left : List ℕ) (given all : List (Value × ℕ)) → GaveEach R I g l first now items left true given → left ≡ [] →
-      ((u : List ℕ) → I.stands items u given → EndsWell (format_of I g l) u all) → ToldEach R (format_of I g l) first now all
-  reads_ended first now items left given all h empty go =
+  pub reads_ended : (first now : S) (items : X) (left : List ℕ) (given all : List (Value × ℕ)) (h : GaveEach R I g l first now items left true given)
+      → left ≡ [] → EndsWell (format_of I g l) h.u all → ToldEach R (format_of I g l) first now all
+  reads_ended first now items left given all h empty ends =
       let heard = heard_all first now h.u left h.heard empty in
-      record { octets = h.u; told = Heard-end R first now h.u heard; heard = heard; ends = go h.u h.stood }
+      record { octets = h.u; told = Heard-end R first now h.u heard; heard = heard; ends = ends }
 
-  reads_stopped : (first now : S) (items : X) (left : List ℕ) (given : List (Value × ℕ)) (r : Refusal) → GaveEach R I g l first now items left true given
-      → left ≡ [] →
-      ((u : List ℕ) → I.stands items u given → EndsRefused (format_of I g l) u given r) → ToldRefusedEach R (format_of I g l) first now given r
+  pub reads_stopped : (first now : S) (items : X) (left : List ℕ) (given : List (Value × ℕ)) (r : Refusal)
+      (h : GaveEach R I g l first now items left true given)
+      → left ≡ [] → EndsRefused (format_of I g l) h.u given r → ToldRefusedEach R (format_of I g l) first now given r
   reads_stopped first now items left given r h empty refused =
       record {
         octets = h.u;
         ended = true;
         heard = heard_all first now h.u left h.heard empty;
         ends = λ more none. subst (λ (x : List ℕ). EndsRefused (format_of I g l) x given r) (sym (ap (λ x. h.u ++ x) (none refl) ∙ append-nil h.u))
-            (refused h.u h.stood);
+            refused;
       }
 
   -- some octets were used, and gave no value
@@ -125,29 +141,25 @@ module _ {S X : Type 0} (R : Inlet S) (I : Items X) (g : Catalog) (l : Limits) w
 
   -- the end of a document whose octets were all used
   pub last_gives : (first now : S) (source : Source X) (given : List (Value × ℕ)) (place : Standing X) (last : Option (Value × ℕ)) → left_of source ≡ [] →
-      ((u : List ℕ) (given : List (Value × ℕ)) → I.stands source.items u given
-      → MatchClosed place (EndsWell (format_of I (I.catalog source.items) (I.limits source.items)) u (given ++ option_to_list last))
-      (λ r. (last ≡ None) × EndsRefused (format_of I (I.catalog source.items) (I.limits source.items)) u given r)) →
-      GaveEach R I g l first now source.items (left_of source) true given → StoodEach R I g l first now place (given ++ option_to_list last)
-  last_gives first now source given (TheStanding.Open after) last empty ends h = absurd (ends h.u given h.stood)
-  last_gives first now source given TheStanding.Ended last empty ends h =
-      let ended = rw (h.under, h.within) at ends in
-      reads_ended first now source.items (left_of source) given (given ++ option_to_list last) h empty (λ u stood. ended u given stood)
-  last_gives first now source given (TheStanding.Refused r) last empty ends h =
-      let ended = rw (h.under, h.within) at ends in
-      let nothing : option_to_list last ≡ [] = ap (λ (x : Option (Value × ℕ)). option_to_list x) (ended h.u given h.stood).0 in
+      (h : GaveEach R I g l first now source.items (left_of source) true given) →
+      MatchClosed place (EndsWell (format_of I (I.catalog source.items) (I.limits source.items)) h.u (given ++ option_to_list last))
+      (λ r. (last ≡ None) × EndsRefused (format_of I (I.catalog source.items) (I.limits source.items)) h.u given r) →
+      StoodEach R I g l first now place (given ++ option_to_list last)
+  last_gives first now source given (TheStanding.Open after) last empty h ends = absurd ends
+  last_gives first now source given TheStanding.Ended last empty h ends =
+      reads_ended first now source.items (left_of source) given (given ++ option_to_list last) h empty (rw (h.under, h.within) at ends)
+  last_gives first now source given (TheStanding.Refused r) last empty h ends =
+      let nothing : option_to_list last ≡ [] = ap (λ (x : Option (Value × ℕ)). option_to_list x) ends.0 in
       subst (λ (x : List (Value × ℕ)). ToldRefusedEach R (format_of I g l) first now x r) (sym (ap (λ x. given ++ x) nothing ∙ append-nil given))
-      (reads_stopped first now source.items (left_of source) given r h empty (λ u stood. (ended u given stood).1))
+      (reads_stopped first now source.items (left_of source) given r h empty (rw (h.under, h.within) at ends.1))
 
   -- one that is refused gives nothing
-  pub last_refused : (first now : S) (source : Source X) (given : List (Value × ℕ)) (place : Standing X) (last : Option (Value × ℕ)) →
-      ((u : List ℕ) (given : List (Value × ℕ)) → I.stands source.items u given
-      → MatchClosed place (EndsWell (format_of I (I.catalog source.items) (I.limits source.items)) u (given ++ option_to_list last))
-      (λ r. (last ≡ None) × EndsRefused (format_of I (I.catalog source.items) (I.limits source.items)) u given r)) →
-      GaveEach R I g l first now source.items (left_of source) true given → IfRefused place (last ≡ None)
-  last_refused first now source given (TheStanding.Open after) last ends h = tt
-  last_refused first now source given TheStanding.Ended last ends h = tt
-  last_refused first now source given (TheStanding.Refused r) last ends h = (ends h.u given h.stood).0
+  pub last_refused : (u : List ℕ) (source : Source X) (given : List (Value × ℕ)) (place : Standing X) (last : Option (Value × ℕ)) →
+      MatchClosed place (EndsWell (format_of I (I.catalog source.items) (I.limits source.items)) u (given ++ option_to_list last))
+      (λ r. (last ≡ None) × EndsRefused (format_of I (I.catalog source.items) (I.limits source.items)) u given r) → IfRefused place (last ≡ None)
+  last_refused u source given (TheStanding.Open after) last ends = tt
+  last_refused u source given TheStanding.Ended last ends = tt
+  last_refused u source given (TheStanding.Refused r) last ends = ends.0
 
   -- the values alone, wherever the document stands
   pub stood_plain : (first now : S) (place : Standing X) (given : List (Value × ℕ)) → StoodEach R I g l first now place given

@@ -26,7 +26,8 @@ pub record IsTaken {X : Type 0} (I : Items X) (g : Catalog) (l : Limits) (octets
   pub begins : Begins (I.awaits items) (drop used octets)
   pub inside : used ≤ length octets
 
-plain_at : (given : List (Value × ℕ)) (value : Option Value) (total : ℕ) (s : List Value) → plain given ≡ s → plain (given ++ given_at value total) ≡ s
+pub plain_at : (given : List (Value × ℕ)) (value : Option Value) (total : ℕ) (s : List Value) → plain given ≡ s
+    → plain (given ++ given_at value total) ≡ s
     ++ option_to_list value
 plain_at given None total s e = ap plain (append-nil given) ∙ (e ∙ sym (append-nil s))
 plain_at given (Some v) total s e = plain_next given (Some (v, total)) (Some v) s e refl

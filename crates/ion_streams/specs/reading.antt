@@ -5,3 +5,4 @@ pub mod Gathered
 pub mod Reached
 pub mod Courses
 pub mod Alongside
+pub mod Telling

@@ -1,12 +1,11 @@
-//! What is asked of the values of a document: each itself, its outline, or only that there is one.
+//! What is asked of the values of a document where they are built: each itself.
 ghost use Rattle.std.specs.Prelude.{◌≡◌, ℕ, ◌+◌, ◌<◌, ◌^◌, List, ◌∷◌, ◌++◌, length, take, Option, Result, IfOk, IfErr, IfSome, IsNone, option_map};
-ghost use Rattle.ion_model.specs.Outlines.{outline_of};
 ghost use Rattle.ion_model.specs.declared.value.Value.{Value};
 ghost use Rattle.ion_symtab.specs.Trace.{Answers, given_at};
 ghost use Rattle.ion_symtab.specs.Steps.{StepsOver, RefusesBy};
 
-use ion_model::{Outline, Refusal, Value};
-use ion_symtab::{Items, Passed, Step};
+use ion_model::{Refusal, Value};
+use ion_symtab::{Items, Step};
 
 /// What is told of a value where it is asked for.
 pub trait Asked: Sized {
@@ -51,41 +50,5 @@ impl Asked for Value {
 
     fn tell(value: Value) -> Value {
         value
-    }
-}
-
-impl Asked for () {
-    ghost of = { λ v. tt };
-
-    // (the outline isn't copied, so that its parts needn't come back from memory as a whole)
-    fn take<I: Items>(items: &mut I, piece: &[u8]) -> Result<(usize, Option<()>), Refusal> {
-        match items.pass(piece) {
-            Err(refusal) => Err(refusal),
-            Ok(passed) => match passed.outline {
-                None => Ok((passed.used, None)),
-                Some(_) => Ok((passed.used, Some(()))),
-            },
-        }
-    }
-
-    fn tell(value: Value) {
-        drop(value);
-    }
-}
-
-impl Asked for Outline {
-    ghost of = { outline_of };
-
-    fn take<I: Items>(items: &mut I, piece: &[u8]) -> Result<(usize, Option<Outline>), Refusal> {
-        match items.pass(piece) {
-            Err(refusal) => Err(refusal),
-            Ok(Passed { used, outline }) => Ok((used, outline)),
-        }
-    }
-
-    fn tell(value: Value) -> Outline {
-        let outline = value.outline();
-        drop(value);
-        outline
     }
 }

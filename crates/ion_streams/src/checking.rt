@@ -9,6 +9,7 @@ ghost use Rattle.ion_streams.specs.Outcomes.{AtOneEnd};
 use crate::source::{Source, Standing};
 use ion_model::Refusal;
 use ion_symtab::{Fault, Inlet, Items};
+use ion_visiting::Count;
 use std::alloc::Global;
 
 /// How many values a document has, whose octets `items` reads from `reader` in at most `reads`
@@ -35,8 +36,9 @@ pub fn check_items<I: Items + Drop, R: Inlet>(
 {
     let source = Source::new(alloc, items, reads)?;
     let mut place = Standing::Open(source);
+    let mut visitor = Count::new();
     let mut values: u64 = 0;
-    while let Some(_) = place.advance::<(), R>(reader)? {
+    while let Some(_) = place.advance_by::<Count, R>(reader, &mut visitor)? {
         values += 1;
     }
     Ok(place.answer(values))

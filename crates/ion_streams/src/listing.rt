@@ -12,6 +12,7 @@ ghost use Rattle.ion_streams.specs.Outcomes.{AtOneEnd};
 use crate::source::{Source, Standing};
 use ion_model::{Outline, Refusal};
 use ion_symtab::{Fault, Inlet, Items, Outlet, flushed, write_whole};
+use ion_visiting::Outlining;
 use itoa::Buffer;
 use std::alloc::{AllocError, Global};
 
@@ -122,9 +123,10 @@ pub fn show_items<I: Items + Drop, R: Inlet, W: Outlet>(
     let source = Source::new(alloc, items, reads)?;
     let mut place = Standing::Open(source);
     let mut text = String::new(alloc);
+    let mut visitor = Outlining::new();
     let mut values: u64 = 0;
-    while let Some((outline, _)) = place.advance::<Outline, R>(reader)? {
-        write_line(&mut text, writer, values + 1, outline)?;
+    while let Some(_) = place.advance_by::<Outlining, R>(reader, &mut visitor)? {
+        write_line(&mut text, writer, values + 1, visitor.take())?;
         values += 1;
     }
     let answer = place.answer(values);

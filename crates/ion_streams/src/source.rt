@@ -7,8 +7,8 @@ ghost use Rattle.ion_symtab.specs.declared.limits.Limits.{Limits};
 ghost use Rattle.ion_symtab.specs.Heard.{Heard};
 ghost use Rattle.ion_symtab.specs.Cause.{WereMade, IsReadCause};
 ghost use Rattle.ion_streams.specs.Formats.{format_of};
-ghost use Rattle.ion_streams.specs.reading.Read.{between, left_of, IsReady, HasToAsk, NoneFailed, NoReadFailed, IsWithin, work, Went, GaveEach, Reads, ReadsEach, GaveSoFar, HandedOn, Sought};
-ghost use Rattle.ion_streams.specs.reading.Gathered.{IsWidened, HasRoom, CanJoin, Gathers, GathersAt, IsJoinCause};
+ghost use Rattle.ion_streams.specs.reading.Read.{between, left_of, IsReady, HasToAsk, NoneFailed, NoReadFailed, IsWithin, work, Went, Reads, ReadsEach, GaveSoFar, HandedOn, Sought};
+ghost use Rattle.ion_streams.specs.reading.Gathered.{IsWidened, HasRoom, CanJoin, Fills, Refills, Gathers, GathersAt, IsJoinCause};
 ghost use Rattle.ion_streams.specs.reading.Reached.{IfValue, IfEnd, IsSpent, Reaches};
 ghost use Rattle.ion_streams.specs.Outcomes.{EndsWell, EndsRefused};
 ghost use Rattle.ion_streams.specs.reading.Standing.{IfOpen, IsOpen, IfClosed, MatchClosed, work_of, reads_of, Stood, StoodEach, GaveNext, answered};
@@ -23,6 +23,7 @@ use std::mem;
 
 mod alike;
 mod sizes;
+mod walking;
 
 pub(crate) use alike::pass_alike;
 use sizes::Sizes;
@@ -218,6 +219,7 @@ impl<I: Items + Drop> Source<I> {
         requires may { CanJoin self.old }
         ensures gathers { OnOk result
             (Gathers R.Inlet I.Items reader.old reader.new self.old self.new) }
+        ensures fills { OnOk result (Fills R.Inlet reader.old reader.new self.old self.new) }
         ensures fewer { OnOk result (self.new.reads + 1 ≡ self.old.reads) }
         ensures ends { OnOk result
             (self.new.ended ≡ true → left_of self.new ≡ left_of self.old) }
@@ -229,9 +231,7 @@ impl<I: Items + Drop> Source<I> {
             ≤ length (R.handed reader.old) + 4096 * self.old.reads }
         ensures no_read_failed { OnOk result (R.has_failed reader.new ≡ false) }
         ensures cause { IfErr result (IsJoinCause R.Inlet reader.new) }
-        ensures kept { OnErr result ((g : Catalog) (l : Limits) (first : R) (s : List Value) →
-            Reads R.Inlet I.Items g l first reader.old self.old s →
-            GaveSoFar R.Inlet I.Items g l first reader.new s) }
+        ensures kept { OnErr result (Heard R.Inlet reader.old reader.new [] false) }
     {
         self.widen()?;
         self.make_room();
@@ -317,14 +317,8 @@ impl<I: Items + Drop> Source<I> {
         ensures within { IfOk result (λ more. more ≡ true → (first : R) (reads : ℕ) →
             IsWithin R.Inlet reads first reader.old self.old →
             IsWithin R.Inlet reads first reader.new self.new) }
-        ensures goes_on { IfOk result (λ more. more ≡ true →
-            (g : Catalog) (l : Limits) (first : R) (given : List (Value × ℕ)) →
-            ReadsEach R.Inlet I.Items g l first reader.old self.old given →
-            ReadsEach R.Inlet I.Items g l first reader.new self.new given) }
-        ensures ends { IfOk result (λ more. more ≡ false →
-            (g : Catalog) (l : Limits) (first : R) (given : List (Value × ℕ)) →
-            ReadsEach R.Inlet I.Items g l first reader.old self.old given →
-            GaveEach R.Inlet I.Items g l first reader.new self.new.items (left_of self.new) true given) }
+        ensures refills { OnOk result (Refills R.Inlet reader.old reader.new self.old self.new) }
+        ensures ended { IfOk result (λ more. more ≡ false → self.new.ended ≡ true) }
         ensures spent { IfOk result (λ more. more ≡ false → IsSpent I.Items self.new) }
         ensures grew { HandedOn R.Inlet reader.old reader.new }
         ensures once { R.calls_made reader.new ≤ R.calls_made reader.old + 1 }
@@ -338,9 +332,8 @@ impl<I: Items + Drop> Source<I> {
         ensures cause { IfErr result (λ fault. (first : R) (reads : ℕ) →
             IsWithin R.Inlet reads first reader.old self.old →
             IsReadCause R.Inlet reads first reader.new fault) }
-        ensures kept { OnErr result ((g : Catalog) (l : Limits) (first : R) (s : List Value) →
-            Reads R.Inlet I.Items g l first reader.old self.old s →
-            GaveSoFar R.Inlet I.Items g l first reader.new s) }
+        ensures kept { OnErr result ((self.old.ended ≡ false)
+            × Heard R.Inlet reader.old reader.new [] false) }
     {
         if self.ended {
             return Ok(false);

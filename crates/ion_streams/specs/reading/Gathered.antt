@@ -1,6 +1,7 @@
 -- Pieces that are joined to what is left.
-use Rattle.std.specs.Prelude.{◌≡◌, ℕ, ◌+◌, ◌-◌, ◌<◌, ◌≤◌, ◌⊎◌, ⊤, List, length, true, false}
+use Rattle.std.specs.Prelude.{◌≡◌, ℕ, ◌+◌, ◌-◌, ◌<◌, ◌≤◌, ◌⊎◌, ⊤, List, ◌++◌, length, true, false}
 use Rattle.ion_model.specs.declared.value.Value.{Value}
+use Rattle.ion_symtab.specs.Heard.{Heard}
 use Rattle.ion_symtab.specs.declared.catalog.Catalog.{Catalog}
 use Rattle.ion_symtab.specs.declared.limits.Limits.{Limits}
 use Rattle.ion_symtab.specs.declared.fault.Fault.{Fault}
@@ -40,6 +41,18 @@ pub record CanJoin {X : Type 0} (source : Source X) : Type 0 where
   pub going : source.ended ≡ false
   pub reads : 0 < source.reads
   pub room : source.end - source.at + 4096 ≤ 65536
+
+-- The device handed over more octets, which stand behind those that were left, or answered its end; what takes them up stays as it was.
+pub record Fills {S X : Type 0} (R : Inlet S) (old now : S) (before after : Source X) : Type 0 where
+  pub going : before.ended ≡ false
+  pub more : List ℕ
+  pub heard : Heard R old now more after.ended
+  pub left : left_of after ≡ left_of before ++ more
+  pub items : after.items ≡ before.items
+
+-- the same, or the device wasn't asked and nothing changed
+pub record Refills {S X : Type 0} (R : Inlet S) (old now : S) (before after : Source X) : Type 0 where
+  pub either : ((now ≡ old) × (after ≡ before)) ⊎ Fills R old now before after
 
 -- Octets may have been read behind those that were left: the document gave what it gave before.
 pub record Gathers {S X : Type 0} (R : Inlet S) (I : Items X) (old now : S) (before after : Source X) : Type 0 where

@@ -67,6 +67,12 @@ StoodEach R I g l first now (Open source) given = ReadsEach R I g l first now so
 StoodEach R I g l first now Ended given = ToldEach R (format_of I g l) first now given
 StoodEach R I g l first now (Refused refusal) given = ToldRefusedEach R (format_of I g l) first now given refusal
 
+-- so where the document has ended
+abbrev pub IfEnded : {X : Type 0} → Standing X → Type 0 → Type 0
+IfEnded (Open source) P = Unit {0}
+IfEnded Ended P = P
+IfEnded (Refused refusal) P = Unit {0}
+
 -- so where the document was refused
 abbrev pub IfRefused : {X : Type 0} → Standing X → Type 0 → Type 0
 IfRefused (Open source) P = Unit {0}

@@ -1,6 +1,7 @@
-use Rattle.std.proofs.Common.{◌≡◌, ℕ, ◌+◌, ◌*◌, ◌≤◌, ◌^◌, List, length}
+use Rattle.std.proofs.Common.{◌≡◌, ℕ, ◌+◌, ◌*◌, ◌≤◌, ◌^◌, List, [], length}
 use Rattle.ion_model.specs.declared.value.Value.{Value}
 use Rattle.ion_streams.specs.reading.Standing.{work_of, reads_of, StoodEach}
+use Rattle.ion_streams.specs.reading.Telling.{telling}
 use Rattle.ion_streams.proofs.Driven.{Driven}
 use Rattle.ion_streams.proofs.checking.check_items.Given as goal
 
@@ -10,7 +11,8 @@ invariant-loop-place g l = record {
   bound : l.values + work_of g.I.Items l.place ≤ 8193 * 2 ^ 32 + 1;
   asked : g.R.Inlet.calls_made l.reader + reads_of l.place ≤ g.R.Inlet.calls_made l.fn.reader + l.fn.reads;
   handed : length (g.R.Inlet.handed l.reader) + 4096 * reads_of l.place ≤ length (g.R.Inlet.handed l.fn.reader) + 4096 * l.fn.reads;
-  reads : (given : List (Value × ℕ)) × StoodEach g.R.Inlet g.I.Items (g.I.Items.catalog l.fn.items) (g.I.Items.limits l.fn.items) l.fn.reader l.reader l.place
+  reads : (given : List (Value × ℕ)) × StoodEach g.R.Inlet (telling g.I.Items []) (g.I.Items.catalog l.fn.items) (g.I.Items.limits l.fn.items)
+      l.fn.reader l.reader l.place
       given × (length given ≡ l.values);
 }
 

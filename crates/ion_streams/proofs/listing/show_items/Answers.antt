@@ -1,36 +1,39 @@
 use Rattle.std.proofs.Common.{◌+◌, ◌++◌, ◌∷◌, [], refl, length-append, arith, ap, sym, subst, ◌∙◌, ℕ, List}
-use Rattle.ion_model.specs.Outlines.{outline_of}
+use Rattle.ion_visiting.specs.Outlining.{outlines}
 use Rattle.ion_symtab.specs.Took.{Took, TookFront}
 use Rattle.ion_symtab.specs.Trace.{plain}
 use Rattle.ion_symtab.specs.laws.Took.{Took-nil, Took-trans, Took-kept, Front-all, Front-behind}
+use Rattle.ion_streams.specs.reading.Telling.{telling}
 use Rattle.ion_streams.specs.Listing.{lines_of, in_reading}
 use Rattle.ion_streams.proofs.Steps.{stood_plain, on_err}
-use Rattle.ion_streams.proofs.Fronts.{line_next, so_far}
+use Rattle.ion_streams.proofs.Fronts.{gave_told, line_next, so_far}
 use Rattle.ion_streams.proofs.Driven.{driven_on}
-use Rattle.ion_streams.proofs.Passes.{gave_none}
+use Rattle.ion_streams.proofs.Telling.{told_none}
 use Rattle.ion_streams.proofs.Turns.{each_end, so_far_end}
-use Rattle.ion_streams.proofs.Shown.{shows_ok, shown_ok, shown_err}
+use Rattle.ion_streams.proofs.Shown.{outlined_next, shows_ok, shown_ok, shown_err}
 use Rattle.ion_streams.proofs.listing.show_items.Goals.{in-Ok+in_ok-write_accepted-in-Ok, in-Err+in_ok-flushed-in-Err}
 use Rattle.ion_streams.proofs.listing.show_items.Goals as goal
 
-pub returns-in_err-outline-clause-so_far : goal.returns-in_err-outline-clause-so_far
-returns-in_err-outline-clause-so_far g c =
+pub returns-in_err-advance_by-clause-so_far : goal.returns-in_err-advance_by-clause-so_far
+returns-in_err-advance_by-clause-so_far g c =
     let r = c.loop-text.invariant.reads in
-    on_err c.from_residual-in_err-outline.result _
-    (in_reading (plain r.0) (c.in_err-outline.ensures.kept _ _ _ (plain r.0) (stood_plain g.R.Inlet g.I.Items _ _ _ _ c.loop-text.place r.0 r.1))
+    let k = c.in_err-advance_by.ensures.kept _ _ _ (plain r.0) (stood_plain g.R.Inlet (telling g.I.Items []) _ _ _ _ c.loop-text.place r.0 r.1) in
+    on_err c.from_residual-in_err-advance_by.result _
+    (in_reading (plain r.0) (gave_told g.R.Inlet g.I.Items _ _ _ _ (plain r.0) k.0 g.met.I.Items.one_stands k.1)
     (Front-all g.W.Outlet.took g.W.Outlet.written c.args.writer.now c.loop-text.writer c.loop-text.writer (lines_of (plain r.0)) r.3
     (Took-nil g.W.Outlet.took g.W.Outlet.written c.loop-text.writer)))
 
 pub returns-in_err-write_line-clause-so_far : goal.returns-in_err-write_line-clause-so_far
 returns-in_err-write_line-clause-so_far g c =
     let r = c.loop-text.invariant.reads in
-    let on = rw c.in-Some.is at (c.in_ok-outline.ensures.gives _ _ _ r.0 r.1) in
-    let s = r.0 ++ (on.0, c.in-Some.field-0-1) ∷ [] in
+    let on = outlined_next g.R.Inlet g.I.Items _ _ _ _ c.advance_by.new.self r.0 c.in_ok-advance_by.field-0 c.in-Some.field-0 c.loop-text.visitor
+    c.advance_by.new.visitor c.in-Some.is c.loop-text.invariant.fresh (c.in_ok-advance_by.ensures.tells _ _ _ r.0 r.1) in
+    let s = r.0 ++ (on.0, c.in-Some.field-0) ∷ [] in
     on_err c.from_residual-in_err-write_line.result _
-    (so_far g.R.Inlet g.I.Items g.W.Outlet _ _ _ _ c.args.writer.now c.write_line.new.writer c.advance.new.self (plain s)
-    (stood_plain g.R.Inlet g.I.Items _ _ _ _ c.advance.new.self s on.2)
+    (so_far g.R.Inlet g.I.Items g.W.Outlet _ _ g.met.I.Items.one_stands _ _ c.args.writer.now c.write_line.new.writer c.advance_by.new.self (plain s)
+    (stood_plain g.R.Inlet (telling g.I.Items []) _ _ _ _ c.advance_by.new.self s on.2)
     (subst (λ (x : List ℕ). TookFront g.W.Outlet.took g.W.Outlet.written c.args.writer.now c.write_line.new.writer x)
-    (line_next r.0 on.0 c.in-Some.field-0-1 c.in-Some.outline c.loop-text.values r.2 on.1)
+    (line_next r.0 on.0 c.in-Some.field-0 c.take.result c.loop-text.values r.2 (on.1 ∙ sym c.take.ensures.outline))
     (Front-behind g.W.Outlet.took g.W.Outlet.written c.args.writer.now c.loop-text.writer c.write_line.new.writer (lines_of (plain r.0)) _ r.3
     c.in_err-write_line.ensures.front)))
 
@@ -41,23 +44,26 @@ loop-text-preserved g c =
     let bound = i.bound in
     let asked = i.asked in
     let handed = i.handed in
-    let next = c.in_ok-outline.ensures in
+    let next = c.in_ok-advance_by.ensures in
     let less = rw c.in-Some.is at next.less in
     let spent = less refl in
-    let on = rw c.in-Some.is at (next.gives _ _ _ r.0 r.1) in
-    let s = r.0 ++ (on.0, c.in-Some.field-0-1) ∷ [] in
+    let on = outlined_next g.R.Inlet g.I.Items _ _ _ _ c.advance_by.new.self r.0 c.in_ok-advance_by.field-0 c.in-Some.field-0 c.loop-text.visitor
+    c.advance_by.new.visitor c.in-Some.is c.loop-text.invariant.fresh (c.in_ok-advance_by.ensures.tells _ _ _ r.0 r.1) in
+    let s = r.0 ++ (on.0, c.in-Some.field-0) ∷ [] in
     record {
-      driven = driven_on g.R.Inlet g.I.Items c.args.reads c.args.reader.now c.loop-text.reader c.advance.new.reader c.loop-text.place c.advance.new.self
+      driven = driven_on g.R.Inlet g.I.Items c.args.reads c.args.reader.now c.loop-text.reader c.advance_by.new.reader c.loop-text.place
+          c.advance_by.new.self
           i.driven next.ready next.unasked next.no_read_failed next.within;
+      fresh = c.take.ensures.anew;
       bound = omega (arith, bound, spent);
       asked = omega (arith, asked, next.few_calls);
       handed = omega (arith, handed, next.few_octets);
       reads = (
         s,
         on.2,
-        length-append r.0 ((on.0, c.in-Some.field-0-1) ∷ []) ∙ ap (λ (n : ℕ). n + 1) r.2,
+        length-append r.0 ((on.0, c.in-Some.field-0) ∷ []) ∙ ap (λ (n : ℕ). n + 1) r.2,
         subst (λ (x : List ℕ). Took g.W.Outlet.took g.W.Outlet.written c.args.writer.now c.write_line.new.writer x)
-            (line_next r.0 on.0 c.in-Some.field-0-1 c.in-Some.outline c.loop-text.values r.2 on.1)
+            (line_next r.0 on.0 c.in-Some.field-0 c.take.result c.loop-text.values r.2 (on.1 ∙ sym c.take.ensures.outline))
             (Took-trans g.W.Outlet.took g.W.Outlet.written c.args.writer.now c.loop-text.writer c.write_line.new.writer (lines_of (plain r.0)) _ r.3
             c.in_ok-write_line.ensures.wrote),
       );
@@ -67,72 +73,73 @@ pub returns-in_err-write_accepted-in-Ok-clause-so_far : goal.returns-in_err-writ
 returns-in_err-write_accepted-in-Ok-clause-so_far g c =
     let r = c.loop-text.invariant.reads in
     let none = c.in_default.is in
-    let stood = gave_none outline_of g.R.Inlet g.I.Items _ _ _ _ c.advance.new.self r.0 c.in_ok-outline.field-0 none
-    (c.in_ok-outline.ensures.gives _ _ _ r.0 r.1) in
+    let stood = told_none outlines g.R.Inlet g.I.Items _ _ _ _ c.advance_by.new.self r.0 c.in_ok-advance_by.field-0 c.loop-text.visitor
+    c.advance_by.new.visitor none (c.in_ok-advance_by.ensures.tells _ _ _ r.0 r.1) in
     on_err c.from_residual-in_err-write_accepted-in-Ok.result _
-    (shows_ok g.R.Inlet g.I.Items g.W.Outlet _ _ _ _ c.args.writer.now c.loop-text.writer c.write_accepted.new.writer c.advance.new.self r.0 c.loop-text.values
-    c.in-Ok.values (c.in_ok-outline.ensures.none none) r.2
+    (shows_ok g.R.Inlet g.I.Items g.W.Outlet _ _ _ _ c.args.writer.now c.loop-text.writer c.write_accepted.new.writer c.advance_by.new.self r.0
+    c.loop-text.values c.in-Ok.values (c.in_ok-advance_by.ensures.none none) r.2
     (sym c.answer-answer.ensures ∙ c.in-Ok.is) stood r.3 c.in_err-write_accepted-in-Ok.ensures.front)
 
 pub returns-in_err-flushed-in-Err-clause-so_far : goal.returns-in_err-flushed-in-Err-clause-so_far
 returns-in_err-flushed-in-Err-clause-so_far g c =
     let r = c.loop-text.invariant.reads in
     let none = c.in_default.is in
-    let stood = gave_none outline_of g.R.Inlet g.I.Items _ _ _ _ c.advance.new.self r.0 c.in_ok-outline.field-0 none
-    (c.in_ok-outline.ensures.gives _ _ _ r.0 r.1) in
+    let stood = told_none outlines g.R.Inlet g.I.Items _ _ _ _ c.advance_by.new.self r.0 c.in_ok-advance_by.field-0 c.loop-text.visitor
+    c.advance_by.new.visitor none (c.in_ok-advance_by.ensures.tells _ _ _ r.0 r.1) in
     on_err c.from_residual-in_err-flushed-in-Err.result _
-    (so_far g.R.Inlet g.I.Items g.W.Outlet _ _ _ _ c.args.writer.now c.flushed.new.writer c.advance.new.self (plain r.0)
-    (stood_plain g.R.Inlet g.I.Items _ _ _ _ c.advance.new.self r.0 stood)
+    (so_far g.R.Inlet g.I.Items g.W.Outlet _ _ g.met.I.Items.one_stands _ _ c.args.writer.now c.flushed.new.writer c.advance_by.new.self (plain r.0)
+    (stood_plain g.R.Inlet (telling g.I.Items []) _ _ _ _ c.advance_by.new.self r.0 stood)
     (Front-all g.W.Outlet.took g.W.Outlet.written c.args.writer.now c.loop-text.writer c.flushed.new.writer (lines_of (plain r.0)) r.3 c.flushed.ensures.kept))
 
 pub returns-clause-shown : goal.returns-clause-shown
 returns-clause-shown g c =
     let r = c.loop-text.invariant.reads in
     let none = c.in_default.is in
-    let stood = gave_none outline_of g.R.Inlet g.I.Items _ _ _ _ c.advance.new.self r.0 c.in_ok-outline.field-0 none
-    (c.in_ok-outline.ensures.gives _ _ _ r.0 r.1) in
+    let stood = told_none outlines g.R.Inlet g.I.Items _ _ _ _ c.advance_by.new.self r.0 c.in_ok-advance_by.field-0 c.loop-text.visitor
+    c.advance_by.new.visitor none (c.in_ok-advance_by.ensures.tells _ _ _ r.0 r.1) in
     elim c.match-answer.branch [
       | in-Ok+in_ok-write_accepted-in-Ok w ↦ rw (w.writer-is, w.answer-is)
-          (shown_ok g.R.Inlet g.I.Items g.W.Outlet _ _ _ _ c.args.writer.now c.loop-text.writer w.write_accepted.new.writer c.advance.new.self r.0
-          c.loop-text.values w.in-Ok.values (c.in_ok-outline.ensures.none none) r.2 (sym c.answer-answer.ensures ∙ w.in-Ok.is) stood r.3
+          (shown_ok g.R.Inlet g.I.Items g.W.Outlet _ _ _ _ c.args.writer.now c.loop-text.writer w.write_accepted.new.writer c.advance_by.new.self r.0
+          c.loop-text.values w.in-Ok.values (c.in_ok-advance_by.ensures.none none) r.2 (sym c.answer-answer.ensures ∙ w.in-Ok.is) stood r.3
           w.in_ok-write_accepted-in-Ok.ensures.wrote)
       | in-Err+in_ok-flushed-in-Err w ↦ rw (w.writer-is, w.answer-is, w.in-Err.is)
-          (shown_err g.R.Inlet g.I.Items g.W.Outlet _ _ _ _ c.args.writer.now c.loop-text.writer w.flushed.new.writer c.advance.new.self r.0
+          (shown_err g.R.Inlet g.I.Items g.W.Outlet _ _ _ _ c.args.writer.now c.loop-text.writer w.flushed.new.writer c.advance_by.new.self r.0
           c.loop-text.values w.in-Err.field-0 (sym c.answer-answer.ensures ∙ w.in-Err.is) stood
           (Took-kept g.W.Outlet.took g.W.Outlet.written c.args.writer.now c.loop-text.writer w.flushed.new.writer (lines_of (plain r.0)) r.3
           w.flushed.ensures.kept))
     ]
 
 -- the ends that the device answered
-pub returns-in_err-outline-clause-one_end : goal.returns-in_err-outline-clause-one_end
-returns-in_err-outline-clause-one_end g c =
+pub returns-in_err-advance_by-clause-one_end : goal.returns-in_err-advance_by-clause-one_end
+returns-in_err-advance_by-clause-one_end g c =
     let r = c.loop-text.invariant.reads in
-    so_far_end g.R.Inlet g.I.Items _ _ _ c.advance.new.reader (plain r.0)
-    (c.in_err-outline.ensures.kept _ _ _ (plain r.0) (stood_plain g.R.Inlet g.I.Items _ _ _ _ c.loop-text.place r.0 r.1))
+    let k = c.in_err-advance_by.ensures.kept _ _ _ (plain r.0) (stood_plain g.R.Inlet (telling g.I.Items []) _ _ _ _ c.loop-text.place r.0 r.1) in
+    so_far_end g.R.Inlet (telling g.I.Items k.0) _ _ _ c.advance_by.new.reader (plain r.0) k.1
 
 pub returns-in_err-write_line-clause-one_end : goal.returns-in_err-write_line-clause-one_end
 returns-in_err-write_line-clause-one_end g c =
     let r = c.loop-text.invariant.reads in
-    let on = rw c.in-Some.is at (c.in_ok-outline.ensures.gives _ _ _ r.0 r.1) in
-    each_end g.R.Inlet g.I.Items _ _ _ c.advance.new.reader c.advance.new.self (r.0 ++ (on.0, c.in-Some.field-0-1) ∷ []) on.2
+    let on = outlined_next g.R.Inlet g.I.Items _ _ _ _ c.advance_by.new.self r.0 c.in_ok-advance_by.field-0 c.in-Some.field-0 c.loop-text.visitor
+    c.advance_by.new.visitor c.in-Some.is c.loop-text.invariant.fresh (c.in_ok-advance_by.ensures.tells _ _ _ r.0 r.1) in
+    each_end g.R.Inlet (telling g.I.Items []) _ _ _ c.advance_by.new.reader c.advance_by.new.self (r.0 ++ (on.0, c.in-Some.field-0) ∷ []) on.2
 
 pub returns-in_err-write_accepted-in-Ok-clause-one_end : goal.returns-in_err-write_accepted-in-Ok-clause-one_end
 returns-in_err-write_accepted-in-Ok-clause-one_end g c =
     let r = c.loop-text.invariant.reads in
-    each_end g.R.Inlet g.I.Items _ _ _ c.advance.new.reader c.advance.new.self r.0
-    (gave_none outline_of g.R.Inlet g.I.Items _ _ _ _ c.advance.new.self r.0 c.in_ok-outline.field-0 c.in_default.is
-    (c.in_ok-outline.ensures.gives _ _ _ r.0 r.1))
+    each_end g.R.Inlet (telling g.I.Items []) _ _ _ c.advance_by.new.reader c.advance_by.new.self r.0
+    (told_none outlines g.R.Inlet g.I.Items _ _ _ _ c.advance_by.new.self r.0 c.in_ok-advance_by.field-0 c.loop-text.visitor
+    c.advance_by.new.visitor c.in_default.is (c.in_ok-advance_by.ensures.tells _ _ _ r.0 r.1))
 
 pub returns-in_err-flushed-in-Err-clause-one_end : goal.returns-in_err-flushed-in-Err-clause-one_end
 returns-in_err-flushed-in-Err-clause-one_end g c =
     let r = c.loop-text.invariant.reads in
-    each_end g.R.Inlet g.I.Items _ _ _ c.advance.new.reader c.advance.new.self r.0
-    (gave_none outline_of g.R.Inlet g.I.Items _ _ _ _ c.advance.new.self r.0 c.in_ok-outline.field-0 c.in_default.is
-    (c.in_ok-outline.ensures.gives _ _ _ r.0 r.1))
+    each_end g.R.Inlet (telling g.I.Items []) _ _ _ c.advance_by.new.reader c.advance_by.new.self r.0
+    (told_none outlines g.R.Inlet g.I.Items _ _ _ _ c.advance_by.new.self r.0 c.in_ok-advance_by.field-0 c.loop-text.visitor
+    c.advance_by.new.visitor c.in_default.is (c.in_ok-advance_by.ensures.tells _ _ _ r.0 r.1))
 
 pub returns-clause-one_end : goal.returns-clause-one_end
 returns-clause-one_end g c =
     let r = c.loop-text.invariant.reads in
-    each_end g.R.Inlet g.I.Items _ _ _ c.advance.new.reader c.advance.new.self r.0
-    (gave_none outline_of g.R.Inlet g.I.Items _ _ _ _ c.advance.new.self r.0 c.in_ok-outline.field-0 c.in_default.is
-    (c.in_ok-outline.ensures.gives _ _ _ r.0 r.1))
+    each_end g.R.Inlet (telling g.I.Items []) _ _ _ c.advance_by.new.reader c.advance_by.new.self r.0
+    (told_none outlines g.R.Inlet g.I.Items _ _ _ _ c.advance_by.new.self r.0 c.in_ok-advance_by.field-0 c.loop-text.visitor
+    c.advance_by.new.visitor c.in_default.is (c.in_ok-advance_by.ensures.tells _ _ _ r.0 r.1))

@@ -3,7 +3,7 @@ use Rattle.ion_atoms.specs.declared.refusal.Reason.TheVariants as reasons
 use Rattle.std.proofs.lemmas.Result.{err_from_is_err_and}
 use Rattle.ion_streams.specs.reading.Read.{left_of}
 use Rattle.ion_streams.proofs.Joined.{ended_unasked, ended_heard}
-use Rattle.ion_streams.proofs.Steps.{gave_so_far, reads_none, reads_failed, within_kept, on_err}
+use Rattle.ion_streams.proofs.Steps.{gave_so_far, kept_so_far, reads_none, reads_failed, reads_refilled, within_kept, on_err}
 use Rattle.ion_streams.proofs.Passes.{none_went, passes_on}
 use Rattle.ion_streams.proofs.Turns.{on_more, asked_next}
 use Rattle.ion_streams.proofs.Unfailed.{was_asked, gave_some}
@@ -50,13 +50,14 @@ returns-in_err-refill-clause-kept g c =
     let t = c.in-Ok-None.ensures in
     let gives = none_went g.A.Asked.of g.I.Items from mid _ c.in-Ok-None.field-0-is t.gives in
     on_err c.from_residual.result _ (λ catalog limits first s h.
-    c.in_err-refill.ensures.kept catalog limits first s
+    kept_so_far g.R.Inlet g.I.Items catalog limits first c.loop-refusal.reader c.refill.new.reader mid s
     (record {
       given = h.given;
       each = reads_none g.R.Inlet g.I.Items catalog limits first c.loop-refusal.reader from mid h.given
           (i.reads catalog limits first h.given h.each) gives t.catalog t.limits t.ended;
       values = h.values;
-    }))
+    })
+    c.in_err-refill.ensures.kept.0 c.in_err-refill.ensures.kept.1)
 
 pub loop-refusal-preserved : goal.loop-refusal-preserved
 loop-refusal-preserved g c =
@@ -90,7 +91,8 @@ loop-refusal-preserved g c =
           t.ready (t.all c.in-Ok-None.field-0-is) f.once);
       grew = on_more g.R.Inlet c.args.reader.now c.loop-refusal.reader c.refill.new.reader i.grew f.grew;
       reads = λ catalog limits first given h.
-          f.goes_on (search rules) catalog limits first given (reads_none g.R.Inlet g.I.Items catalog limits first c.loop-refusal.reader from mid given
+          reads_refilled g.R.Inlet g.I.Items catalog limits first c.loop-refusal.reader c.refill.new.reader mid c.refill.new.self given f.refills
+          (reads_none g.R.Inlet g.I.Items catalog limits first c.loop-refusal.reader from mid given
           (i.reads catalog limits first given h) gives t.catalog t.limits t.ended);
     }
 
@@ -102,9 +104,11 @@ returns-then-not-branch-clause-gives g c =
     let t = c.in-Ok-None.ensures in
     let gives = none_went g.A.Asked.of g.I.Items from mid _ c.in-Ok-None.field-0-is t.gives in
     λ catalog limits first given h.
-    c.in_ok-refill.ensures.ends (search rules) catalog limits first given
+    let f = c.in_ok-refill.ensures in
+    rw (f.ended (search rules)) at
+    (reads_refilled g.R.Inlet g.I.Items catalog limits first c.loop-refusal.reader c.refill.new.reader mid c.refill.new.self given f.refills
     (reads_none g.R.Inlet g.I.Items catalog limits first c.loop-refusal.reader from mid given (i.reads catalog limits first given h) gives t.catalog
-    t.limits t.ended)
+    t.limits t.ended))
 
 pub returns-in-Ok-Some-clause-no_read_failed : goal.returns-in-Ok-Some-clause-no_read_failed
 returns-in-Ok-Some-clause-no_read_failed g c = λ h.

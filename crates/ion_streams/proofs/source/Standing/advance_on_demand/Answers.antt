@@ -18,9 +18,9 @@ returns-in-Ok-End-clause-gives g c =
     let end = rw c.in-Ok-End.field-0-is at (c.in-Ok-End.ensures.gives catalog limits first given read) in
     subst (λ x. GaveNext g.A.Asked.of g.R.Inlet g.I.Items catalog limits first c.read_on.new.reader c.end.new.self given x) ends.1
     (gave_last g.A.Asked.of g.R.Inlet g.I.Items catalog limits first c.read_on.new.reader c.end.new.self given ends.0
-    (last_refused g.R.Inlet g.I.Items catalog limits first c.read_on.new.reader c.read_on.new.self given c.end.new.self ends.0 ends.2 end)
+    (last_refused g.R.Inlet g.I.Items catalog limits end.u c.read_on.new.self given c.end.new.self ends.0 (ends.2 end.u given end.stood))
     (last_gives g.R.Inlet g.I.Items catalog limits first c.read_on.new.reader c.read_on.new.self given c.end.new.self ends.0
-    (rw c.in-Ok-End.field-0-is at c.in-Ok-End.ensures.ended).empty ends.2 end))) c.end.ensures.ends
+    (rw c.in-Ok-End.field-0-is at c.in-Ok-End.ensures.ended).empty end (ends.2 end.u given end.stood)))) c.end.ensures.ends
 
 pub returns-in-Ok-End-clause-kept : goal.returns-in-Ok-End-clause-kept
 returns-in-Ok-End-clause-kept g c =
