@@ -1,21 +1,20 @@
 -- A call handed on to the reader that was chosen.
-use Rattle.std.proofs.Common.{◌≡◌, ℕ, ◌+◌, ◌*◌, ◌<◌, zero, suc, Bool, true, false, List, [], ◌∷◌, ◌++◌, length, take, ap, ◌∙◌, sym, refl, subst, arith, eq-eqb, ne_eqb, Result, Ok, Err, Option, Some, None, option_map, IfOk, IfErr, IsSome, slice_get}
+use Rattle.std.proofs.Common.{◌≡◌, ℕ, ◌+◌, ◌*◌, ◌<◌, zero, suc, Bool, true, false, List, [], ◌∷◌, ◌++◌, length, take, ap, ◌∙◌, sym, refl, subst, arith, eq-eqb, ne_eqb, Result, Ok, Err, Option, Some, None, IfOk, IsSome, slice_get}
 use Rattle.ion_model.specs.declared.value.Value.{Value}
 use Rattle.ion_atoms.specs.declared.refusal.Refusal.{Refusal}
 use Rattle.ion_symtab.specs.Trace.{Trace, Answers, Finishes, given_at}
 use Rattle.ion_symtab.specs.Steps.{StepsOver}
 use Rattle.ion_symtab.specs.declared.items.Step.{Step}
-use Rattle.ion_symtab.specs.declared.items.Passed.{Passed}
 use Rattle.ion_symtab.specs.declared.items.Items.{Ghosts as Items}
-use Rattle.ion_model.specs.Outlines.{outline_of}
 use Rattle.ion_symtab.specs.declared.catalog.Catalog.{Catalog}
 use Rattle.ion_symtab.specs.declared.limits.Limits.{Limits}
 use Rattle.ion_docs.specs.declared.doc_reader.Format.{Format}
-use Rattle.ion_docs.specs.declared.doc_reader.Format.TheVariants.{Unbegun, Refused, Binary, Text}
+use Rattle.ion_docs.specs.declared.doc_reader.Format.TheVariants.{Unbegun, Refused, Binary, Text, Walk}
 use Rattle.ion_docs.specs.declared.doc_reader.DocReader.{DocReader}
 use Rattle.ion_docs.specs.reading.Chosen.{chosen}
-use Rattle.ion_docs.specs.reading.DocStands.{Begins, Handed, FormatStands, DocStands}
-use Rattle.ion_docs.specs.laws.Readers.{begins_on, trace_in, chosen_in, same_trace}
+use Rattle.ion_docs.specs.reading.DocTold.{Begins}
+use Rattle.ion_docs.specs.reading.DocStands.{Handed, FormatStands, DocStands}
+use Rattle.ion_docs.specs.laws.Begun.{begins_on, trace_in, chosen_in, same_trace}
 
 -- 1. What the reader that was chosen answers is what is chosen.
 module _ (b : Bool) (g : Catalog) (l : Limits) where
@@ -61,27 +60,6 @@ module _ (d : DocReader) (b : Bool) (limits : Limits) (catalog : Catalog) (Old :
       (let P : (List ℕ → Trace) → Type 0 = λ t. Answers t u s piece result in
       subst P (same_trace b catalog d.catalog.now limits d.limits h.3 h.2) (answers u s h.0))
 
-  -- the same of a step that doesn't hand out its value
-  pub forward_passed : (more : Limits) (other : Catalog) (New : List ℕ → List (Value × ℕ) → Type 0) (piece : List ℕ) (result : Result Passed Refusal) →
-      IfOk result (λ passed. (u : List ℕ) (s : List (Value × ℕ)) → Old u s → (value : Option Value) × (option_map outline_of value ≡ passed.outline)
-      × New (u ++ take passed.used piece) (s ++ given_at value (length u + passed.used))) →
-      more ≡ limits → other ≡ catalog →
-      IfOk result (λ passed. (u : List ℕ) (s : List (Value × ℕ)) → DocStands d u s →
-      (value : Option Value) × (option_map outline_of value ≡ passed.outline)
-      × Handed d b more other (New (u ++ take passed.used piece) (s ++ given_at value (length u + passed.used))) (u ++ take passed.used piece))
-  forward_passed more other New piece (Ok passed) onward within under = λ u s stands.
-      let h = stood u s stands in
-      let on = onward u s h.0 in
-      (on.0, on.1, (on.2, begins_on b u (take passed.used piece) h.1, within ∙ h.2, under ∙ h.3))
-  forward_passed more other New piece (Err refusal) onward within under = tt
-
-  -- where the chosen reader refuses to pass a value, the encoding of the first octet says so
-  pub forward_refuses : (piece : List ℕ) (result : Result Passed Refusal) →
-      IfErr result (λ refusal. (u : List ℕ) (s : List (Value × ℕ)) → Old u s → Answers (trace_in b catalog limits) u s piece (Err refusal)) →
-      IfErr result (λ refusal. (u : List ℕ) (s : List (Value × ℕ)) → DocStands d u s → Answers (chosen d.catalog.now d.limits) u s piece (Err refusal))
-  forward_refuses piece (Ok passed) refuses = tt
-  forward_refuses piece (Err refusal) refuses = forward_answers piece (Err refusal) refuses
-
   -- what the chosen reader answers at the end is what the encoding of the first octet says
   pub forward_ends : (result : Result (Option Value) Refusal) →
       ((u : List ℕ) (s : List (Value × ℕ)) → Old u s → Finishes (trace_in b catalog limits) u result) →
@@ -92,7 +70,7 @@ module _ (d : DocReader) (b : Bool) (limits : Limits) (catalog : Catalog) (Old :
       (let P : (List ℕ → Trace) → Type 0 = λ t. Finishes t u result in subst P (same_trace b catalog d.catalog.now limits d.limits h.3 h.2) (ends u s h.0))
 
 -- 3. The first step of all: nothing was read before it.
-begins_front : (b : Bool) (piece : List ℕ) (used : ℕ) → Begins b piece → 0 < used → Begins b (take used piece)
+pub begins_front : (b : Bool) (piece : List ℕ) (used : ℕ) → Begins b piece → 0 < used → Begins b (take used piece)
 begins_front b [] used h some = absurd h
 begins_front b (first ∷ rest) zero h some = absurd (omega arith)
 begins_front b (first ∷ rest) (suc used) h some = h
@@ -150,6 +128,7 @@ first_kept d new f piece (Ok step) is h =
     same (Refused refusal) u s h = h
     same (Binary r) u s h = h
     same (Text r) u s h = h
+    same (Walk w) u s h = h
 first_kept d new f piece (Err refusal) is h = tt
 
 -- a piece whose first octet is E0 begins as binary documents do

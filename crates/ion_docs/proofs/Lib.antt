@@ -1,4 +1,6 @@
 pub mod Chosen
+pub mod Walks
+pub mod WalkReaders
 pub mod Verdicts
 pub mod Conversions
 pub mod Described

@@ -10,7 +10,7 @@ use Rattle.ion_text.specs.machine.Progress.{octets_used, pending}
 use Rattle.ion_docs.specs.declared.doc_reader.DocReader.{DocReader}
 use Rattle.ion_docs.specs.declared.doc_reader.Format.TheVariants.{Binary, Text}
 use Rattle.ion_docs.specs.contracts.doc_reader.DocReaderItems.TheImpl.{ghosts as documents}
-use Rattle.ion_docs.specs.laws.Readers.{begins_on}
+use Rattle.ion_docs.specs.laws.Begun.{begins_on}
 use Rattle.ion_docs.specs.reading.DocStands.{failed_of, taken_of, pending_of}
 use Rattle.ion_docs.proofs.Chosen.{inside}
 

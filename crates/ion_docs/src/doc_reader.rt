@@ -1,22 +1,25 @@
 //! The reader that the first octet chooses.
-ghost use Rattle.std.specs.Prelude.{◌≡◌, ℕ, ◌+◌, ◌^◌, ◌<◌, List, ◌∷◌, ◌++◌, length, take, Option, Result, IfOk, IfErr, IfSome, IsNone, option_map};
+ghost use Rattle.std.specs.Prelude.{◌≡◌, ℕ, ◌+◌, ◌^◌, ◌<◌, List, ◌∷◌, ◌++◌, length, take, Option, Result, IfOk, IfErr, IfSome, IsNone};
 ghost use Rattle.ion_symtab.specs.Trace.{Answers, given_at};
 ghost use Rattle.ion_symtab.specs.Steps.{StepsOver, RefusesBy};
+ghost use Rattle.ion_symtab.specs.Walks.{WalksOn, if_ended};
+ghost use Rattle.ion_visiting.specs.Events.{Event};
 ghost use Rattle.ion_symtab.specs.IsNew.{IsNew};
 ghost use Rattle.ion_docs.specs.reading.Chosen.{chosen};
-ghost use Rattle.ion_docs.specs.reading.DocStands.{DocStands, taken_of};
+ghost use Rattle.ion_docs.specs.reading.DocStands.{DocStands, Told, taken_of};
 ghost use Rattle.ion_atoms.specs.declared.refusal.Reason.TheVariants.{Memory};
 ghost use Rattle.ion_model.specs.declared.value.Value.{Value as AnyValue};
 ghost use Rattle.ion_model.specs.Kept.{IsKept};
-ghost use Rattle.ion_model.specs.Outlines.{outline_of};
 ghost use Rattle.ion_binary.specs.Carrying.{WritesValue};
 ghost use Rattle.ion_text.specs.Carrying.{WritesValue as WritesText};
 ghost use Rattle.ion_symtab.specs.TookUp.{TookUp};
 
+use crate::doc_walk::DocWalk;
 use ion_binary::{BinaryReader, BinaryWriter, Carried};
 use ion_model::{Reason, Refusal, Value};
-use ion_symtab::{Catalog, Glance, Items, Limits, Outlet, Passed, Step};
+use ion_symtab::{Catalog, Glance, Items, Limits, Outlet, Step, Walked};
 use ion_text::{TextReader, TextWriter};
+use ion_visiting::{Building, Visitor};
 use std::alloc::Global;
 use std::fmt::{self, Debug, Formatter};
 use std::hash::BuildHasher;
@@ -33,6 +36,8 @@ pub(crate) enum Format<'a> {
     Refused(Refusal),
     Binary(BinaryReader<'a>),
     Text(TextReader<'a>),
+    /// Its values are told, and built where a step asks for them.
+    Walk(DocWalk<'a>),
 }
 
 /// A reader of a document of either encoding: binary if its first octet is E0 (Ion 1.0, "Ion Binary
@@ -43,6 +48,8 @@ pub struct DocReader<'a> {
     catalog: &'a Catalog,
     limits: Limits,
     pub(crate) format: Format<'a>,
+    /// Builds the values that steps give of what is told.
+    build: Building,
 }
 
 impl Debug for DocReader<'_> {
@@ -61,8 +68,23 @@ impl<'a> DocReader<'a> {
             alloc,
             catalog,
             limits,
-            format: Format::Unbegun,
+            format: Format::Walk(DocWalk::new(alloc, catalog, limits)),
+            build: Building::new(alloc),
         })
+    }
+
+    /// The same, but that it holds the open value, and so can carry values that lie whole in a piece
+    /// over to a writer, and compare them where they lie.
+    pub(crate) fn carrying(alloc: Global, catalog: &'a Catalog, limits: Limits) -> DocReader<'a>
+        ensures { IsNew ⟦<DocReader<'a> as Items>⟧ catalog.now limits result }
+    {
+        DocReader {
+            alloc,
+            catalog,
+            limits,
+            format: Format::Unbegun,
+            build: Building::new(alloc),
+        }
     }
 
     /// Reads octets so from now on.
@@ -129,38 +151,32 @@ impl<'a> DocReader<'a> {
 }
 
 impl<'a> DocReader<'a> {
-    /// What `pass` answers where no octet has come or memory was refused before. As `begin`, it
-    /// stands by itself for the sake of the room.
+    /// A walk where no octet has come.
     #[inline(never)]
-    fn pass_begun(&mut self, piece: &[u8]) -> Result<Passed, Refusal>
-        requires room { let D = ⟦<DocReader<'a> as Items>⟧ in
-            IsNone (D.failed self.old) → D.taken self.old + length piece.now < 2 ^ 63 }
-        requires begins { let D = ⟦<DocReader<'a> as Items>⟧ in
-            IfSome (D.awaits self.old) (λ octet.
-            (rest : List ℕ) × (piece.now ≡ octet ∷ rest)) }
+    fn begin_walk<V: Visitor>(&mut self, piece: &[u8], visitor: &mut V) -> Result<Walked, Refusal>
+        requires unbegun { self.old.format ≡ Format.Unbegun }
+        requires room { length piece.now < 2 ^ 63 }
         ensures setting { (self.new.catalog.now ≡ self.old.catalog.now)
             × (self.new.limits ≡ self.old.limits) }
         ensures leaves { let D = ⟦<DocReader<'a> as Items>⟧ in
-            IfOk result (λ passed. StepsOver D.taken D.pending D.awaits D.failed
-            self.old self.new piece.now passed.used passed.outline) }
-        ensures stands { IfOk result (λ passed. (u : List ℕ) (s : List (AnyValue × ℕ)) →
-            DocStands self.old u s → (value : Option AnyValue)
-            × (option_map outline_of value ≡ passed.outline)
-            × DocStands self.new (u ++ take passed.used piece.now)
-            (s ++ given_at value (length u + passed.used))) }
-        ensures answers { IfErr result (λ refusal. (u : List ℕ) (s : List (AnyValue × ℕ)) →
-            DocStands self.old u s → Answers (chosen self.old.catalog.now self.old.limits)
-            u s piece.now (Result.Err refusal)) }
+            IfOk result (λ walked. StepsOver D.taken D.pending D.awaits D.failed
+            self.old self.new piece.now walked.used (if_ended walked.ended)) }
+        ensures tells { IfOk result (λ walked.
+            (u : List ℕ) (s : List (AnyValue × ℕ)) (es : List Event) → Told self.old u s es →
+            WalksOn V.takes Told u s es piece.now walked.used walked.ended
+            self.new visitor.old visitor.new) }
+        ensures answers { IfErr result (λ refusal.
+            (u : List ℕ) (s : List (AnyValue × ℕ)) (es : List Event) → Told self.old u s es →
+            Answers (chosen self.old.catalog.now self.old.limits) u s piece.now
+            (Result.Err refusal)) }
         ensures refuses { let D = ⟦<DocReader<'a> as Items>⟧ in
             IfErr result (RefusesBy D.taken D.pending D.awaits D.failed
             self.old self.new piece.now) }
-        ensures again { let D = ⟦<DocReader<'a> as Items>⟧ in
-            IfSome (D.failed self.old) (λ refusal. result ≡ Result.Err refusal) }
     {
-        match self.step(piece) {
-            Err(refusal) => Err(refusal),
-            Ok(step) => Ok(step.passed()),
-        }
+        let mut walk = DocWalk::new(self.alloc, self.catalog, self.limits);
+        let result = walk.walk(piece, visitor);
+        self.go_on(Format::Walk(walk));
+        result
     }
 }
 
@@ -220,9 +236,9 @@ impl Items for DocReader<'_> {
     ghost use Rattle.std.specs.Prelude.{List, ℕ, None};
     ghost use Rattle.ion_docs.specs.Documents.{Denotes, Pieces, OpenAfter};
     ghost use Rattle.ion_docs.specs.reading.Chosen.{chosen};
-    ghost use Rattle.ion_docs.specs.reading.DocStands.{DocStands, taken_of, failed_of, awaits_of, pending_of, kept_of};
+    ghost use Rattle.ion_docs.specs.reading.DocStands.{DocStands, Told, taken_of, failed_of, awaits_of, pending_of, kept_of};
     ghost use Rattle.ion_docs.specs.laws.Documents.{one_document, one_shown, promised, document_pieces, whole_document, nodes_between};
-    ghost use Rattle.ion_docs.specs.laws.Readers.{doc_counted, doc_not_failed, doc_not_refused, doc_given, doc_given_next, doc_bounded};
+    ghost use Rattle.ion_docs.specs.laws.Readers.{doc_counted, doc_not_failed, doc_not_refused, doc_given, doc_given_next, doc_bounded, doc_told, doc_nothing_told, doc_one_stands};
 
     ghost catalog = { λ r. r.catalog.now };
 
@@ -237,6 +253,8 @@ impl Items for DocReader<'_> {
     ghost trace = { chosen };
 
     ghost stands = { DocStands };
+
+    ghost told = { Told };
 
     ghost taken = { λ r. taken_of r.format };
 
@@ -259,6 +277,12 @@ impl Items for DocReader<'_> {
     ghost given_with_next = { doc_given_next };
 
     ghost bounded = { doc_bounded };
+
+    ghost has_told = { doc_told };
+
+    ghost nothing_told = { doc_nothing_told };
+
+    ghost one_stands = { doc_one_stands };
 
     ghost settled = { λ g l u. (promised g l u).settled };
 
@@ -295,20 +319,31 @@ impl Items for DocReader<'_> {
             Format::Refused(refusal) => Err(*refusal),
             Format::Binary(reader) => reader.step(piece),
             Format::Text(reader) => reader.step(piece),
+            Format::Walk(walk) => walk.step(piece, &mut self.build),
             Format::Unbegun => self.begin(piece),
         }
     }
 
     #[inline(always)]
-    fn pass(&mut self, piece: &[u8]) -> Result<Passed, Refusal> {
+    fn walk<V: Visitor>(&mut self, piece: &[u8], visitor: &mut V) -> Result<Walked, Refusal> {
         match &mut self.format {
-            Format::Binary(reader) => reader.pass(piece),
-            Format::Text(reader) => reader.pass(piece),
-            // (taken apart, so that no answer of binary goes through memory)
-            _ => match self.pass_begun(piece) {
-                Err(refusal) => Err(refusal),
-                Ok(passed) => Ok(passed),
-            },
+            Format::Walk(walk) => walk.walk(piece, visitor),
+            Format::Refused(refusal) => Err(*refusal),
+            Format::Binary(reader) => reader.walk(piece, visitor),
+            Format::Text(reader) => reader.walk(piece, visitor),
+            Format::Unbegun => self.begin_walk(piece, visitor),
+        }
+    }
+
+    fn finish_by<V: Visitor>(self, visitor: &mut V) -> Result<bool, Refusal> {
+        let DocReader { format, build, .. } = self;
+        drop(build);
+        match format {
+            Format::Unbegun => Ok(false),
+            Format::Refused(refusal) => Err(refusal),
+            Format::Binary(reader) => reader.finish_by(visitor),
+            Format::Text(reader) => reader.finish_by(visitor),
+            Format::Walk(walk) => walk.finish_by(visitor),
         }
     }
 
@@ -321,11 +356,25 @@ impl Items for DocReader<'_> {
     }
 
     fn finish(self) -> Result<Option<Value>, Refusal> {
-        match self.format {
-            Format::Unbegun => Ok(None),
-            Format::Refused(refusal) => Err(refusal),
-            Format::Binary(reader) => reader.finish(),
-            Format::Text(reader) => reader.finish(),
+        let DocReader { format, build, .. } = self;
+        match format {
+            Format::Walk(walk) => walk.finish(build),
+            Format::Unbegun => {
+                drop(build);
+                Ok(None)
+            }
+            Format::Refused(refusal) => {
+                drop(build);
+                Err(refusal)
+            }
+            Format::Binary(reader) => {
+                drop(build);
+                reader.finish()
+            }
+            Format::Text(reader) => {
+                drop(build);
+                reader.finish()
+            }
         }
     }
 
@@ -335,6 +384,7 @@ impl Items for DocReader<'_> {
             Format::Refused(_) => 0,
             Format::Binary(reader) => reader.held(),
             Format::Text(reader) => reader.held(),
+            Format::Walk(walk) => walk.held(),
         }
     }
 }

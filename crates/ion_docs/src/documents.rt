@@ -161,7 +161,7 @@ pub fn convert_with_hasher<H: BuildHasher + Drop, R: Inlet, W: Outlet>(
         (ReadSoFar R.Inlet ⟦<DocReader<'static> as Items>⟧ catalog.now limits reader.old reader.new)
         (W.has_failed writer.new) fault) }
 {
-    let items = DocReader::new(alloc, catalog, limits).map_err(|_| Fault::Memory)?;
+    let items = DocReader::carrying(alloc, catalog, limits);
     let reads = limits.reads();
     match target {
         Target::Binary => match BinaryWriter::with_hasher(alloc, hasher) {
@@ -222,12 +222,8 @@ pub fn compare<L: Inlet, R: Inlet>(
         IsReadCause L.Inlet limits.reads left.old left.new fault
         ⊎ IsReadCause R.Inlet limits.reads right.old right.new fault) }
 {
-    let left_items = DocReader::new(alloc, catalog, limits).map_err(|_| Fault::Memory)?;
-    let Ok(right_items) = DocReader::new(alloc, catalog, limits) else {
-        // by a call, which is one step of the proof; `?` would let go of it part by part
-        drop(left_items);
-        return Err(Fault::Memory);
-    };
+    let left_items = DocReader::carrying(alloc, catalog, limits);
+    let right_items = DocReader::carrying(alloc, catalog, limits);
     let reads = limits.reads();
     compare_by::<SideBySide, DocReader<'_>, DocReader<'_>, L, R>(
         alloc,

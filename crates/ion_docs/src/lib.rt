@@ -8,6 +8,7 @@ mod carriers;
 mod catalogs;
 mod conversion;
 mod doc_reader;
+mod doc_walk;
 mod documents;
 pub mod laws;
 mod memory;

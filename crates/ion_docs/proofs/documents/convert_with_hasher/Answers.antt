@@ -7,8 +7,8 @@ use Rattle.ion_docs.proofs.documents.convert_with_hasher.Goals as goal
 
 pub returns-in-Ok-clause-same : goal.returns-in-Ok-clause-same
 returns-in-Ok-clause-same g c =
-    let under : c.in_ok-items.items.catalog.now ≡ c.args.catalog.now = search rules in
-    let within : c.in_ok-items.items.limits ≡ c.args.limits = search rules in
+    let under : c.carrying-items.result.catalog.now ≡ c.args.catalog.now = search rules in
+    let within : c.carrying-items.result.limits ≡ c.args.limits = search rules in
     let kept : IfOk c.convert_by.result (WritesKept g.R.Inlet g.W.Outlet (encoding_of c.args.target) (documents c.args.catalog.now c.args.limits)
     c.args.reader.now c.convert_by.new.reader c.args.writer.now c.convert_by.new.writer) =
     rw (c.in-Binary.is, ← under, ← within) c.convert_by.ensures.kept in
@@ -17,14 +17,14 @@ returns-in-Ok-clause-same g c =
 
 pub returns-in-Ok-clause-converted : goal.returns-in-Ok-clause-converted
 returns-in-Ok-clause-converted g c =
-    let under : c.in_ok-items.items.catalog.now ≡ c.args.catalog.now = search rules in
-    let within : c.in_ok-items.items.limits ≡ c.args.limits = search rules in
+    let under : c.carrying-items.result.catalog.now ≡ c.args.catalog.now = search rules in
+    let within : c.carrying-items.result.limits ≡ c.args.limits = search rules in
     rw (c.in-Binary.is, ← under, ← within) c.convert_by.ensures.converted
 
 pub returns-in-Text-clause-same : goal.returns-in-Text-clause-same
 returns-in-Text-clause-same g c =
-    let under : c.in_ok-items.items.catalog.now ≡ c.args.catalog.now = search rules in
-    let within : c.in_ok-items.items.limits ≡ c.args.limits = search rules in
+    let under : c.carrying-items.result.catalog.now ≡ c.args.catalog.now = search rules in
+    let within : c.carrying-items.result.limits ≡ c.args.limits = search rules in
     let kept : IfOk c.convert_by-in-Text.result (WritesKept g.R.Inlet g.W.Outlet (encoding_of c.args.target) (documents c.args.catalog.now c.args.limits)
     c.args.reader.now c.convert_by-in-Text.new.reader c.args.writer.now c.convert_by-in-Text.new.writer) =
     rw (c.in-Text.is, ← under, ← within) c.convert_by-in-Text.ensures.kept in
@@ -33,24 +33,24 @@ returns-in-Text-clause-same g c =
 
 pub returns-in-Text-clause-converted : goal.returns-in-Text-clause-converted
 returns-in-Text-clause-converted g c =
-    let under : c.in_ok-items.items.catalog.now ≡ c.args.catalog.now = search rules in
-    let within : c.in_ok-items.items.limits ≡ c.args.limits = search rules in
+    let under : c.carrying-items.result.catalog.now ≡ c.args.catalog.now = search rules in
+    let within : c.carrying-items.result.limits ≡ c.args.limits = search rules in
     rw (c.in-Text.is, ← under, ← within) c.convert_by-in-Text.ensures.converted
 
 pub returns-in-Ok-clause-cause : goal.returns-in-Ok-clause-cause
 returns-in-Ok-clause-cause g c =
-    let under : c.in_ok-items.items.catalog.now ≡ c.args.catalog.now = search rules in
-    let within : c.in_ok-items.items.limits ≡ c.args.limits = search rules in
+    let under : c.carrying-items.result.catalog.now ≡ c.args.catalog.now = search rules in
+    let within : c.carrying-items.result.limits ≡ c.args.limits = search rules in
     let asked : c.reads-reads.result ≡ c.args.limits.reads = search rules in
-    let few : c.reads-reads.result ≡ c.in_ok-items.items.limits.reads = rw within asked in
+    let few : c.reads-reads.result ≡ c.carrying-items.result.limits.reads = rw within asked in
     let cause = rw few at c.convert_by.ensures.cause in
     rw (c.in-Binary.is, ← under, ← within) cause
 
 pub returns-in-Text-clause-cause : goal.returns-in-Text-clause-cause
 returns-in-Text-clause-cause g c =
-    let under : c.in_ok-items.items.catalog.now ≡ c.args.catalog.now = search rules in
-    let within : c.in_ok-items.items.limits ≡ c.args.limits = search rules in
+    let under : c.carrying-items.result.catalog.now ≡ c.args.catalog.now = search rules in
+    let within : c.carrying-items.result.limits ≡ c.args.limits = search rules in
     let asked : c.reads-reads.result ≡ c.args.limits.reads = search rules in
-    let few : c.reads-reads.result ≡ c.in_ok-items.items.limits.reads = rw within asked in
+    let few : c.reads-reads.result ≡ c.carrying-items.result.limits.reads = rw within asked in
     let cause = rw few at c.convert_by-in-Text.ensures.cause in
     rw (c.in-Text.is, ← under, ← within) cause
