@@ -141,7 +141,8 @@ pub other_at_first : (piece : List ℕ) (octet : ℕ) → Some octet ≡ slice_g
 other_at_first [] octet e other = absurd cc
 other_at_first (first ∷ rest) octet e other = let same : octet ≡ first = cc in ne_eqb first 224 (λ is. other (same ∙ is))
 
-some_used : (b : Bool) (piece : List ℕ) (used : ℕ) (value : Option Value) → Begins b piece → (value ≡ None → used ≡ length piece)
+-- what came of octets, if something did, uses one at least
+pub some_used : {A : Type 0} (b : Bool) (piece : List ℕ) (used : ℕ) (value : Option A) → Begins b piece → (value ≡ None → used ≡ length piece)
     → (IsSome value → 0 < 0 + 2 * used) → 0 < used
 some_used b [] used value begins all progress = absurd begins
 some_used b (first ∷ rest) used None begins all progress = let e = all refl in omega (arith, e)

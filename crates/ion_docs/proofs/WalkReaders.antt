@@ -16,16 +16,14 @@ use Rattle.ion_docs.specs.declared.doc_walk.DocWalk.{DocWalk}
 use Rattle.ion_docs.specs.laws.Documents.{promised}
 use Rattle.ion_docs.specs.laws.Walks.{has_told}
 use Rattle.ion_docs.specs.reading.Chosen.{chosen}
-use Rattle.ion_docs.specs.reading.DocStands.{DocStands, FormatStands, FormatTold, Told}
+use Rattle.ion_docs.specs.reading.DocStands.{DocStands, FormatTold, Told}
 use Rattle.ion_docs.specs.reading.DocTold.{DocTold, HasBuilt, awaits_of, failed_of, pending_of, taken_of}
+use Rattle.ion_docs.proofs.Chosen.{inside}
 use Rattle.ion_docs.proofs.Walks.{step_said, walks_lifted}
 
--- a reader told of octets as the reader that it holds did, or stands for them
+-- a reader told of octets as the reader that it holds did
 told_inside : (d : DocReader) (f : Format) (u : List ℕ) (s : List (Value × ℕ)) (es : List Event) → d.format ≡ f → Told d u s es → FormatTold d f u s es
 told_inside d f u s es is h = let P : Format → Type 0 = λ f. FormatTold d f u s es in subst P is h
-
-stands_inside : (d : DocReader) (f : Format) (u : List ℕ) (s : List (Value × ℕ)) → d.format ≡ f → DocStands d u s → FormatStands d f u s
-stands_inside d f u s is h = let P : Format → Type 0 = λ f. FormatStands d f u s in subst P is h
 
 same_trace : (d : DocReader) (w : DocWalk) → w.limits ≡ d.limits → w.catalog.now ≡ d.catalog.now
     → chosen w.catalog.now w.limits ≡ chosen d.catalog.now d.limits
@@ -72,7 +70,7 @@ module _ (d : DocReader) (old : DocWalk) (is : d.format ≡ Walk old) where
       → IfOk result (λ step. (u : List ℕ) (s : List (Value × ℕ)) → DocStands d u s
       → DocStands (record d { format = Walk new; build = build }) (u ++ take step.used piece) (s ++ given_at step.value (length u + step.used)))
   reader_stands new build piece (Ok step) same stands = λ u s h.
-      let k = stands_inside d (Walk old) u s is h in
+      let k = inside d (Walk old) u s is h in
       (stands u s k.0, same.1 ∙ k.1, same.0 ∙ k.2)
   reader_stands new build piece (Err refusal) same stands = tt
 
@@ -85,7 +83,7 @@ module _ (d : DocReader) (old : DocWalk) (is : d.format ≡ Walk old) where
       → Answers (chosen old.catalog.now old.limits) u s piece (Err refusal))
       → (u : List ℕ) (s : List (Value × ℕ)) → DocStands d u s → Answers (chosen d.catalog.now d.limits) u s piece result
   reader_answers new build piece (Ok step) same leaves stands answers u s h =
-      let k = stands_inside d (Walk old) u s is h in
+      let k = inside d (Walk old) u s is h in
       let there = stands u s k.0 in
       let told = has_told new (u ++ take step.used piece) (s ++ given_at step.value (length u + step.used)) there.0 there.1 in
       let P : (List ℕ → Trace) → Type 0 = λ t. Answers t u s piece (Ok step) in
@@ -93,7 +91,7 @@ module _ (d : DocReader) (old : DocWalk) (is : d.format ≡ Walk old) where
       (step_said (chosen new.catalog.now new.limits) (λ v w. (promised new.catalog.now new.limits v).settled w) u s piece step.used leaves.used step.value
       (awaits_of new) leaves.uses_all leaves.awaited told.not_refused told.given_so_far told.given_with_next)
   reader_answers new build piece (Err refusal) same leaves stands answers u s h =
-      let k = stands_inside d (Walk old) u s is h in
+      let k = inside d (Walk old) u s is h in
       let P : (List ℕ → Trace) → Type 0 = λ t. Answers t u s piece (Err refusal) in
       subst P (same_trace d old k.1 k.2) (answers u s k.0)
 
@@ -101,7 +99,7 @@ module _ (d : DocReader) (old : DocWalk) (is : d.format ≡ Walk old) where
       → ((u : List ℕ) (s : List (Value × ℕ)) → HasBuilt old d.build u s → Finishes (chosen old.catalog.now old.limits) u result)
       → (u : List ℕ) (s : List (Value × ℕ)) → DocStands d u s → Finishes (chosen d.catalog.now d.limits) u result
   reader_finishes result ends u s h =
-      let k = stands_inside d (Walk old) u s is h in
+      let k = inside d (Walk old) u s is h in
       let P : (List ℕ → Trace) → Type 0 = λ t. Finishes t u result in
       subst P (same_trace d old k.1 k.2) (ends u s k.0)
 

@@ -23,7 +23,7 @@ use Rattle.ion_docs.specs.declared.doc_walk.Encoding.TheVariants.{Unbegun}
 use Rattle.ion_docs.specs.laws.Begun.{begins_on, trace_in, chosen_in, same_trace}
 use Rattle.ion_docs.specs.reading.Chosen.{chosen}
 use Rattle.ion_docs.specs.reading.DocTold.{Begins, DocTold, EncodingTold, Handed, HasBuilt}
-use Rattle.ion_docs.proofs.Chosen.{begins_front}
+use Rattle.ion_docs.proofs.Chosen.{begins_front, some_used}
 
 -- 1. What a walk told by one relation it told by another that follows from it.
 module _ {V : Type 0} (takes : V → Event → V → Type 0) {X Y : Type 0} (inner : Telling X) (outer : Telling Y) (new : X) (after : Y) where
@@ -111,19 +111,13 @@ module _ (d : DocWalk) (b : Bool) (Old : List ℕ → List (Value × ℕ) → Li
       × ((chosen d.catalog.now d.limits (u ++ piece)).refused ≡ Some refusal) in
       subst Q (sym k.0) (here.0 ∙ sym k.1, here.1)
 
-walked_some : (b : Bool) (piece : List ℕ) (used : ℕ) (ended : Bool) → Begins b piece → (if_ended ended ≡ None → used ≡ length piece)
-    → (IsSome (if_ended ended) → 0 < 0 + 2 * used) → 0 < used
-walked_some b [] used ended begins all progress = absurd begins
-walked_some b (first ∷ rest) used false begins all progress = let e = all refl in omega (arith, e)
-walked_some b (first ∷ rest) used true begins all progress = let e = progress refl in omega (arith, e)
-
 module _ {X : Type 0} (taken pending : X → ℕ) (awaits : X → Option ℕ) (failed : X → Option Refusal) where
   -- the first walk over a piece that isn't empty uses an octet
   pub first_walked : (b : Bool) (old new : X) (piece : List ℕ) (result : Result Walked Refusal) → pending old ≡ 0 → Begins b piece
       → IfOk result (λ walked. StepsOver taken pending awaits failed old new piece walked.used (if_ended walked.ended))
       → IfOk result (λ walked. 0 < walked.used)
   first_walked b old new piece (Ok walked) none begins leaves =
-      walked_some b piece walked.used walked.ended begins leaves.uses_all (λ some. let h = leaves.progress some in omega (arith, h, none))
+      some_used b piece walked.used (if_ended walked.ended) begins leaves.uses_all (λ some. let h = leaves.progress some in omega (arith, h, none))
   first_walked b old new piece (Err refusal) none begins leaves = tt
 
 -- 4. A visitor that builds.

@@ -14,7 +14,7 @@ ghost use Rattle.ion_binary.specs.Carrying.{WritesValue};
 ghost use Rattle.ion_text.specs.Carrying.{WritesValue as WritesText};
 ghost use Rattle.ion_symtab.specs.TookUp.{TookUp};
 
-use crate::doc_walk::DocWalk;
+use crate::doc_walk::{BINARY, DocWalk};
 use ion_binary::{BinaryReader, BinaryWriter, Carried};
 use ion_model::{Reason, Refusal, Value};
 use ion_symtab::{Catalog, Glance, Items, Limits, Outlet, Step, Walked};
@@ -24,9 +24,6 @@ use std::alloc::Global;
 use std::fmt::{self, Debug, Formatter};
 use std::hash::BuildHasher;
 use std::mem;
-
-/// The first octet of a binary document, and of no text.
-const BINARY: u8 = 0xE0;
 
 /// What the octets so far are read as.
 #[derive(Drop)]

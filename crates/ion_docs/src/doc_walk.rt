@@ -18,7 +18,7 @@ use std::alloc::Global;
 use std::mem;
 
 /// The first octet of a binary document, and of no text.
-const BINARY: u8 = 0xE0;
+pub(crate) const BINARY: u8 = 0xE0;
 
 /// What the octets so far are read as.
 #[derive(Drop)]
@@ -65,18 +65,8 @@ impl<'a> DocWalk<'a> {
         drop(mem::replace(&mut self.encoding, encoding));
     }
 
-    /// Refuses from now on: there was no memory before any octet was used.
-    fn refuse(&mut self, reason: Reason) -> Refusal
-        ensures refusal { result ≡ record { offset = 0; reason = reason } }
-        ensures kept { self.new ≡ record self.old { encoding = Encoding.Refused result } }
-    {
-        let refusal = Refusal { offset: 0, reason };
-        self.go_on(Encoding::Refused(refusal));
-        refusal
-    }
-
-    /// Refuses from now on, behind so many octets: there was no memory for a value.
-    pub(crate) fn run_out(&mut self, used: u64) -> Refusal
+    /// Refuses from now on, behind so many octets: there was no memory.
+    fn run_out(&mut self, used: u64) -> Refusal
         ensures refusal { result ≡ record { offset = used; reason = Memory } }
         ensures kept { self.new ≡ record self.old { encoding = Encoding.Refused result } }
     {
@@ -114,7 +104,7 @@ impl<'a> DocWalk<'a> {
                 ended: false,
             }),
             Some(&BINARY) => match BinaryWalk::new(self.alloc, self.catalog, self.limits) {
-                Err(reason) => Err(self.refuse(reason)),
+                Err(_) => Err(self.run_out(0)),
                 Ok(mut walk) => {
                     let result = walk.walk(piece, visitor);
                     self.go_on(Encoding::Binary(walk));
@@ -122,7 +112,7 @@ impl<'a> DocWalk<'a> {
                 }
             },
             Some(_) => match TextWalk::new(self.alloc, self.catalog, self.limits) {
-                Err(reason) => Err(self.refuse(reason)),
+                Err(_) => Err(self.run_out(0)),
                 Ok(mut walk) => {
                     let result = walk.walk(piece, visitor);
                     self.go_on(Encoding::Text(walk));
@@ -173,7 +163,8 @@ impl DocWalk<'_> {
     pub(crate) fn finish_by<V: Visitor>(self, visitor: &mut V) -> Result<bool, Refusal>
         requires { IsNone (awaits_of self) }
         ensures ends { (u : List ℕ) (s : List (AnyValue × ℕ)) (es : List Event) →
-            DocTold self.entry u s es → EndsOn V.takes (chosen self.entry.catalog.now self.entry.limits u) es
+            DocTold self.entry u s es →
+            EndsOn V.takes (chosen self.entry.catalog.now self.entry.limits u) es
             result visitor.old visitor.new }
         ensures memory { IfErr result (λ refusal. refusal.reason ≡ Memory →
             IsNone (failed_of self.entry) → refusal.offset ≡ taken_of self.entry) }

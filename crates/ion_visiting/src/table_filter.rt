@@ -372,6 +372,7 @@ impl TableFilter {
     #[inline(always)]
     pub fn lets_pass(&mut self) -> bool
         ensures plain { result ≡ true → is_of_table self.old.table true ≡ false }
+        ensures kept_back { result ≡ false → is_of_table self.old.table true ≡ true }
         ensures passes { result ≡ true → (es : List Event) → WasTold self.old es →
             LetsPass self.new × (heard es ≡ es) }
         ensures none { result ≡ false → self.new ≡ self.old }

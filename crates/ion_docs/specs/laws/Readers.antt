@@ -19,7 +19,7 @@ use Rattle.ion_docs.specs.declared.doc_reader.Format.{Format}
 use Rattle.ion_docs.specs.declared.doc_reader.Format.TheVariants.{Unbegun, Refused, Binary, Text, Walk}
 use Rattle.ion_docs.specs.declared.doc_reader.DocReader.{DocReader}
 use Rattle.ion_docs.specs.declared.doc_walk.DocWalk.{DocWalk}
-use Rattle.ion_docs.specs.laws.Begun.{begins_on, chosen_in, same_trace}
+use Rattle.ion_docs.specs.laws.Begun.{begins_on, chosen_in, each_some, same_trace, told_by}
 use Rattle.ion_docs.specs.laws.Walks as walks
 use Rattle.ion_docs.specs.reading.Chosen.{chosen}
 use Rattle.ion_docs.specs.declared.doc_walk.Encoding.{Encoding}
@@ -74,10 +74,6 @@ module _ (d : DocReader) where
   format_given (Binary r) u s h none = rw append-nil at (ap (λ (t : Trace). t.given) (binary_says r u [] s h)) ∙ binary_stands.given_of r u s h.0
   format_given (Text r) u s h none = rw append-nil at (ap (λ (t : Trace). t.given) (text_says r u [] s h)) ∙ text_stands.given_so_far r u s h.0 none
   format_given (Walk w) u s h none = ap (λ (t : Trace). t.given) (walk_says w u h.1 h.2) ∙ (walks.has_told w u s h.0.0 h.0.1).given_so_far none
-
-  each_some : (P Q : ℕ → Type 0) (o : Option ℕ) → ((x : ℕ) → P x → Q x) → IfSome o P → IfSome o Q
-  each_some P Q None f h = h
-  each_some P Q (Some x) f h = f x h
 
   format_given_next : (f : Format) (u : List ℕ) (s : List (Value × ℕ)) → FormatStands d f u s
       → IfSome (awaits_of f) (λ octet. IsFront s (doc_trace (u ++ octet ∷ [])).given)
@@ -159,7 +155,7 @@ module _ (d : DocReader) where
         not_refused = ap (λ (t : Trace). t.refused) (walk_says d w u h.1 h.2) ∙ k.not_refused;
         given_so_far = λ none. ap (λ (t : Trace). t.given) (walk_says d w u h.1 h.2) ∙ k.given_so_far none;
         given_with_next =
-            each_some d (λ octet. IsFront s (chosen w.catalog.now w.limits (u ++ octet ∷ [])).given)
+            each_some (λ octet. IsFront s (chosen w.catalog.now w.limits (u ++ octet ∷ [])).given)
             (λ octet. IsFront s (doc_trace d (u ++ octet ∷ [])).given) (awaits_of (Walk w))
             (λ octet. subst (λ (t : Trace). IsFront s t.given) (sym (walk_says d w (u ++ octet ∷ []) h.1 h.2))) k.given_with_next;
         bounded = subst (λ (l : Limits). kept_of (Walk w) ≤ l.item) h.1 k.bounded;
@@ -193,15 +189,8 @@ pub doc_told : (d : DocReader) (u : List ℕ) (s : List (Value × ℕ)) (es : Li
     → HasTold (λ (r : DocReader). taken_of r.format) (λ r. kept_of r.format) (λ r. failed_of r.format) (λ r. awaits_of r.format)
     (chosen d.catalog.now d.limits) d.limits.item d u s
 doc_told d u s es h =
-    let k = format_told d d.format u s es h in
-    record {
-      counted = k.counted;
-      not_failed = k.not_failed;
-      not_refused = k.not_refused;
-      given_so_far = k.given_so_far;
-      given_with_next = k.given_with_next;
-      bounded = k.bounded;
-    }
+    told_by (λ (r : DocReader). r.format) taken_of kept_of failed_of awaits_of (chosen d.catalog.now d.limits) d.limits.item d u s
+    (format_told d d.format u s es h)
 
 -- a reader of no octets has told nothing
 pub doc_nothing_told : (d : DocReader) → DocStands d [] [] → Told d [] [] []

@@ -16,7 +16,7 @@ use Rattle.ion_text.specs.laws.reading.Tells as text_told
 use Rattle.ion_docs.specs.declared.doc_walk.Encoding.{Encoding}
 use Rattle.ion_docs.specs.declared.doc_walk.Encoding.TheVariants.{Unbegun, Refused, Binary, Text}
 use Rattle.ion_docs.specs.declared.doc_walk.DocWalk.{DocWalk}
-use Rattle.ion_docs.specs.laws.Begun.{begins_on, chosen_in, same_trace}
+use Rattle.ion_docs.specs.laws.Begun.{begins_on, chosen_in, each_some, same_trace, told_by}
 use Rattle.ion_docs.specs.reading.Chosen.{chosen}
 use Rattle.ion_docs.specs.reading.DocTold.{DocTold, EncodingTold, awaits_in, awaits_of, failed_in, failed_of, kept_in, kept_of, taken_in, taken_of}
 
@@ -34,10 +34,6 @@ module _ (d : DocWalk) where
       → doc_trace (u ++ w) ≡ text.trace r.catalog.now r.limits (u ++ w)
   text_says r u w s es h = chosen_in false d.catalog.now d.limits (u ++ w) (begins_on false u w h.1)
       ∙ ap (λ (t : List ℕ → Trace). t (u ++ w)) (same_trace false d.catalog.now r.catalog.now d.limits r.limits (sym h.3) (sym h.2))
-
-  each_some : (P Q : ℕ → Type 0) (o : Option ℕ) → ((x : ℕ) → P x → Q x) → IfSome o P → IfSome o Q
-  each_some P Q None f h = h
-  each_some P Q (Some x) f h = f x h
 
   -- what a reader of an encoding told is so
   abbrev Told : Encoding → List ℕ → List (Value × ℕ) → Type 0
@@ -83,12 +79,5 @@ module _ (d : DocWalk) where
 pub has_told : (d : DocWalk) (u : List ℕ) (s : List (Value × ℕ)) (es : List Event) → DocTold d u s es
     → HasTold taken_of kept_of failed_of awaits_of (chosen d.catalog.now d.limits) d.limits.item d u s
 has_told d u s es h =
-    let k = encoding_told d d.encoding u s es h in
-    record {
-      counted = k.counted;
-      not_failed = k.not_failed;
-      not_refused = k.not_refused;
-      given_so_far = k.given_so_far;
-      given_with_next = k.given_with_next;
-      bounded = k.bounded;
-    }
+    told_by (λ (w : DocWalk). w.encoding) taken_in kept_in failed_in awaits_in (chosen d.catalog.now d.limits) d.limits.item d u s
+    (encoding_told d d.encoding u s es h)
