@@ -1,6 +1,6 @@
-pub mod Visits
 pub mod Parts
 pub mod Events
+pub mod KeptEvents
 pub mod Count
 pub mod Outlining
 pub mod Building

@@ -36,17 +36,46 @@ pub struct Following<'a> {
     outer: Vec<Frame>,
 }
 
+/// The memory that a `Following` took, for the next.
+#[derive(Drop)]
+pub struct Frames {
+    outer: Vec<Frame>,
+}
+
+impl Frames {
+    /// None yet. Takes no memory.
+    pub fn new(alloc: Global) -> Frames {
+        Frames {
+            outer: Vec::new(alloc),
+        }
+    }
+}
+
 impl<'a> Following<'a> {
     /// At the front of a tape. Takes no memory.
     pub fn new(alloc: Global, tape: &'a Tape) -> Following<'a>
         ensures { StartsOn tape.now result }
     {
+        Following::with_frames(tape, Frames::new(alloc))
+    }
+
+    /// The same with the memory of one before.
+    pub fn with_frames(tape: &'a Tape, frames: Frames) -> Following<'a>
+        ensures { StartsOn tape.now result }
+    {
+        let mut outer = frames.outer;
+        outer.clear();
         Following {
             tape,
             at: 0,
             frame: Frame { free: 0, taken: 0 },
-            outer: Vec::new(alloc),
+            outer,
         }
+    }
+
+    /// Its memory, for the next.
+    pub fn into_frames(self) -> Frames {
+        Frames { outer: self.outer }
     }
 
     // The entry there; goes behind it.

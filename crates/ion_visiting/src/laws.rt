@@ -1,5 +1,6 @@
 //! Laws of events and of visitors. Each stands on an empty function: its contract is the law.
 ghost use Rattle.std.specs.Prelude.{◌≡◌, ◌-◌, ◌^◌, ◌++◌, List, length, min, true, Some};
+ghost use Rattle.ion_model.specs.Kept.{AreKept, IsKept};
 ghost use Rattle.ion_model.specs.Outlines.{outline_of};
 ghost use Rattle.ion_model.specs.Same.{same};
 ghost use Rattle.ion_model.specs.declared.value.Value.{Value};
@@ -12,6 +13,7 @@ ghost use Rattle.ion_visiting.specs.Building.{Built, builds, fresh};
 ghost use Rattle.ion_visiting.specs.Count.{counts, no_values};
 ghost use Rattle.ion_visiting.specs.Events.{Event, Led, events_of, stream_events};
 ghost use Rattle.ion_visiting.specs.Following.{StartsOn, follows};
+ghost use Rattle.ion_visiting.specs.KeptEvents.{AreKeptEvents};
 ghost use Rattle.ion_visiting.specs.Outlining.{no_outline, outline_in, outlines};
 ghost use Rattle.ion_visiting.specs.Tapes.{Holds, IsBlank, events_in, tapes};
 
@@ -29,6 +31,12 @@ pub fn events_join<V: Visitor>()
         → Led V.takes (es ++ fs) a b }
     ensures splits { (es fs : List Event) (a b : V) → Led V.takes (es ++ fs) a b
         → (m : V) × Led V.takes es a m × Led V.takes fs m b }
+{}
+
+/// Values are such as the types keep where all that is told of them is.
+pub fn events_kept()
+    ensures value { (v : Value) → AreKeptEvents (events_of v) → IsKept v }
+    ensures values { (s : List Value) → AreKeptEvents (stream_events s) → AreKept s }
 {}
 
 /// A visitor that builds, told the events of a value from nothing, has built that value, and is as

@@ -10,7 +10,7 @@ use ion_scalar::Number;
 use std::alloc::Global;
 
 /// The symbol of this text, or the unknown one. The only refusal is `Memory`.
-pub fn symbol_of(recent: &mut RecentSymbols, text: Option<&str>) -> Result<Symbol, Reason>
+pub(crate) fn symbol_of(recent: &mut RecentSymbols, text: Option<&str>) -> Result<Symbol, Reason>
     ensures { MatchResult result
         (λ s. s ≡ option_map (λ t. t.now) text.entry) (λ reason. reason ≡ Memory) }
 {
@@ -21,7 +21,7 @@ pub fn symbol_of(recent: &mut RecentSymbols, text: Option<&str>) -> Result<Symbo
 }
 
 /// The value of such a part, whose octets are copied. The only refusal is `Memory`.
-pub fn payload_of(
+pub(crate) fn payload_of(
     alloc: Global,
     recent: &mut RecentSymbols,
     said: &Part<'_>,
@@ -40,7 +40,7 @@ pub fn payload_of(
 }
 
 /// The value of a number.
-pub fn number_payload(number: Number) -> Payload
+pub(crate) fn number_payload(number: Number) -> Payload
     ensures { result ≡ number_payload number }
 {
     match number {

@@ -223,6 +223,7 @@ impl Tape {
 
     /// Tells a visitor what was written down; `false` where the visitor answered so, of which the
     /// rest isn't told. Takes no memory by itself.
+    #[inline(always)]
     pub fn tell<V: Visitor>(&self, visitor: &mut V) -> bool
         ensures { result ≡ true →
             Led V.takes (events_in self.now) visitor.old visitor.new }
@@ -236,6 +237,7 @@ impl Tape {
         true
     }
 
+    #[inline(always)]
     fn tell_entry<V: Visitor>(&self, entry: Entry, visitor: &mut V) -> bool
         ensures told { result ≡ true →
             IfSome (told self.now entry) (λ e. V.takes visitor.old e visitor.new) }
@@ -281,6 +283,7 @@ fn same_number(number: &Number, other: &Number) -> bool
     }
 }
 
+#[inline(always)]
 fn tell_symbol<V: Visitor>(role: Role, text: Option<&str>, visitor: &mut V) -> bool
     ensures { result ≡ true → V.takes visitor.old
         (symbol_event role (option_map (λ t. t.now) text.entry)) visitor.new }
@@ -295,6 +298,7 @@ fn tell_symbol<V: Visitor>(role: Role, text: Option<&str>, visitor: &mut V) -> b
     }
 }
 
+#[inline(always)]
 fn tell_text<V: Visitor>(form: Form, octets: &[u8], visitor: &mut V) -> bool
     ensures { result ≡ true → V.takes visitor.old (text_event form octets.now) visitor.new }
 {

@@ -57,6 +57,36 @@ fn another_text_is_not_found(rt: HostRuntime) -> Result<(), Fail> {
     Ok(())
 }
 
+/// Whether two values are found on the tape of another, the second one with the memory of the search
+/// for the first. All are let go.
+fn are_found(alloc: Global, written: Value, first: Value, second: Value) -> (bool, bool) {
+    let mut tape = Tape::new(alloc);
+    let wrote = tell(&written, &mut tape);
+    let mut following = Following::new(alloc, &tape);
+    let found = wrote && tell(&first, &mut following);
+    let mut following = Following::with_frames(&tape, following.into_frames());
+    let other = wrote && tell(&second, &mut following);
+    drop(following);
+    drop(tape);
+    drop(written);
+    drop(first);
+    drop(second);
+    (found, other)
+}
+
+/// A search that ended inside of a struct leaves nothing to the next.
+#[test]
+fn a_search_begins_anew(rt: HostRuntime) -> Result<(), Fail> {
+    for reordered in &[false, true] {
+        let written = nested(rt.alloc(), "text", false)?;
+        let first = nested(rt.alloc(), "texts", *reordered)?;
+        let second = nested(rt.alloc(), "text", *reordered)?;
+        let found = are_found(rt.alloc(), written, first, second);
+        same(&rt, *reordered, found, (false, true));
+    }
+    Ok(())
+}
+
 /// Whether what a tape tells of a value is built as that value.
 fn is_told_again(alloc: Global, value: Value) -> bool {
     let mut tape = Tape::new(alloc);
