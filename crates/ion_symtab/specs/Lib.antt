@@ -2,7 +2,6 @@ pub mod Limits
 pub mod Told
 pub mod Heard
 pub mod Took
-pub mod TookUp
 pub mod IsNew
 pub mod Cause
 pub mod Outcome

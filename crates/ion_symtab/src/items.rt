@@ -8,7 +8,6 @@ ghost use Rattle.ion_symtab.specs.Steps.{StepsOver, RefusesBy};
 ghost use Rattle.ion_symtab.specs.Walks.{EndsOn, HasTold, WalksOn, if_ended};
 ghost use Rattle.ion_symtab.specs.Promises.{Refuses, IsFirst, HasPieces, Shown, Shows, IsSmall, HasReasons, GivesNoTable, EndsValues};
 
-use crate::glance::Glance;
 use ion_model::{Refusal, Value};
 use ion_visiting::Visitor;
 
@@ -165,14 +164,6 @@ pub trait Items: Sized {
         ensures memory { IfErr result (λ refusal. refusal.reason ≡ Memory → IsNone (failed self) →
             refusal.offset ≡ taken self) }
         ensures again { IfSome (failed self) (λ refusal. result ≡ Result.Err refusal) };
-
-    /// Whether the value at the front of the piece, of which nothing was taken up yet, seems to go on
-    /// behind it. It serves whoever reads pieces from a device, which may join them then. It is a
-    /// hint, of which nothing is promised, and no answer rests on it. What was looked over of the
-    /// piece is noted in `glance`, which serves for these octets with more behind them.
-    fn seems_cut(&self, _piece: &[u8], _glance: &mut Glance) -> bool {
-        false
-    }
 
     /// Ends the octets: the value that only the end shows to be whole, if there is one, or the
     /// refusal of octets that are no document.
