@@ -1,17 +1,17 @@
 -- Values that begin in a reader that holds no values, and what only moves it on.
-use Rattle.std.proofs.Common.{◌≡◌, ℕ, List, [], ◌∷◌, ◌++◌, Bool, true, false, Option, Result, Ok, Err, refl, ap, sym, subst, ◌∙◌}
+use Rattle.std.proofs.Common.{◌≡◌, ℕ, List, [], ◌∷◌, ◌++◌, Bool, true, Option, Result, Ok, Err, refl, ap, sym, subst, ◌∙◌}
 use Rattle.std.specs.Prelude.{if◌then◌else◌}
 use Rattle.std.proofs.lemmas.List.{append-nil}
 use Rattle.std.proofs.lemmas.Bool.{false≢true}
 use Rattle.ion_atoms.specs.declared.refusal.Reason.{Reason}
-use Rattle.ion_atoms.specs.declared.refusal.Reason.TheVariants.{Memory, Malformed, Version}
+use Rattle.ion_atoms.specs.declared.refusal.Reason.TheVariants.{Malformed, Version}
 use Rattle.ion_model.specs.declared.value.Value.{Value}
 use Rattle.ion_model.specs.declared.value.Payload.{Payload}
 use Rattle.ion_model.specs.Measures.{bare}
 use Rattle.ion_visiting.specs.declared.bracket.Bracket.{Bracket}
 use Rattle.ion_visiting.specs.Events.{Event, part, name, opens, events_of}
-use Rattle.ion_binary.specs.declared.state.Frame.{Frame}
-use Rattle.ion_binary.specs.declared.state.Frame.TheVariants as frames
+use Rattle.ion_binary.specs.machine.Frames.{Frame}
+use Rattle.ion_binary.specs.machine.Frames as frames
 use Rattle.ion_symtab.specs.Slots.{Slot, system_slots}
 use Rattle.ion_binary.specs.declared.state.Mark.{Mark}
 use Rattle.ion_binary.specs.declared.state.Mark.TheVariants.{Fourth}
@@ -19,15 +19,14 @@ use Rattle.ion_binary.specs.declared.state.Phase.TheVariants.{Ready}
 use Rattle.ion_binary.specs.declared.state.Effect.{Effect}
 use Rattle.ion_binary.specs.declared.state.Effect.TheVariants.{Goes}
 use Rattle.ion_binary.specs.declared.walking.BinaryWalk.{BinaryWalk}
-use Rattle.ion_binary.specs.declared.walking.Container.{Container}
 use Rattle.ion_binary.specs.declared.walking.Container.TheVariants as containers
 use Rattle.ion_visiting.specs.declared.table_filter.TableFilter.{TableFilter}
 use Rattle.ion_binary.specs.declared.form.Scalar.{Scalar}
 use Rattle.ion_binary.specs.Judge.{judge}
 use Rattle.ion_binary.specs.machine.EachOctet.{Outcome, goes, refuses, at, deliver, proceed, judged, anew, on_marker}
 use Rattle.ion_visiting.specs.Tables.{Hears, WasTold, heard}
-use Rattle.ion_binary.specs.walking.Holds.{AreAround, AreOpen, Does, DoesAlone, HoldsNoWrapper, Holds, IsBehind, IsInside, IsNamedBy, IsPart, IsTop, Name, container_of, containers_of, is_named, machine_of, name_of, open_containers, setting_of, spot_of, told, told_in}
-use Rattle.ion_visiting.specs.laws.Filters.{hears_none, hears_both}
+use Rattle.ion_binary.specs.walking.Holds.{AreAround, AreOpen, Does, DoesAlone, HoldsNoWrapper, Holds, IsBehind, IsInside, IsNamedBy, IsPart, IsTop, Name, container_of, is_named, machine_of, name_of, open_containers, setting_of, spot_of, told, told_in}
+use Rattle.ion_visiting.specs.laws.Filters.{hears_both}
 use Rattle.ion_binary.proofs.Tellings.{name_told, part_told, does_more}
 use Rattle.ion_binary.proofs.Ending.{does_same, bare_in, is_at}
 
@@ -49,28 +48,11 @@ goes_alone r new fs o is same named kept inside h = (fs, is, stays r new fs same
 
 -- 2. The name of the field whose value begins.
 
-untold : (cs : List Container) (fs : List Frame) → is_named cs ≡ false → cs ≡ containers_of fs → told fs ≡ told_in fs
-untold cs [] h same = refl
-untold cs (frames.Items end x vs ∷ fs) h same = refl
-untold cs (frames.Fields end ms ∷ fs) h same = refl
-untold cs (frames.Named end ms n ∷ fs) h same = absurd (false≢true (sym h ∙ ap is_named same))
-untold cs (frames.Annotated end ss ∷ fs) h same = refl
-
 abbrev symbol_in : Option (List ℕ) → Name → Option (List ℕ)
 symbol_in t (Ok s) = s
 symbol_in t (Err e) = t
 
-abbrev IsOk : Name → Type 0
-IsOk (Ok s) = Unit {0}
-IsOk (Err e) = ⊥
-
 module _ {V : Type 0} (takes : V → Event → V → Type 0) where
-  pub value_untold : (r : BinaryWalk) (a : V) → is_named (open_containers r) ≡ false → (fs : List Frame) → Holds r fs → AreAround fs
-      → WasTold r.filter (told_in fs) × Hears takes (heard (told fs)) (heard (told_in fs)) a a
-  value_untold r a none fs h around =
-      let e = untold (open_containers r) fs none h.containers in
-      (subst (λ es. WasTold r.filter es) e h.was_told, hears_none takes (heard (told fs)) (heard (told_in fs)) a (ap heard (sym e)))
-
   pub value_named : (r : BinaryWalk) (g : TableFilter) (s : Option (List ℕ)) (a b : V) → is_named (open_containers r) ≡ true → name_of r ≡ Ok s
       → ((es : List Event) → WasTold r.filter es → WasTold g (es ++ name s ∷ []) × Hears takes (heard es) (heard (es ++ name s ∷ [])) a b)
       → (fs : List Frame) → Holds r fs → AreAround fs → WasTold g (told_in fs) × Hears takes (heard (told fs)) (heard (told_in fs)) a b
@@ -86,15 +68,6 @@ module _ {V : Type 0} (takes : V → Event → V → Type 0) where
         subst (λ es. WasTold g es) all i.0,
         subst (λ es. Hears takes (heard (told (frames.Named end ms (Ok t) ∷ fs))) (heard es) a b) all i.1,
       )
-
-pub value_refused : (r : BinaryWalk) (reason : Reason) → is_named (open_containers r) ≡ true → name_of r ≡ Err reason
-    → (fs : List Frame) → Holds r fs → AreAround fs → reason ≡ Memory
-value_refused r reason some is [] h around = absurd (false≢true (sym (ap is_named h.containers) ∙ some))
-value_refused r reason some is (frames.Items end x vs ∷ fs) h around = absurd (false≢true (sym (ap is_named h.containers) ∙ some))
-value_refused r reason some is (frames.Fields end ms ∷ fs) h around = absurd (false≢true (sym (ap is_named h.containers) ∙ some))
-value_refused r reason some is (frames.Annotated end ss ∷ fs) h around = absurd (false≢true (sym (ap is_named h.containers) ∙ some))
-value_refused r reason some is (frames.Named end ms (Err e) ∷ fs) h around = absurd around
-value_refused r reason some is (frames.Named end ms (Ok t) ∷ fs) h around = absurd (subst IsOk (h.named ∙ is) tt)
 
 -- 3. Values and containers whose front was told.
 
@@ -186,11 +159,6 @@ module _ {V : Type 0} (takes : V → Event → V → Type 0) (r s : BinaryWalk) 
       does_same takes (told fs) (judged (setting_of r) (spot_of r) fs (judge r.context t body)) (deliver (setting_of r) (spot_of r) fs (bare said.0)) result new a b
       (ap (judged (setting_of r) (spot_of r) fs) (ap (λ (w : BinaryWalk). judge w.context t body) (sym kept) ∙ said.1))
       (whole_does said.0 said.2 said.3 fs h around)
-
-pub scalar_refused : (r s : BinaryWalk) → s ≡ record r { filter = s.filter } → (t : Scalar) (body : List ℕ) (reason : Reason)
-    → judge s.context t body ≡ Err reason → (fs : List Frame) → judged (setting_of r) (spot_of r) fs (judge r.context t body) ≡ refuses reason
-scalar_refused r s kept t body reason e fs =
-    ap (judged (setting_of r) (spot_of r) fs) (ap (λ (w : BinaryWalk). judge w.context t body) (sym kept) ∙ e)
 
 -- 5. A version marker ends.
 

@@ -10,17 +10,20 @@ use Rattle.ion_model.specs.declared.value.Payload.{Payload}
 use Rattle.ion_model.specs.declared.value.Payload.TheOpen.{Payload-F}
 use Rattle.ion_model.specs.declared.value.Payload.TheVariants as payloads
 use Rattle.ion_model.specs.declared.value.Payload.TheViews as views
+use Rattle.ion_model.specs.Kept.{AreKept, IsKept}
 use Rattle.ion_model.specs.Measures.{Layer, depth, layer_depth, greatest}
 use Rattle.ion_model.specs.laws.Measures.{depth-out}
 use Rattle.ion_scalar.specs.binary.Spellings.{var_uint_octets, uint_octets}
 use Rattle.ion_visiting.specs.declared.bracket.Bracket.{Bracket}
 use Rattle.ion_visiting.specs.declared.bracket.Bracket.TheVariants as brackets
 use Rattle.ion_visiting.specs.Events.{Event, part, annotation, closes, ended, within, events_of, field_events, layer_events, stream_events, Led}
-use Rattle.ion_visiting.specs.laws.Led.{events_out}
+use Rattle.ion_visiting.specs.KeptEvents.{AreKeptEvents}
+use Rattle.ion_visiting.specs.laws.KeptEvents as kept_events
+use Rattle.ion_visiting.specs.laws.Led.{events_out, led_both}
 use Rattle.ion_binary.specs.Output.{Names, Progress, id_of, with_name, with_names, framed, with_count, ids_octets, wrapped, symbols_of, field_symbols, layer_symbols, value_octets, field_octets, layer_octets, opening, table_from, table_octets, names_after, nothing_yet, adds, after}
 use Rattle.ion_binary.specs.laws.writing.Output.{octets-out, symbols-out}
 use Rattle.ion_binary.specs.visiting.Brackets.{code_in}
-use Rattle.ion_binary.specs.visiting.BinaryOut.{Encoded, with_frame, framed_behind, with_body, counted_behind, wraps_next, with_begun, with_ended, with_id, with_part, with_noted, encoded, encodes, no_octets}
+use Rattle.ion_binary.specs.visiting.BinaryOut.{Encoded, with_frame, framed_behind, with_body, counted_behind, wraps_next, with_begun, with_ended, with_id, with_part, with_noted, with_value, encoded, Encodes, no_octets, of_values}
 use Rattle.ion_binary.specs.writer.Later.{IsLater}
 use Rattle.ion_binary.proofs.Encoded.{framed_at}
 use Rattle.ion_binary.specs.writer.Puts.{puts, behind}
@@ -33,9 +36,12 @@ abbrev encoded_all : List Event → Encoded → Encoded
 encoded_all [] a = a
 encoded_all (e ∷ es) a = encoded_all es (encoded a e)
 
-led_encoded : (es : List Event) (a b : Encoded) → Led encodes es a b → b ≡ encoded_all es a
+led_encoded : (es : List Event) (a b : Encoded) → Led Encodes es a b → b ≡ encoded_all es a
 led_encoded [] a b h = sym h
-led_encoded (e ∷ es) a b h = led_encoded es h.0 b h.2 ∙ ap (encoded_all es) h.1
+led_encoded (e ∷ es) a b h = led_encoded es h.0 b h.2 ∙ ap (encoded_all es) h.1.is
+
+led_kept : (es : List Event) (a b : Encoded) → Led Encodes es a b → AreKeptEvents es
+led_kept = kept_events.led_kept Encodes (λ a b e h. h.kept)
 
 encoded_both : (es fs : List Event) (a : Encoded) → encoded_all (es ++ fs) a ≡ encoded_all fs (encoded_all es a)
 encoded_both [] fs a = refl
@@ -315,10 +321,6 @@ value_put v = (each_put (suc (depth v))).value v (omega arith)
 
 -- 5. Values of the top level.
 
--- values that ended, and nothing behind them
-abbrev of_values : List ℕ → Progress → Encoded
-of_values w p = record { whole = w; names = p.names; known = length p.names; begun = p.begun; value = []; frames = []; noted = false }
-
 ended_put : (v : Value) (w : List ℕ) (p : Progress) → encoded_all (events_of v ++ ended ∷ []) (of_values w p) ≡ of_values (w ++ adds p v) (after p v)
 ended_put v w p =
     let a = of_values w p in
@@ -350,17 +352,52 @@ values_put_behind (v ∷ s) w p =
     ∙ values_put_behind s (w ++ adds p v) (after p v)
     ∙ ap (λ x. of_values x (behind (after p v) s)) (append_assoc w (adds p v) (puts (after p v) s))
 
--- values that were told and ended are written as what they add to a document
-pub values_told : (s : List Value) (b : Encoded) → Led encodes (stream_events s) no_octets b → b ≡ of_values (puts nothing_yet s) (behind nothing_yet s)
-values_told s b h = led_encoded (stream_events s) no_octets b h ∙ values_put_behind s [] nothing_yet
+-- values that were told and ended are written as what they add to a document, and are kept
+pub values_told : (s : List Value) (b : Encoded) → Led Encodes (stream_events s) no_octets b
+    → (b ≡ of_values (puts nothing_yet s) (behind nothing_yet s)) × AreKept s
+values_told s b h = (
+  led_encoded (stream_events s) no_octets b h ∙ values_put_behind s [] nothing_yet,
+  kept_events.values_kept s (led_kept (stream_events s) no_octets b h),
+)
 
--- a value that is told leaves those that ended as they are
-pub value_told : (v : Value) (a b : Encoded) → a.noted ≡ false → wraps_next a.frames ≡ false → Led encodes (events_of v) a b
-    → (b.whole ≡ a.whole) × (b.names ≡ names_after a.names v) × (b.value ≡ a.value ++ value_octets b.names v) × (b.frames ≡ a.frames)
+-- a value that is told gets its symbols and its octets, and is kept
+pub value_told : (v : Value) (a b : Encoded) → a.noted ≡ false → wraps_next a.frames ≡ false → Led Encodes (events_of v) a b
+    → (b ≡ with_value a v) × IsKept v
 value_told v a b noted bare h =
     let p = subst (λ x. Puts (symbols_of v) (λ l. value_octets l v) a x) (sym (led_encoded (events_of v) a b h))
     (value_put v a (record { noted = noted; bare = bare })) in
-    (p.rests.whole, p.names, p.value b.names (later_self b.names), p.frames)
+    let octets : b.value ≡ a.value ++ value_octets (names_after a.names v) v =
+    p.value b.names (later_self b.names) ∙ ap (λ n. a.value ++ value_octets n v) p.names in (
+      λ i. record {
+        whole = p.rests.whole i;
+        names = p.names i;
+        known = p.rests.known i;
+        begun = p.rests.begun i;
+        value = octets i;
+        frames = p.frames i;
+        noted = p.noted i;
+      },
+      kept_events.value_kept v (led_kept (events_of v) a b h),
+    )
+
+-- a value is told behind those of which nothing is kept but the ids
+module _ (p q : Progress) (is : q ≡ p) (v : Value) (a m : Encoded) (gone : a ≡ of_values [] q) (led : Led Encodes (events_of v) a m) where
+  begun_at : Led Encodes (events_of v) (of_values [] p) m
+  begun_at = subst (λ q. Led Encodes (events_of v) (of_values [] q) m) is (subst (λ a. Led Encodes (events_of v) a m) gone led)
+
+  -- the symbols that have ids then
+  pub names_told : m.names ≡ names_after p.names v
+  names_told = ap (λ (x : Encoded). x.names) (value_told v (of_values [] p) m refl refl begun_at).0
+
+  pub value_kept : IsKept v
+  value_kept = (value_told v (of_values [] p) m refl refl begun_at).1
+
+  -- its end is behind what it adds
+  pub end_told : (b : Encoded) → Encodes m ended b → b ≡ of_values (adds p v) (after p v)
+  end_told b end =
+      led_encoded (events_of v ++ ended ∷ []) (of_values [] p) b
+      (led_both Encodes (events_of v) (ended ∷ []) (of_values [] p) m b begun_at (b, end, refl))
+      ∙ ended_put v [] p
 
 -- 6. Parts without symbols.
 

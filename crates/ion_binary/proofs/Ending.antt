@@ -4,7 +4,6 @@ use Rattle.std.specs.Prelude.{◌==◌, if◌then◌else◌}
 use Rattle.std.proofs.lemmas.List.{reverse-append}
 use Rattle.std.proofs.lemmas.Bool.Decides.{nat_tests}
 use Rattle.ion_atoms.specs.declared.refusal.Reason.{Reason}
-use Rattle.ion_atoms.specs.declared.refusal.Reason.TheVariants.{Malformed}
 use Rattle.ion_model.specs.declared.value.Value.{Value}
 use Rattle.ion_model.specs.declared.value.Field.{Field}
 use Rattle.ion_model.specs.declared.value.Payload.{Payload}
@@ -13,8 +12,8 @@ use Rattle.ion_model.specs.Measures.{bare, annotated, field_of}
 use Rattle.ion_visiting.specs.declared.bracket.Bracket.TheVariants as brackets
 use Rattle.ion_visiting.specs.Events.{Event, closes, events_of}
 use Rattle.ion_binary.specs.declared.form.Listing.{Listing}
-use Rattle.ion_binary.specs.declared.state.Frame.{Frame}
-use Rattle.ion_binary.specs.declared.state.Frame.TheVariants as frames
+use Rattle.ion_binary.specs.machine.Frames.{Frame}
+use Rattle.ion_binary.specs.machine.Frames as frames
 use Rattle.ion_binary.specs.declared.state.Phase.{Phase}
 use Rattle.ion_binary.specs.declared.state.Phase.TheVariants.{Ready, InNumber}
 use Rattle.ion_binary.specs.declared.state.Purpose.TheVariants as purposes
@@ -25,7 +24,7 @@ use Rattle.ion_binary.specs.declared.walking.Container.{Container}
 use Rattle.ion_binary.specs.declared.walking.Container.TheVariants as containers
 use Rattle.ion_binary.specs.Grammar.{listed}
 use Rattle.ion_binary.specs.visiting.Brackets.{bracket_of}
-use Rattle.ion_binary.specs.machine.EachOctet.{Setting, Spot, Outcome, goes, refuses, at, deliver, proceed}
+use Rattle.ion_binary.specs.machine.EachOctet.{Setting, Spot, Outcome, goes, at, deliver, proceed}
 use Rattle.ion_visiting.specs.Tables.{Hears, WasTold, heard}
 use Rattle.ion_binary.specs.walking.Holds.{AreAround, AreOpen, Closes, Does, DoesAlone, EndedIn, HoldsNoWrapper, IsBareIn, IsBehind, IsInside, IsNamedBy, container_of, containers_of, machine_of, name_of, open_containers, setting_of, spot_of, told, told_in}
 use Rattle.ion_visiting.specs.laws.Filters.{hears_none}
@@ -72,12 +71,6 @@ IsItems (containers.Items end x) = Unit {0}
 IsItems (containers.Fields end) = ⊥
 IsItems (containers.Named end) = ⊥
 IsItems (containers.Annotated end) = ⊥
-
-abbrev pub IsFields : Container → Type 0
-IsFields (containers.Items end x) = ⊥
-IsFields (containers.Fields end) = Unit {0}
-IsFields (containers.Named end) = ⊥
-IsFields (containers.Annotated end) = ⊥
 
 abbrev pub IsNamed : Container → Type 0
 IsNamed (containers.Items end x) = ⊥
@@ -264,14 +257,6 @@ module _ {V : Type 0} (takes : V → Event → V → Type 0) where
   wrapper_behind r new k end a is kept (frames.Items to y vs) fs v e same around bare_there was = absurd (subst IsWrapper (sym is ∙ e) tt)
   wrapper_behind r new k end a is kept (frames.Fields to ms) fs v e same around bare_there was = absurd (subst IsWrapper (sym is ∙ e) tt)
   wrapper_behind r new k end a is kept (frames.Named to ms n) fs v e same around bare_there was = absurd (subst IsWrapper (sym is ∙ e) tt)
-
-  -- where a name is due no value ends
-  pub fields_behind : (s : Setting) (t : Spot) (k : Container) (end : ℕ) → k ≡ containers.Fields end → (f : Frame) (fs : List Frame) (v : Value)
-      → k ≡ container_of f → deliver s t (f ∷ fs) v ≡ refuses Malformed
-  fields_behind s t k end is (frames.Fields to ms) fs v e = refl
-  fields_behind s t k end is (frames.Items to y vs) fs v e = absurd (subst IsFields (sym is ∙ e) tt)
-  fields_behind s t k end is (frames.Named to ms n) fs v e = absurd (subst IsFields (sym is ∙ e) tt)
-  fields_behind s t k end is (frames.Annotated to ss) fs v e = absurd (subst IsFields (sym is ∙ e) tt)
 
   -- 5. All containers that end with a value.
 

@@ -1,8 +1,8 @@
 -- The ids of names that all differ, as a set gives them: each is the place of its name.
-use Rattle.std.proofs.Common.{◌≡◌, ℕ, suc, zero, ◌+◌, ◌<◌, ◌≤◌, ◌^◌, Bool, true, false, true≢false, not, cond, position, List, [], ◌∷◌, length, slice_get, Option, None, Some, IfSome, refl, sym, ap, ◌∙◌, arith}
-use Rattle.std.specs.Prelude.{nat_lt, is_some}
+use Rattle.std.proofs.Common.{◌≡◌, ℕ, suc, zero, ◌+◌, ◌≤◌, Bool, true, false, true≢false, not, cond, position, List, [], ◌∷◌, length, slice_get, Option, None, Some, refl, sym, ap, ◌∙◌, arith}
+use Rattle.std.specs.Prelude.{nat_lt}
 use Rattle.std.specs.Cmp.{IsEquivalence}
-use Rattle.std.specs.List.{list_any, position_or_len, AllByRecursion, IsDistinct}
+use Rattle.std.specs.List.{position_or_len, AllByRecursion, IsDistinct}
 use Rattle.std.specs.Option.{unwrap_or}
 use Rattle.std.proofs.lemmas.Bool.{ltb-false}
 use Rattle.std.proofs.lemmas.List.Sums.{prefix_len-le-length}
@@ -10,7 +10,6 @@ use Rattle.std.proofs.lemmas.Map.Keys.{IsDistinct-head, IsDistinct-tail}
 use Rattle.ion_model.specs.Symbols.{symbol_same}
 use Rattle.ion_model.specs.laws.Equivalence.{symbol_same-equiv}
 use Rattle.ion_binary.specs.Output.{Names, id_of}
-use Rattle.ion_binary.specs.machine.Transcribed.{HasId}
 
 -- 1. Places.
 
@@ -50,13 +49,3 @@ place_is eq laws (z ∷ zs) (suc i) x y d e h = ap suc (place_is eq laws zs i x 
 pub id_at : (names : Names) (id : ℕ) (s other : Option (List ℕ)) → IsDistinct symbol_same names → slice_get names id ≡ Some other → symbol_same s other ≡ true
     → id ≡ id_of names s
 id_at = place_is symbol_same symbol_same-equiv
-
--- the place of a symbol among the names is its id
-pub found_some : (names : Names) (s : Option (List ℕ)) (r : Option ℕ) → r ≡ position (symbol_same s) names → is_some r ≡ list_any (symbol_same s) names
-    → IfSome r (λ id. id < length names) → length names < 2 ^ 63 → IfSome r (λ id. HasId names s id)
-found_some names s None place among within few = tt
-found_some names s (Some id) place among within few = record {
-  is = ap (λ o. unwrap_or o (length names)) place ∙ place_or (symbol_same s) names;
-  small = omega (arith, within, few);
-  named = rw (← among) refl;
-}

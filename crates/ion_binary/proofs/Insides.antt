@@ -1,23 +1,19 @@
 -- Octets of a piece that a body or a pad goes on behind.
-use Rattle.std.proofs.Common.{◌≡◌, ℕ, ◌+◌, ◌-◌, ◌<◌, ◌≤◌, List, ◌++◌, length, take, drop, Option, Some, None, Ok, ap, sym, ◌∙◌, arith}
+use Rattle.std.proofs.Common.{◌≡◌, ℕ, ◌+◌, ◌-◌, ◌<◌, ◌≤◌, List, ◌++◌, length, take, drop, ap, sym, ◌∙◌, arith}
 use Rattle.std.proofs.lemmas.List.{length-take-le, take-append-drop}
 use Rattle.ion_atoms.specs.declared.refusal.Reason.{Reason}
-use Rattle.ion_model.specs.declared.value.Value.{Value}
 use Rattle.ion_symtab.specs.declared.limits.Limits.{Limits}
 use Rattle.ion_symtab.specs.declared.catalog.Catalog.{Catalog}
 use Rattle.ion_binary.specs.declared.form.Scalar.{Scalar}
-use Rattle.ion_binary.specs.declared.reader.BinaryReader.{BinaryReader}
-use Rattle.ion_binary.specs.declared.state.Effect.{Effect}
-use Rattle.ion_binary.specs.declared.state.Effect.TheVariants.{Goes, Gives}
-use Rattle.ion_binary.specs.declared.state.Frame.{Frame}
+use Rattle.ion_binary.specs.machine.Frames.{Frame}
 use Rattle.ion_binary.specs.declared.state.Phase.{Phase}
 use Rattle.ion_binary.specs.declared.state.Phase.TheVariants.{InBody, InPad}
 use Rattle.ion_binary.specs.Judge.{judge}
 use Rattle.ion_binary.specs.machine.EachOctet.{Spot, under, moved, Machine, Outcome, at, in_body, judged}
 use Rattle.ion_binary.specs.laws.reading.Complete.{body_run}
-use Rattle.ion_binary.specs.machine.Run.{Run, run}
+use Rattle.ion_binary.specs.machine.Run.{run}
 use Rattle.ion_binary.specs.machine.Pieces.{led, run_after, then_run, run-append}
-use Rattle.ion_binary.specs.machine.Views.{machine_of, body_so_far, Gave, GaveLast, Does, Reached}
+use Rattle.ion_binary.specs.machine.Views.{body_so_far}
 use Rattle.ion_binary.specs.machine.AtOnce.{body_goes, pad_goes}
 
 -- the machine of a reader with this phase and these octets in its memory
@@ -51,16 +47,6 @@ module _ (g : Catalog) (l : Limits) (spot : Spot) (fs : List Frame) (kept : List
       let size : length (take k piece) ≡ k = length-take-le k piece within in
       ap (λ p. run g l spot.used (with_phase spot fs kept p) (take k piece)) e
       ∙ body_run g l spot fs t (k - 1) kept (take k piece) (spot.used + k) (omega arith) (omega arith)
-
--- a run that a method's outcome ends, where the method gave a value
-gave_last : (o : Outcome) (given : Option Value) (m : Machine) (ran : Run) (to : ℕ) → ran ≡ run_after to o → Gave o given m → GaveLast ran to given m
-gave_last o (Some v) m ran to e did = e ∙ ap (run_after to) did
-gave_last o None m ran to e did = absurd did
-
--- a run that a method's outcome ends
-pub reached : (o : Outcome) (effect : Effect) (r : BinaryReader) (ran : Run) (to : ℕ) → ran ≡ run_after to o → Does o (Ok effect) r → Reached ran to effect r
-reached o Goes r ran to e did = e ∙ ap (run_after to) did
-reached o Gives r ran to e did = gave_last o r.given (machine_of r) ran to e did
 
 -- what is refused at the front of a piece is refused with what follows
 pub refused_whole : (g : Catalog) (l : Limits) (used : ℕ) (m : Machine) (piece : List ℕ) (k : ℕ) (reason : Reason) → k ≤ length piece →

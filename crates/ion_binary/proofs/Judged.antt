@@ -1,12 +1,11 @@
 -- What scalars are, told as parts.
-use Rattle.std.proofs.Common.{◌≡◌, ℕ, List, Option, Some, Result, Ok, Err, ap, ◌∙◌}
+use Rattle.std.proofs.Common.{◌≡◌, ℕ, List, Option, Some, Result, Ok, Err, ap}
 use Rattle.std.specs.Result.{OnOk}
 use Rattle.ion_model.specs.declared.value.Payload.TheVariants as payloads
 use Rattle.ion_model.specs.declared.value.Payload.TheViews.{outs-Null, outs-Truth, outs-Int, outs-Decimal, outs-Timestamp, outs-Symbol, outs-Str, outs-Clob, outs-Blob}
 use Rattle.ion_atoms.specs.declared.refusal.Reason.{Reason}
 use Rattle.ion_scalar.specs.declared.number.Number.{Number}
 use Rattle.ion_scalar.specs.declared.number.Number.TheVariants as numbers
-use Rattle.ion_scalar.specs.binary.Fields.{uint_field}
 use Rattle.ion_symtab.specs.Slots.{Slot}
 use Rattle.ion_visiting.specs.declared.part.Part.{Part}
 use Rattle.ion_visiting.specs.declared.part.Part.TheVariants as parts
@@ -14,7 +13,7 @@ use Rattle.ion_visiting.specs.Events.{layer_events}
 use Rattle.ion_visiting.specs.Parts.{payload_of, number_payload}
 use Rattle.ion_binary.specs.declared.form.Scalar.{Scalar}
 use Rattle.ion_binary.specs.declared.form.Scalar.TheVariants as scalars
-use Rattle.ion_binary.specs.Judge.{judge, symbol_of, text_of}
+use Rattle.ion_binary.specs.Judge.{judge}
 use Rattle.ion_binary.specs.walking.Holds.{IsPart}
 
 -- what holds of the answer of a call holds of another one
@@ -41,15 +40,6 @@ pub symbol_leaf : (s : Option (List ℕ)) → IsPart (payloads.Symbol s)
 symbol_leaf s = ap layer_events (outs-Symbol s)
 
 module _ (c : List Slot) (t : Scalar) (body : List ℕ) where
-  pub judged_symbol : (s : Option (List ℕ)) → t ≡ scalars.Symbol → symbol_of c (uint_field body) ≡ Ok (payloads.Symbol s)
-      → judge c t body ≡ Ok (payloads.Symbol s)
-  unfolding judge
-  judged_symbol s is e = ap (λ t. judge c t body) is ∙ e
-
-  pub judged_text : (w : List ℕ) → t ≡ scalars.Str → text_of body ≡ Ok (payloads.Str w) → judge c t body ≡ Ok (payloads.Str w)
-  unfolding judge
-  judged_text w is e = ap (λ t. judge c t body) is ∙ e
-
   pub judged_clob : t ≡ scalars.Clob → judge c t body ≡ Ok (payloads.Clob body)
   unfolding judge
   judged_clob is = ap (λ t. judge c t body) is

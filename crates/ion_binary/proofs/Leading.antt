@@ -1,5 +1,5 @@
 -- How a run over a piece ends.
-use Rattle.std.proofs.Common.{◌≡◌, ℕ, ◌+◌, ◌<◌, ◌≤◌, List, [], ◌∷◌, ◌++◌, length, take, drop, Option, Some, None, ap, sym, ◌∙◌, arith, Ok, append_assoc, subst, ◌-◌, length-take, length-drop}
+use Rattle.std.proofs.Common.{◌≡◌, ℕ, ◌+◌, ◌<◌, ◌≤◌, List, [], ◌∷◌, ◌++◌, length, take, drop, ap, sym, ◌∙◌, arith, Ok, append_assoc, subst, ◌-◌, length-take, length-drop}
 use Rattle.std.proofs.lemmas.Grind.{common_steps}
 use Rattle.std.proofs.lemmas.List.{length-take-le}
 use Rattle.std.proofs.Math.Seq.{take-add}
@@ -7,9 +7,8 @@ use Rattle.ion_model.specs.declared.value.Value.{Value}
 use Rattle.ion_symtab.specs.declared.limits.Limits.{Limits}
 use Rattle.ion_symtab.specs.declared.catalog.Catalog.{Catalog}
 use Rattle.ion_binary.specs.machine.EachOctet.{Machine}
-use Rattle.ion_binary.specs.machine.Run.{run, Advances}
+use Rattle.ion_binary.specs.machine.Run.{run}
 use Rattle.ion_binary.specs.machine.Pieces.{led, then_run, run-append}
-use Rattle.ion_binary.specs.machine.Views.{GaveLast}
 
 -- from `start`, the octets of the piece before i lead to m, whatever follows
 pub record LeadsFromStart (g : Catalog) (l : Limits) (to : ℕ) (start : Machine) (piece : List ℕ) (i : ℕ) (m : Machine) : Type 0 where
@@ -82,13 +81,3 @@ leads_to_value g l to start m n piece i k used cat lim v same_catalog same_limit
 
 pub within_rest : (piece : List ℕ) (i k : ℕ) → 0 < k → k ≤ length (take (length piece - i) (drop i piece)) → i + k ≤ length piece
 within_rest piece i k some within = omega (arith, length-take {A = ℕ}, length-drop {A = ℕ})
-
--- a value that came so is what the step gives
-pub leads_to_given : (g : Catalog) (l : Limits) (to : ℕ) (start m n : Machine) (piece : List ℕ) (i k used : ℕ) (cat : Catalog) (lim : Limits)
-    (given : Option Value) → cat ≡ g → lim ≡ l → used ≡ to + i →
-    0 < k → k ≤ length (take (length piece - i) (drop i piece)) → GaveLast (run cat lim used m (take k (take (length piece - i) (drop i piece)))) (used + k)
-    given n →
-    LeadsFromStart g l to start piece i m → Advances to (run g l to start) piece (Ok (record { used = i + k; value = given })) n
-leads_to_given g l to start m n piece i k used cat lim None same_catalog same_limits place some within e before = absurd e
-leads_to_given g l to start m n piece i k used cat lim (Some v) same_catalog same_limits place some within e before =
-    (within_rest piece i k some within, (omega arith, leads_to_value g l to start m n piece i k used cat lim v same_catalog same_limits place e before))

@@ -1,7 +1,7 @@
 -- How many containers are open.
 use Rattle.std.proofs.Common.{◌≤◌, List, [], ◌∷◌, length, arith}
-use Rattle.ion_binary.specs.declared.state.Frame.{Frame}
-use Rattle.ion_binary.specs.declared.state.Frame.TheVariants as frames
+use Rattle.ion_binary.specs.machine.Frames.{Frame}
+use Rattle.ion_binary.specs.machine.Frames as frames
 use Rattle.ion_binary.specs.machine.EachOctet.{levels}
 
 -- there are at most as many as frames

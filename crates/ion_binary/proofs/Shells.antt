@@ -5,8 +5,8 @@ use Rattle.ion_atoms.specs.declared.refusal.Reason.{Reason}
 use Rattle.ion_model.specs.declared.value.Field.{Field}
 use Rattle.ion_binary.specs.declared.form.Form.{Form}
 use Rattle.ion_binary.specs.declared.form.Form.TheVariants as forms
-use Rattle.ion_binary.specs.declared.state.Frame.{Frame}
-use Rattle.ion_binary.specs.declared.state.Frame.TheVariants as frames
+use Rattle.ion_binary.specs.machine.Frames.{Frame}
+use Rattle.ion_binary.specs.machine.Frames as frames
 use Rattle.ion_binary.specs.declared.walking.BinaryWalk.{BinaryWalk}
 use Rattle.ion_binary.specs.Opening.{is_pad}
 use Rattle.ion_binary.specs.machine.EachOctet.{Outcome, refuses, levels, misfits, stray, nameless, unfit, or_else, unless}

@@ -9,8 +9,8 @@ use Rattle.ion_model.specs.Measures.{bare, field_of}
 use Rattle.ion_visiting.specs.Events.{events_of}
 use Rattle.ion_visiting.specs.Tables.{WasTold, heard}
 use Rattle.ion_binary.specs.declared.state.Effect.TheVariants.{Goes}
-use Rattle.ion_binary.specs.declared.state.Frame.{Frame}
-use Rattle.ion_binary.specs.declared.state.Frame.TheVariants as frames
+use Rattle.ion_binary.specs.machine.Frames.{Frame}
+use Rattle.ion_binary.specs.machine.Frames as frames
 use Rattle.ion_binary.specs.declared.state.Phase.TheVariants.{Ready, InNumber}
 use Rattle.ion_binary.specs.declared.state.Purpose.TheVariants as purposes
 use Rattle.ion_binary.specs.declared.walking.BinaryWalk.{BinaryWalk}

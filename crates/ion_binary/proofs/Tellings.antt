@@ -15,8 +15,8 @@ use Rattle.ion_visiting.specs.Events.{Event, part, annotation, name, opens, clos
 use Rattle.ion_visiting.specs.laws.Led.{events_out}
 use Rattle.ion_binary.specs.declared.form.Listing.{Listing}
 use Rattle.ion_binary.specs.declared.form.Listing.TheVariants as listings
-use Rattle.ion_binary.specs.declared.state.Frame.{Frame}
-use Rattle.ion_binary.specs.declared.state.Frame.TheVariants as frames
+use Rattle.ion_binary.specs.machine.Frames.{Frame}
+use Rattle.ion_binary.specs.machine.Frames as frames
 use Rattle.ion_binary.specs.declared.state.Effect.{Effect}
 use Rattle.ion_binary.specs.declared.state.Effect.TheVariants.{Goes, Gives}
 use Rattle.ion_binary.specs.declared.walking.BinaryWalk.{BinaryWalk}

@@ -1,9 +1,19 @@
 -- Scalars that a visitor heeds not, which needn't be read for it.
-use Rattle.std.proofs.Common.{◌≡◌, ℕ, List, Bool, true, false, refl, ap, sym}
-use Rattle.std.proofs.lemmas.Bool.{false≢true}
+use Rattle.std.proofs.Common.{◌≡◌, ℕ, ◌*◌, ◌^◌, ◌<◌, ◌≤◌, List, [], ◌∷◌, length, get_or, Option, Bool, true, false, Result, Ok, Err, refl, ap, sym, subst, ◌∙◌, arith, inl, inr}
+use Rattle.std.specs.Prelude.{is_ok, MatchResult, ℤ}
+use Rattle.std.specs.Str.{IsUtf8}
+use Rattle.std.proofs.Math.Nat.{one-le-pow, mul-le-mul_right}
+use Rattle.std.proofs.lemmas.Bool.{cases_lt, false≢true, le-ltb}
+use Rattle.ion_atoms.specs.Decimals.{DecimalParts}
+use Rattle.ion_atoms.specs.Timestamps.{TimestampParts}
+use Rattle.ion_atoms.specs.declared.refusal.Reason.{Reason}
 use Rattle.ion_model.specs.declared.value.Payload.{Payload}
+use Rattle.ion_model.specs.declared.value.Payload.TheVariants as payloads
 use Rattle.ion_model.specs.declared.value.Payload.TheViews.{outs-Int, outs-Decimal, outs-Timestamp, outs-Symbol, outs-Str, outs-Clob, outs-Blob}
-use Rattle.ion_symtab.specs.Slots.{Slot}
+use Rattle.ion_scalar.specs.binary.Decimal.{decimal_of_body}
+use Rattle.ion_scalar.specs.binary.Fields.{positional, uint_field}
+use Rattle.ion_scalar.specs.binary.Timestamp.{timestamp_of_body}
+use Rattle.ion_symtab.specs.Slots.{Slot, resolve}
 use Rattle.ion_visiting.specs.declared.table_filter.Table.{Table}
 use Rattle.ion_visiting.specs.declared.table_filter.Table.TheVariants as tables
 use Rattle.ion_visiting.specs.declared.table_filter.TableFilter.{TableFilter}
@@ -11,11 +21,93 @@ use Rattle.ion_visiting.specs.Events.{Event, part, layer_events}
 use Rattle.ion_visiting.specs.Tables.{LetsPass, WasTold, begins_struct, heard, is_of_table}
 use Rattle.ion_visiting.specs.laws.Filters.{hears_none, visitor_tells}
 use Rattle.ion_binary.specs.declared.form.Scalar.{Scalar}
+use Rattle.ion_binary.specs.declared.form.Scalar.TheVariants as scalars
 use Rattle.ion_binary.specs.Grammar.{IsScalar, is_int, is_negative, is_decimal, is_timestamp, is_symbol, is_string, is_clob, is_blob}
-use Rattle.ion_binary.specs.Judge.{judge}
-use Rattle.ion_binary.specs.laws.reading.Judged.{judge_scalar}
-use Rattle.ion_binary.specs.machine.Walked.{WalkedScalar}
+use Rattle.ion_binary.specs.Judge.{as_decimal, as_timestamp, int_of, judge}
+use Rattle.ion_binary.specs.laws.reading.Judged.{judge_scalar, judge_sound}
 use Rattle.ion_binary.specs.walking.Holds.{IsPart, TellsAs}
+
+-- 1. Bodies that aren't refused, form by form.
+
+int_judged : (r : Result ℕ Reason) → is_ok (int_of false r) ≡ is_ok r
+int_judged (Ok n) = refl
+int_judged (Err e) = refl
+
+-- a body whose number isn't refused is an int
+pub int_unread : (c : List Slot) (body : List ℕ) → is_ok (uint_field body) ≡ true → is_ok (judge c scalars.Int body) ≡ true
+unfolding judge
+int_unread c body h = int_judged (uint_field body) ∙ h
+
+-- a number that isn't refused is below 2^127
+uint_kept : (body : List ℕ) → is_ok (uint_field body) ≡ true → positional 256 body < 2 ^ 127
+uint_kept body h =
+    elim (cases_lt (positional 256 body) (2 ^ 127)) [
+      | inl small ↦ small
+      | inr large ↦ absurd (let k = rw (le-ltb (positional 256 body) (2 ^ 127) large) at h in cc)
+    ]
+
+-- the first octet is no leading zero
+uint_some : (body : List ℕ) → 0 < get_or body 0 0 → 0 < positional 256 body
+uint_some [] first = first
+uint_some (octet ∷ rest) first =
+    let one : 1 ≤ 256 ^ length rest = one-le-pow (length rest) 256 (omega arith) in
+    let more : 1 * 256 ^ length rest ≤ octet * 256 ^ length rest = mul-le-mul_right (256 ^ length rest) first in
+    omega (arith, one, more)
+
+-- without leading zeros it is the magnitude of a negative int
+pub negative_unread : (c : List Slot) (body : List ℕ) → 0 < get_or body 0 0 → is_ok (uint_field body) ≡ true → is_ok (judge c scalars.NegativeInt body) ≡ true
+negative_unread c body first h = ap is_ok (judge_scalar c body scalars.NegativeInt _ (is_negative (uint_kept body h) (uint_some body first)))
+
+-- with them, where a negative int is read of it
+pub negative_read : (c : List Slot) (body : List ℕ) (r : Result ℤ Reason)
+    → MatchResult r (λ z. int_of true (uint_field body) ≡ Ok (payloads.Int z)) (λ reason. int_of true (uint_field body) ≡ Err reason)
+    → is_ok r ≡ true → is_ok (judge c scalars.NegativeInt body) ≡ true
+unfolding judge
+negative_read c body (Ok z) e h = ap is_ok e
+negative_read c body (Err reason) e h = absurd (false≢true h)
+
+decimal_judged : (r : Result DecimalParts Reason) → is_ok (as_decimal r) ≡ is_ok r
+decimal_judged (Ok d) = refl
+decimal_judged (Err e) = refl
+
+-- a body that is read as a decimal is one
+pub decimal_unread : (c : List Slot) (body : List ℕ) → is_ok (decimal_of_body body) ≡ true → is_ok (judge c scalars.Decimal body) ≡ true
+unfolding judge
+decimal_unread c body h = decimal_judged (decimal_of_body body) ∙ h
+
+timestamp_judged : (r : Result TimestampParts Reason) → is_ok (as_timestamp r) ≡ is_ok r
+timestamp_judged (Ok t) = refl
+timestamp_judged (Err e) = refl
+
+-- a body that is read as a timestamp is one
+pub timestamp_unread : (c : List Slot) (body : List ℕ) → is_ok (timestamp_of_body body) ≡ true → is_ok (judge c scalars.Timestamp body) ≡ true
+unfolding judge
+timestamp_unread c body h = timestamp_judged (timestamp_of_body body) ∙ h
+
+-- a body whose number is the id of a symbol is that symbol
+pub symbol_unread : (c : List Slot) (body : List ℕ) (id : ℕ) (s : Option (List ℕ)) → id ≡ positional 256 body → id < 2 ^ 64 → resolve c id ≡ Ok s
+    → is_ok (judge c scalars.Symbol body) ≡ true
+symbol_unread c body id s e small found =
+    let below : id < 2 ^ 127 = omega arith in
+    ap is_ok (judge_scalar c body scalars.Symbol _ (is_symbol s (subst (λ k. k < 2 ^ 127) e below) (subst (λ k. resolve c k ≡ Ok s) e found)))
+
+-- a body in UTF-8 is a string
+pub text_unread : (c : List Slot) (body : List ℕ) → IsUtf8 body → is_ok (judge c scalars.Str body) ≡ true
+text_unread c body h = ap is_ok (judge_scalar c body scalars.Str _ (is_string h))
+
+-- whatever its octets, a body is a clob
+pub clob_unread : (c : List Slot) (body : List ℕ) → is_ok (judge c scalars.Clob body) ≡ true
+clob_unread c body = ap is_ok (judge_scalar c body scalars.Clob _ is_clob)
+
+-- and a blob
+pub blob_unread : (c : List Slot) (body : List ℕ) → is_ok (judge c scalars.Blob body) ≡ true
+blob_unread c body = ap is_ok (judge_scalar c body scalars.Blob _ is_blob)
+
+-- of a form by another name
+pub as_form : (c : List Slot) (t x : Scalar) (body : List ℕ) → t ≡ x → is_ok (judge c x body) ≡ true → is_ok (judge c t body) ≡ true
+as_form c t x body e h = subst (λ t. is_ok (judge c t body) ≡ true) (sym e) h
+
+-- 2. What is told of them.
 
 -- a scalar has no value in it
 scalar_leaf : (c : List Slot) (body : List ℕ) (t : Scalar) (p : Payload) → IsScalar c body t p → IsPart p
@@ -34,14 +126,19 @@ plain_of tables.No b h = refl
 plain_of tables.Noted b h = absurd (false≢true (sym h))
 plain_of tables.Yes b h = absurd (false≢true (sym h))
 
--- it is told to a visitor that stays as it is, where it is part of no table
-pub unread_told : {V : Type 0} (takes : V → Event → V → Type 0) (c : List Slot) (t : Scalar) (body : List ℕ) (f g : TableFilter) (a : V)
-    → is_of_table f.table true ≡ false → ((es : List Event) → WasTold f es → LetsPass g × (heard es ≡ es)) → ((p : Payload) → takes a (part p) a)
-    → WalkedScalar c t body → TellsAs takes (judge c t body) f g a a
-unread_told takes c t body f g a plain passes still is = (
-  is.payload,
-  judge_scalar c body t is.payload is.is,
-  scalar_leaf c body t is.payload is.is,
-  visitor_tells takes (part is.payload) f g a a a tt (plain_of f.table (begins_struct (part is.payload)) plain)
-      (λ es h. let i = passes es h in (i.0, hears_none takes (heard es) es a (sym i.1))) (still is.payload),
-)
+module _ {V : Type 0} (takes : V → Event → V → Type 0) (c : List Slot) (t : Scalar) (body : List ℕ) (f g : TableFilter) (a : V)
+    (plain : is_of_table f.table true ≡ false) (passes : (es : List Event) → WasTold f es → LetsPass g × (heard es ≡ es))
+    (still : (p : Payload) → takes a (part p) a) where
+  unread_by : (r : Result Payload Reason) → judge c t body ≡ r → is_ok r ≡ true → TellsAs takes (judge c t body) f g a a
+  unread_by (Ok p) e h = (
+    p,
+    e,
+    scalar_leaf c body t p (judge_sound c t body p e),
+    visitor_tells takes (part p) f g a a a tt (plain_of f.table (begins_struct (part p)) plain)
+        (λ es h. let i = passes es h in (i.0, hears_none takes (heard es) es a (sym i.1))) (still p),
+  )
+  unread_by (Err reason) e h = absurd (false≢true h)
+
+  -- it is told to a visitor that stays as it is, where it is part of no table
+  pub unread_told : is_ok (judge c t body) ≡ true → TellsAs takes (judge c t body) f g a a
+  unread_told h = unread_by (judge c t body) refl h

@@ -1,14 +1,13 @@
 -- VarUInts that have come, in a reader that holds no values: names, annotations, and what goes on.
-use Rattle.std.proofs.Common.{◌≡◌, ℕ, ◌+◌, ◌-◌, ◌*◌, ◌^◌, ◌≤◌, ◌<◌, List, [], ◌∷◌, ◌++◌, Bool, true, false, Option, Some, None, Ok, Err, refl, ap, sym, subst, ◌∙◌, arith}
+use Rattle.std.proofs.Common.{◌≡◌, ℕ, ◌+◌, ◌-◌, ◌*◌, ◌^◌, ◌≤◌, ◌<◌, List, [], ◌∷◌, ◌++◌, Bool, true, false, Option, Some, None, Ok, refl, ap, sym, subst, ◌∙◌, arith}
 use Rattle.std.specs.Prelude.{◌==◌, nat_lt, if◌then◌else◌}
 use Rattle.std.proofs.lemmas.Bool.Decides.{nat_tests}
-use Rattle.ion_atoms.specs.declared.refusal.Reason.{Reason}
 use Rattle.ion_atoms.specs.declared.refusal.Reason.TheVariants.{Malformed, TooLarge}
 use Rattle.ion_symtab.specs.Slots.{resolve}
 use Rattle.ion_visiting.specs.Events.{Event, annotation}
 use Rattle.ion_visiting.specs.Tables.{Hears, Tells, WasTold, heard}
-use Rattle.ion_binary.specs.declared.state.Frame.{Frame}
-use Rattle.ion_binary.specs.declared.state.Frame.TheVariants as frames
+use Rattle.ion_binary.specs.machine.Frames.{Frame}
+use Rattle.ion_binary.specs.machine.Frames as frames
 use Rattle.ion_binary.specs.declared.state.Purpose.{Purpose}
 use Rattle.ion_binary.specs.declared.state.Purpose.TheVariants as purposes
 use Rattle.ion_binary.specs.declared.state.Phase.TheVariants.{Ready, InNumber}
@@ -22,27 +21,6 @@ use Rattle.ion_binary.specs.walking.Holds.{Does, DoesAlone, Holds, IsInside, Nam
 use Rattle.ion_binary.proofs.Tellings.{note_told}
 
 -- 1. The id of a field's name.
-
-pub name_stray : (cs : List Container) (fs : List Frame) (spot : Spot) (id : ℕ) → None ≡ fields_end cs → cs ≡ containers_of fs
-    → name_came spot fs id ≡ refuses Malformed
-name_stray cs [] spot id none same = refl
-name_stray cs (frames.Items end x vs ∷ fs) spot id none same = refl
-name_stray cs (frames.Fields end ms ∷ fs) spot id none same = let e : None ≡ Some end = none ∙ ap fields_end same in absurd cc
-name_stray cs (frames.Named end ms n ∷ fs) spot id none same = refl
-name_stray cs (frames.Annotated end ss ∷ fs) spot id none same = refl
-
--- no octet is left of the struct
-pub name_last : (cs : List Container) (fs : List Frame) (spot : Spot) (id end : ℕ) → Some end ≡ fields_end cs → cs ≡ containers_of fs → end ≤ spot.used
-    → name_came spot fs id ≡ refuses Malformed
-name_last cs [] spot id end some same last = refl
-name_last cs (frames.Items to x vs ∷ fs) spot id end some same last = refl
-name_last cs (frames.Fields to ms ∷ fs) spot id end some same last =
-    let e : Some end ≡ Some to = some ∙ ap fields_end same in
-    let is : end ≡ to = cc in
-    let test : nat_lt spot.used to ≡ false = grind (arith, nat_tests) in
-    ap (λ b. if b then goes (at spot (frames.Named to ms (resolve spot.context id) ∷ fs) Ready) else refuses Malformed) test
-name_last cs (frames.Named to ms n ∷ fs) spot id end some same last = refl
-name_last cs (frames.Annotated to ss ∷ fs) spot id end some same last = refl
 
 pub name_does : (r new : BinaryWalk) (id end : ℕ) → Some end ≡ fields_end (open_containers r) → r.used < end
     → ((k : Container) (ks : List Container) → open_containers r ≡ k ∷ ks → open_containers new ≡ containers.Named end ∷ ks)
@@ -75,22 +53,6 @@ name_does r new id end some left there named spot kept phase (frames.Fields to m
     )
 
 -- 2. The id of an annotation.
-
-pub note_stray : (cs : List Container) (fs : List Frame) (spot : Spot) (stop : ℕ) (s : Name) → None ≡ wrapper_end cs → cs ≡ containers_of fs
-    → annotation_came spot fs stop s ≡ refuses Malformed
-note_stray cs [] spot stop s none same = refl
-note_stray cs (frames.Items end x vs ∷ fs) spot stop s none same = refl
-note_stray cs (frames.Fields end ms ∷ fs) spot stop s none same = refl
-note_stray cs (frames.Named end ms n ∷ fs) spot stop s none same = refl
-note_stray cs (frames.Annotated end ss ∷ fs) spot stop s none same = let e : None ≡ Some end = none ∙ ap wrapper_end same in absurd cc
-
-pub note_refused : (cs : List Container) (fs : List Frame) (spot : Spot) (stop end : ℕ) (s : Name) (e : Reason) → Some end ≡ wrapper_end cs
-    → cs ≡ containers_of fs → s ≡ Err e → annotation_came spot fs stop s ≡ refuses e
-note_refused cs [] spot stop end s e some same is = let n : Some end ≡ None = some ∙ ap wrapper_end same in absurd cc
-note_refused cs (frames.Items to x vs ∷ fs) spot stop end s e some same is = let n : Some end ≡ None = some ∙ ap wrapper_end same in absurd cc
-note_refused cs (frames.Fields to ms ∷ fs) spot stop end s e some same is = let n : Some end ≡ None = some ∙ ap wrapper_end same in absurd cc
-note_refused cs (frames.Named to ms n ∷ fs) spot stop end s e some same is = let m : Some end ≡ None = some ∙ ap wrapper_end same in absurd cc
-note_refused cs (frames.Annotated to ss ∷ fs) spot stop end s e some same is = ap (annotation_came spot (frames.Annotated to ss ∷ fs) stop) is
 
 keeps_none : (b : Bool) (stop : ℕ) (w : List ℕ) → body_so_far (if b then Ready else InNumber (purposes.Annotation stop) 0) w ≡ []
 keeps_none true stop w = refl

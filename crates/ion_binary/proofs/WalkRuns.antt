@@ -1,5 +1,5 @@
 -- Runs over octets in a reader that holds no values.
-use Rattle.std.proofs.Common.{◌≡◌, ℕ, ◌+◌, ◌-◌, ◌≤◌, ◌<◌, List, [], ◌∷◌, ◌++◌, length, reverse, take, drop, get_or, append-nil, length-append, None, Bool, true, false, Ok, Err, refl, ap, sym, subst, ◌∙◌, arith, ne_eqb}
+use Rattle.std.proofs.Common.{◌≡◌, ℕ, ◌+◌, ◌-◌, ◌≤◌, ◌<◌, List, [], ◌∷◌, ◌++◌, length, take, drop, get_or, append-nil, length-append, None, Bool, true, false, Ok, Err, refl, ap, sym, subst, ◌∙◌, arith, ne_eqb}
 use Rattle.std.specs.Prelude.{◌==◌, if◌then◌else◌}
 use Rattle.std.proofs.lemmas.Bool.{false≢true}
 use Rattle.std.proofs.lemmas.List.{length-take-le, take-append-drop, take_all}
@@ -11,24 +11,21 @@ use Rattle.ion_symtab.specs.Trace.{Answers}
 use Rattle.ion_symtab.specs.Walks.{EndsOn, WalksOn}
 use Rattle.ion_symtab.specs.declared.limits.Limits.{Limits}
 use Rattle.ion_symtab.specs.declared.catalog.Catalog.{Catalog}
-use Rattle.ion_symtab.specs.Slots.{system_slots}
 use Rattle.ion_visiting.specs.Events.{Event}
-use Rattle.ion_visiting.specs.Tables.{WasTold, heard}
+use Rattle.ion_visiting.specs.Tables.{heard}
 use Rattle.ion_visiting.specs.laws.Filters.{hears_none}
 use Rattle.ion_binary.specs.declared.form.Scalar.{Scalar}
-use Rattle.ion_binary.specs.declared.state.Frame.{Frame}
-use Rattle.ion_binary.specs.declared.state.Frame.TheVariants as frames
+use Rattle.ion_binary.specs.machine.Frames.{Frame}
+use Rattle.ion_binary.specs.machine.Frames as frames
 use Rattle.ion_binary.specs.declared.state.Phase.{Phase}
 use Rattle.ion_binary.specs.declared.state.Phase.TheVariants.{InMarker, Ready, InNumber, InBody, InPad}
-use Rattle.ion_binary.specs.declared.state.Mark.TheVariants.{First}
 use Rattle.ion_binary.specs.declared.state.Effect.{Effect}
 use Rattle.ion_binary.specs.declared.state.Effect.TheVariants.{Goes, Gives}
 use Rattle.ion_binary.specs.declared.walking.BinaryWalk.{BinaryWalk}
 use Rattle.ion_binary.specs.Judge.{judge}
-use Rattle.ion_binary.specs.machine.EachOctet.{Machine, Outcome, refuses, under, at, feed, initial, judged, moved, spot_at}
+use Rattle.ion_binary.specs.machine.EachOctet.{Machine, Outcome, refuses, under, feed, initial, judged, moved}
 use Rattle.ion_binary.specs.machine.Pieces.{run_after, run-append, then_run}
 use Rattle.ion_binary.specs.machine.Run.{Run, ends_of, run, trace, trace_of, whole}
-use Rattle.ion_binary.specs.machine.Views.{body_so_far}
 use Rattle.ion_binary.specs.walking.Holds.{AreAround, Does, Holds, IsInside, Name, WentOn, machine_of, name_of, setting_of, shells, spot_of, told}
 use Rattle.ion_binary.specs.walking.Runs.{Led, Reached, StandsFor, Told, Took, Walks, refused_at, run_of}
 use Rattle.ion_binary.proofs.Insides.{body_ends, refused_whole}
@@ -288,30 +285,3 @@ module _ {V : Type 0} (takes : V → Event → V → Type 0) (r : BinaryWalk) (u
 
   pub ends_cut : is_whole ≡ false → EndsOn takes (trace r.catalog.now r.limits u) es (Err (record { offset = r.used; reason = Incomplete })) a a
   ends_cut e = λ other. ends_at ∙ ap (λ (t : Bool). if t then Ok None else Err (record { offset = r.used; reason = Incomplete })) e
-
--- 5. Before the first octet.
-
-machine_new : (r : BinaryWalk) → r.used ≡ 0 → r.start ≡ 0 → r.context ≡ system_slots → r.phase ≡ InMarker First true → machine_of r [] ≡ initial
-machine_new r used start context phase =
-    ap (λ (p : Phase). record { spot = spot_of r; frames = []; phase = p; body = body_so_far p r.body.items }) phase
-    ∙ (ap (λ n. at (spot_at n r.start r.context) [] (InMarker First true)) used
-    ∙ (ap (λ n. at (spot_at 0 n r.context) [] (InMarker First true)) start ∙ ap (λ c. at (spot_at 0 0 c) [] (InMarker First true)) context))
-
-pub new_told : (r : BinaryWalk) → r.failed ≡ None → r.used ≡ 0 → r.start ≡ 0 → r.context ≡ system_slots → r.phase ≡ InMarker First true
-    → r.frames.items ≡ [] → WasTold r.filter [] → Told r [] [] []
-new_told r fine used start context phase none was = (
-  [],
-  record {
-    fine = fine;
-    counted = used;
-    holds = record {
-      containers = ap reverse none;
-      named = tt;
-      open_there = tt;
-      inside = subst (λ (p : Phase). IsInside p []) (sym phase) tt;
-      was_told = was;
-    };
-    ran = ap (λ m. record { given = []; now = Ok m }) (sym (machine_new r used start context phase));
-  },
-  refl,
-)

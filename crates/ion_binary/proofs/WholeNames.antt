@@ -5,8 +5,8 @@ use Rattle.ion_atoms.specs.declared.refusal.Reason.{Reason}
 use Rattle.ion_scalar.specs.binary.Fields.{VarUInt}
 use Rattle.ion_visiting.specs.Events.{Event}
 use Rattle.ion_binary.specs.declared.state.Effect.{Effect}
-use Rattle.ion_binary.specs.declared.state.Frame.{Frame}
-use Rattle.ion_binary.specs.declared.state.Frame.TheVariants as frames
+use Rattle.ion_binary.specs.machine.Frames.{Frame}
+use Rattle.ion_binary.specs.machine.Frames as frames
 use Rattle.ion_binary.specs.declared.state.Phase.{Phase}
 use Rattle.ion_binary.specs.declared.state.Phase.TheVariants.{InNumber}
 use Rattle.ion_binary.specs.declared.state.Purpose.TheVariants as purposes

@@ -8,7 +8,7 @@ use Rattle.ion_visiting.specs.Events.{Event}
 use Rattle.ion_binary.specs.declared.form.Form.TheVariants as forms
 use Rattle.ion_binary.specs.declared.form.Scalar.{Scalar}
 use Rattle.ion_binary.specs.declared.state.Effect.{Effect}
-use Rattle.ion_binary.specs.declared.state.Frame.{Frame}
+use Rattle.ion_binary.specs.machine.Frames.{Frame}
 use Rattle.ion_binary.specs.declared.state.Phase.{Phase}
 use Rattle.ion_binary.specs.declared.state.Phase.TheVariants.{Ready}
 use Rattle.ion_binary.specs.declared.walking.BinaryWalk.{BinaryWalk}

@@ -6,7 +6,7 @@ pub mod HeaderRows
 pub mod Deciding
 pub mod Output
 pub mod Writing
-pub mod Carrying
+pub mod Reading
 pub mod machine
 pub mod walking
 pub mod visiting

@@ -1,5 +1,5 @@
 -- What a writer stands for, and why one of its calls ends with a fault.
-use Rattle.std.specs.Prelude.{◌≡◌, ◌⊎◌, ◌<◌, suc, length, Bool, true, Option, ⊤}
+use Rattle.std.specs.Prelude.{◌≡◌, ◌<◌, suc, length, Bool, true, Option, ⊤}
 use Rattle.ion_symtab.specs.declared.fault.Fault.{Fault}
 use Rattle.ion_symtab.specs.declared.fault.Fault.TheVariants.{Memory, Read, Write, TooManyReads, TooLarge, Open}
 use Rattle.ion_symtab.specs.Slots.{greatest_id}
@@ -13,10 +13,6 @@ pub record Writing : Type 0 where
 -- one of the names would have an id above the greatest that there may be
 abbrev pub NeedsLargeId : Names → Type 0
 NeedsLargeId names = suc greatest_id < length names
-
--- why symbols got no ids: these are the names with all of them
-abbrev pub IsNumberingFault : Names → Fault → Type 0
-IsNumberingFault names fault = (fault ≡ Memory) ⊎ ((fault ≡ TooLarge) × NeedsLargeId names)
 
 -- why a value wasn't written: the device says whether it failed, and these are the names with those of the value
 abbrev pub IsWritingFault : Names → Bool → Fault → Type 0

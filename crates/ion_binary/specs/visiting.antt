@@ -1,6 +1,3 @@
--- Values that are gone over, and what visitors make of them.
+-- What a visitor makes of the values that it is told.
 pub mod Brackets
-pub mod Comparing
-pub mod Transcribing
-pub mod Telling
 pub mod BinaryOut

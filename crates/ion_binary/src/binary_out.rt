@@ -1,24 +1,26 @@
 //! The visitor that writes values as binary values.
-ghost use Rattle.std.specs.Prelude.{◌≡◌, ◌<◌, ◌^◌, ◌++◌, IfOk, IfSome, MatchResult, Some, option_map, true};
+ghost use Rattle.std.specs.Prelude.{[], ◌≡◌, ◌<◌, ◌≤◌, ◌^◌, IfOk, IfSome, MatchBool, MatchResult, Some, length, option_map, suc, true};
+ghost use Rattle.ion_model.specs.Kept.{IsText};
 ghost use Rattle.ion_model.specs.declared.value.Payload.TheVariants as payloads;
 ghost use Rattle.ion_symtab.specs.declared.fault.Fault.TheVariants as faults;
-ghost use Rattle.ion_binary.specs.Output.{Names as SymbolsById, id_of, opening, with_name};
-ghost use Rattle.ion_binary.specs.visiting.BinaryOut.{counted_behind, no_octets, with_begun, with_body, with_ended, with_frame, with_id, with_part, without_begun, without_whole};
+ghost use Rattle.ion_symtab.specs.Slots.{greatest_id};
+ghost use Rattle.ion_binary.specs.Output.{Names as SymbolsById, id_of, with_name};
+ghost use Rattle.ion_binary.specs.visiting.BinaryOut.{counted_behind, of_values, no_octets, with_begun, with_body, with_ended, with_frame, with_id, with_part, without_begun, without_whole};
 ghost use Rattle.ion_binary.specs.writer.Later.{IsLater};
+ghost use Rattle.ion_binary.specs.Writing.{NeedsLargeId};
 ghost use Rattle.ion_visiting.specs.Parts.{number_payload, payload_of};
 
-use crate::transcription::code_of;
 use crate::writer::framing::{
-    frame, insert_length, put_decimal_value, put_framed, put_id, put_null, put_symbol,
+    code_of, frame, insert_length, put_decimal_value, put_framed, put_id, put_null, put_symbol,
     put_timestamp_value, put_truth, put_whole,
 };
 use crate::writer::names::Names;
+use crate::writer::put_front;
 use crate::writer::recent_ids::Guesses;
-use crate::writer::{MARKER, put_front};
 use ion_model::Symbol;
 use ion_scalar::Number;
 use ion_symtab::Fault;
-use ion_visiting::{Bracket, Part, Visitor};
+use ion_visiting::{Bracket, Part, Visitor, number_kept, part_kept, text_kept};
 use std::alloc::Global;
 use std::hash::{BuildHasher, BuildHasherDefault, FoldHasher};
 use std::marker::Model;
@@ -35,7 +37,8 @@ pub(crate) struct Frame {
 /// each value of the top level as `BinaryWriter` does, behind the table of its new symbols. It keeps
 /// what it wrote until that is handed over: `octets` are those of the values that ended.
 ///
-/// It answers `false` where memory was refused, and where a symbol would need an id above 2^31-1.
+/// It answers `false` where memory was refused, and where a value would end of which a symbol needs
+/// an id above 2^31-1.
 #[derive(Drop)]
 pub struct BinaryOut<S: BuildHasher = BuildHasherDefault<FoldHasher>> {
     alloc: Global,
@@ -117,6 +120,25 @@ impl<S: BuildHasher + Drop> BinaryOut<S> {
         self.whole.clear();
     }
 
+    /// Lets go all octets, those of the values that ended too, and keeps the ids of all symbols.
+    pub(crate) fn go_on(&mut self)
+        ensures { self.new ≡ of_values []
+            (record { names = self.old.names; begun = self.old.begun }) }
+    {
+        self.whole.clear();
+        self.known = self.names.len();
+        self.value.clear();
+        self.frames.clear();
+        self.noted = false;
+    }
+
+    /// Whether the marker stands before the values that ended.
+    pub(crate) fn has_begun(&self) -> bool
+        ensures { result ≡ self.now.begun }
+    {
+        self.begun
+    }
+
     /// Lets go what came of the value that is open, as where it was refused, with the ids of its
     /// new symbols. The octets of those before it stay, and another value may begin.
     pub fn forget_begun(&mut self)
@@ -128,18 +150,13 @@ impl<S: BuildHasher + Drop> BinaryOut<S> {
         self.noted = false;
     }
 
-    /// Appends the version marker where no value ended.
-    pub fn end(&mut self) -> bool
-        ensures { result ≡ true → self.new ≡ record self.old {
-          whole = self.old.whole ++ opening self.old.begun;
-          begun = true;
-        } }
+    /// Whether a symbol needs an id above 2^31-1.
+    #[inline(always)]
+    pub fn needs_large_id(&self) -> bool
+        ensures { MatchBool result (NeedsLargeId self.now.names)
+            (length self.now.names ≤ suc greatest_id) }
     {
-        if self.begun {
-            return true;
-        }
-        self.begun = true;
-        self.whole.extend_from_slice(&MARKER).is_ok()
+        self.names.needs_large_id()
     }
 
     // Appends an octet in whose place a descriptor will stand.
@@ -230,10 +247,14 @@ impl<S: BuildHasher + Drop> BinaryOut<S> {
         ensures id { let s = option_map (λ t. t.now) text.entry in IfSome result (λ id.
             (later : SymbolsById) → IsLater self.new.names later → id ≡ id_of later s) }
         ensures small { IfSome result (λ id. id < 2 ^ 63) }
+        ensures kept { IsText (option_map (λ t. t.now) text.entry) }
     {
         let id = match text {
             None => self.names.add(&mut self.guesses, &Symbol::unknown()),
-            Some(text) => self.id_of_text(text),
+            Some(text) => {
+                text_kept(text);
+                self.id_of_text(text)
+            }
         };
         match id {
             Ok(id) => Some(id),
@@ -243,8 +264,9 @@ impl<S: BuildHasher + Drop> BinaryOut<S> {
 
     // Appends the id of a symbol.
     fn put_symbol_id(&mut self, text: Option<&str>) -> bool
-        ensures { result ≡ true → self.new
+        ensures put { result ≡ true → self.new
             ≡ with_id self.old (option_map (λ t. t.now) text.entry) }
+        ensures kept { IsText (option_map (λ t. t.now) text.entry) }
     {
         match self.symbol_id(text) {
             None => false,
@@ -254,8 +276,9 @@ impl<S: BuildHasher + Drop> BinaryOut<S> {
 
     // Appends a symbol as a value.
     fn put_symbol_value(&mut self, text: Option<&str>) -> bool
-        ensures { result ≡ true → self.new
+        ensures put { result ≡ true → self.new
             ≡ with_part self.old (payloads.Symbol (option_map (λ t. t.now) text.entry)) }
+        ensures kept { IsText (option_map (λ t. t.now) text.entry) }
     {
         match self.symbol_id(text) {
             None => false,
@@ -290,17 +313,19 @@ impl<S: BuildHasher + Drop> BinaryOut<S> {
 }
 
 impl<S: BuildHasher + Drop> Visitor for BinaryOut<S> {
-    ghost use Rattle.ion_binary.specs.visiting.BinaryOut.{encodes};
+    ghost use Rattle.ion_binary.specs.visiting.BinaryOut.{Encodes};
 
-    ghost takes = { encodes };
+    ghost takes = { Encodes };
 
     #[inline(always)]
     fn part(&mut self, said: &Part<'_>) -> bool {
+        part_kept(said);
         self.begin_value() && self.put_part(said) && self.end_value()
     }
 
     #[inline(always)]
     fn number(&mut self, number: Number) -> bool {
+        number_kept(&number);
         self.begin_value() && self.put_number(number) && self.end_value()
     }
 
@@ -337,6 +362,9 @@ impl<S: BuildHasher + Drop> Visitor for BinaryOut<S> {
 
     #[inline(always)]
     fn ended(&mut self) -> bool {
+        if self.names.needs_large_id() {
+            return false;
+        }
         let (names, whole) = (&self.names, &mut self.whole);
         if put_front(self.alloc, names, self.known, self.begun, whole).is_err()
             || whole.extend_from_slice(&self.value).is_err()

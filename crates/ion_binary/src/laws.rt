@@ -2,7 +2,7 @@
 ghost use Rattle.std.specs.Prelude.{◌↔◌, ℕ, List};
 ghost use Rattle.ion_model.specs.declared.value.Value.{Value};
 ghost use Rattle.ion_atoms.specs.Octets.{AreOctets};
-ghost use Rattle.ion_model.specs.Kept.{AreKept};
+ghost use Rattle.ion_model.specs.Kept.{AreKept, IsKept};
 ghost use Rattle.ion_model.specs.Measures.{nodes};
 ghost use Rattle.ion_symtab.specs.declared.limits.Limits.{Limits};
 ghost use Rattle.ion_symtab.specs.Slots.{Slot};
@@ -17,8 +17,8 @@ ghost use Rattle.ion_atoms.specs.declared.kind.Kind.TheVariants as kinds;
 ghost use Rattle.ion_symtab.specs.Took.{Took};
 ghost use Rattle.ion_binary.specs.declared.form.Opening.TheVariants.{Null, Truth};
 ghost use Rattle.ion_binary.specs.Opening.{opening_of};
-ghost use Rattle.ion_binary.specs.Output.{bin_of, names_after, nothing_yet, null_octet, truth_octet, value_octets, FitsIn};
-ghost use Rattle.ion_binary.specs.visiting.BinaryOut.{Encoded, encodes, no_octets, wraps_next};
+ghost use Rattle.ion_binary.specs.Output.{bin_of, nothing_yet, null_octet, truth_octet, FitsIn};
+ghost use Rattle.ion_binary.specs.visiting.BinaryOut.{Encoded, Encodes, no_octets, with_value, wraps_next};
 ghost use Rattle.ion_binary.specs.writer.Calls.{WritesEach};
 ghost use Rattle.ion_binary.specs.writer.Puts.{puts, behind};
 ghost use Rattle.ion_visiting.specs.Events.{Led, events_of, stream_events};
@@ -109,15 +109,14 @@ pub fn worked_documents()
     ensures { (g : List Table) (l : Limits) → AreDocuments g l worked_documents }
 {}
 
-/// A visitor that writes binary values, told values that ended, from nothing, has written what they
-/// add to a document, and has the symbols that have ids there (`values`). Told a value where one
-/// may begin, it has given ids to its symbols and written its octets behind what stood there, and
-/// left those of the values that ended (`value`).
+/// A visitor that writes binary values, told a value where one may begin, has given ids to its
+/// symbols and written its octets behind what stood there (`value`). Told values that ended, from
+/// nothing, it has written what they add to a document, and has the symbols that have ids there
+/// (`values`). The types keep what it was told.
 pub fn binary_told()
     ensures value { (v : Value) (a b : Encoded) → a.noted ≡ false → wraps_next a.frames ≡ false
-        → Led encodes (events_of v) a b → (b.whole ≡ a.whole) × (b.names ≡ names_after a.names v)
-        × (b.value ≡ a.value ++ value_octets b.names v) × (b.frames ≡ a.frames) }
-    ensures values { (s : List Value) (b : Encoded) → Led encodes (stream_events s) no_octets b
+        → Led Encodes (events_of v) a b → (b ≡ with_value a v) × IsKept v }
+    ensures values { (s : List Value) (b : Encoded) → Led Encodes (stream_events s) no_octets b
         → (b.whole ≡ puts nothing_yet s) × (b.names ≡ (behind nothing_yet s).names)
-        × (b.begun ≡ (behind nothing_yet s).begun) }
+        × (b.begun ≡ (behind nothing_yet s).begun) × AreKept s }
 {}

@@ -1,57 +1,26 @@
-//! The reader of binary documents: what it holds, and what each octet does.
-ghost use Rattle.std.specs.Prelude.{◌≡◌, ◌+◌, ◌-◌, ◌<◌, ◌^◌, false};
-ghost use Rattle.ion_binary.specs.machine.EachOctet.{marks, one_octet, on_descriptor, on_marker, feed};
-ghost use Rattle.ion_binary.specs.machine.Views.{setting_of, spot_of, machine_of, open_frames, is_in_body, Does, SameSetting};
+//! The reader of binary documents that builds their values.
+ghost use Rattle.std.specs.Prelude.{◌≡◌, IfOk, IfErr};
+ghost use Rattle.ion_atoms.specs.declared.refusal.Reason.TheVariants.{Memory};
+ghost use Rattle.ion_symtab.specs.IsNew.{IsNew};
 
-use crate::form::{Form, Opening, opening_of};
-use crate::state::{Effect, Frame, Mark, Phase};
-use ion_model::{Payload, Reason, Refusal, Value};
-use ion_scalar::Size;
-use ion_symtab::{Catalog, Context, Limits};
-pub use passing::Carried;
+use crate::walking::BinaryWalk;
+use ion_model::{Reason, Refusal, Value};
+use ion_symtab::{Catalog, Items, Limits, Step, Walked};
+use ion_visiting::{Building, Visitor};
 use std::alloc::Global;
 use std::fmt::{self, Debug, Formatter};
-
-mod advance;
-mod ahead;
-mod bodies;
-pub(crate) mod bounds;
-mod built;
-mod frames;
-mod items;
-mod numbers;
-mod passing;
-mod reordering;
-mod visiting;
 
 /// A reader of a binary document that comes in pieces (Ion 1.0, "Ion Binary Encoding").
 ///
 /// It reads values of every type but floats, which are refused at their descriptor. It keeps the
-/// open containers and the body of one scalar: a length that goes beyond its container or the limit
-/// on items is refused before any octet of what it counts. Local symbol tables change what symbol
-/// ids stand for and aren't given; a version marker sets that back to the system symbols.
+/// value that is open, and the octets of one scalar: a length that goes beyond its container or the
+/// limit on items is refused before any octet of what it counts. Local symbol tables change what
+/// symbol ids stand for and aren't given; a version marker sets that back to the system symbols.
 #[derive(Drop)]
 pub struct BinaryReader<'a> {
-    alloc: Global,
-    catalog: &'a Catalog,
-    limits: Limits,
-    /// How many octets were taken up.
-    used: u64,
-    /// Where the open piece of the top level begins.
-    start: u64,
-    /// What symbol ids stand for.
-    context: Context,
-    phase: Phase,
-    /// The octets of a scalar's body so far; of no meaning outside one.
-    body: Vec<u8>,
-    /// The open containers, the innermost last.
-    frames: Vec<Frame>,
-    /// The value of the top level that the last octet ended, until it is taken.
-    given: Option<Value>,
-    /// The refusal that each call answers from now on.
-    failed: Option<Refusal>,
-    /// Up to this octet values were tried whole in vain; the values inside aren't tried again.
-    walked: u64,
+    walk: BinaryWalk<'a>,
+    /// Builds the values that steps give of what is told.
+    build: Building,
 }
 
 impl Debug for BinaryReader<'_> {
@@ -60,108 +29,146 @@ impl Debug for BinaryReader<'_> {
     }
 }
 
-impl BinaryReader<'_> {
-    /// Delivers a value of one octet, for which there has to be room.
-    fn one_octet(&mut self, payload: Payload) -> Result<Effect, Reason>
-        ensures does { Does
-            (one_octet (setting_of self.old) (spot_of self.old) (open_frames self.old) payload)
-            result self.new }
-        ensures used { self.new.used ≡ self.old.used }
-        ensures setting { SameSetting self.old self.new }
+impl<'a> BinaryReader<'a> {
+    /// A reader of no octets yet, for a document within these limits that may import the shared
+    /// tables of `catalog`. The only refusal is `Memory`.
+    pub fn new(
+        alloc: Global,
+        catalog: &'a Catalog,
+        limits: Limits,
+    ) -> Result<BinaryReader<'a>, Reason>
+        ensures is_new { IfOk result (IsNew ⟦<BinaryReader<'a> as Items>⟧ catalog.now limits) }
+        ensures memory { IfErr result (λ reason. reason ≡ Memory) }
     {
-        match self.unfit(Form::Struct, self.used) {
-            Some(reason) => Err(reason),
-            None => {
-                let value = Value::bare(self.alloc, payload);
-                self.deliver(value)
-            }
+        Ok(BinaryReader {
+            walk: BinaryWalk::new(alloc, catalog, limits)?,
+            build: Building::new(alloc),
+        })
+    }
+}
+
+impl Items for BinaryReader<'_> {
+    ghost use Rattle.std.specs.Prelude.{None};
+    ghost use Rattle.ion_binary.specs.Grammar.{Document, Whole, OpenRest};
+    ghost use Rattle.ion_binary.specs.machine.Run.{trace};
+    ghost use Rattle.ion_binary.specs.Reading.{Stands};
+    ghost use Rattle.ion_binary.specs.walking.Runs.{Told, failed, kept, taken};
+    ghost use Rattle.ion_binary.specs.laws.reading.Promises.{exact, one_stream, one_shown, refused, decided, documents_are_pieces, pieces_are_documents, shown, unfinished, reasons, small, grows, no_tables, ends_values};
+    ghost use Rattle.ion_binary.specs.laws.reading.Apart.{nodes_between};
+    ghost use Rattle.ion_binary.specs.laws.reading.Standing.{stood, has_told, nothing_told, one_stands};
+
+    ghost catalog = { λ r. r.walk.catalog.now };
+
+    ghost limits = { λ r. r.walk.limits };
+
+    ghost denotes = { Document };
+
+    ghost pieces = { λ g l front following s. Whole g l front s };
+
+    ghost open_after = { λ l front rest. OpenRest l rest };
+
+    ghost trace = { trace };
+
+    ghost stands = { Stands };
+
+    ghost told = { λ r. Told r.walk };
+
+    ghost taken = { λ r. taken r.walk };
+
+    ghost failed = { λ r. failed r.walk };
+
+    ghost awaits = { λ _. None };
+
+    ghost pending = { λ _. 0 };
+
+    ghost kept = { λ r. kept r.walk };
+
+    ghost counted = { λ r u s h. (stood r u s h).counted };
+
+    ghost not_failed = { λ r u s h. (stood r u s h).not_failed };
+
+    ghost not_refused = { λ r u s h. (stood r u s h).not_refused };
+
+    ghost given_so_far = { λ r u s h none. (stood r u s h).given_so_far none };
+
+    ghost given_with_next = { λ r u s h. tt };
+
+    ghost bounded = { λ r u s h. (stood r u s h).bounded };
+
+    ghost has_told = { has_told };
+
+    ghost nothing_told = { nothing_told };
+
+    ghost one_stands = { one_stands };
+
+    ghost settled = { grows };
+
+    ghost exact = { exact };
+
+    ghost one_stream = { one_stream };
+
+    ghost refused = { refused };
+
+    ghost decided = { decided };
+
+    ghost documents_are_pieces = { documents_are_pieces };
+
+    ghost pieces_are_documents = { pieces_are_documents };
+
+    ghost one_shown = { one_shown };
+
+    ghost shown = { shown };
+
+    ghost unfinished = { unfinished };
+
+    ghost reasons = { reasons };
+
+    ghost small = { small };
+
+    ghost nodes_between = { λ g l front span behind. nodes_between g l front span };
+
+    ghost no_tables = { no_tables };
+
+    ghost ends_values = { ends_values };
+
+    fn step(&mut self, piece: &[u8]) -> Result<Step, Refusal> {
+        let before = self.walk.used();
+        let Walked { used, ended } = self.walk.walk(piece, &mut self.build)?;
+        if !ended {
+            return Ok(Step { used, value: None });
+        }
+        match self.build.take() {
+            Some(value) => Ok(Step {
+                used,
+                value: Some(value),
+            }),
+            None => Err(self.walk.run_out(before)),
         }
     }
 
-    /// Begins a version marker behind its first octet; it stands at the top level alone.
-    fn marks(&mut self) -> Result<Effect, Reason>
-        ensures does { Does (marks (spot_of self.old) (open_frames self.old)) result self.new }
-        ensures used { self.new.used ≡ self.old.used }
-        ensures setting { SameSetting self.old self.new }
-    {
-        if !self.frames.is_empty() {
-            return Err(Reason::Malformed);
-        }
-        self.phase = Phase::InMarker(Mark::Second, true);
-        Ok(Effect::Goes)
+    #[inline(always)]
+    fn walk<V: Visitor>(&mut self, piece: &[u8], visitor: &mut V) -> Result<Walked, Refusal> {
+        self.walk.walk(piece, visitor)
     }
 
-    /// Takes up a descriptor, by what it opens.
-    fn on_descriptor(&mut self, opening: Opening) -> Result<Effect, Reason>
-        requires used { self.old.used < 2 ^ 63 }
-        ensures does { Does
-            (on_descriptor (setting_of self.old) (spot_of self.old) (open_frames self.old) opening)
-            result self.new }
-        ensures used { self.new.used ≡ self.old.used }
-        ensures setting { SameSetting self.old self.new }
-    {
-        match opening {
-            Opening::Refused(reason) => Err(reason),
-            Opening::Marker => self.marks(),
-            Opening::Null(kind) => self.one_octet(Payload::Null(kind)),
-            Opening::Truth(truth) => self.one_octet(Payload::Truth(truth)),
-            Opening::Sized(form, Size::Known(size)) => self.sized(form, u64::from(size)),
-            Opening::Sized(form, Size::Follows) => self.length_follows(form),
+    fn finish_by<V: Visitor>(self, visitor: &mut V) -> Result<bool, Refusal> {
+        let BinaryReader { walk, build } = self;
+        drop(build);
+        walk.finish_by(visitor)
+    }
+
+    fn finish(self) -> Result<Option<Value>, Refusal> {
+        let BinaryReader { walk, build } = self;
+        let mut built = build;
+        let answer = walk.finish_by(&mut built);
+        drop(built);
+        match answer {
+            Ok(_) => Ok(None),
+            Err(refusal) => Err(refusal),
         }
     }
 
-    /// Takes up an octet of a version marker, E0 01 00 EA (Ion 1.0, "Ion Binary Encoding", "Value
-    /// Streams"). Its fourth octet decides: a marker of another version is `Version`, and without
-    /// EA it is none.
-    fn on_marker(&mut self, mark: Mark, good: bool, octet: u8) -> Result<Effect, Reason>
-        ensures does { Does
-            (on_marker (spot_of self.old) (open_frames self.old) mark good octet)
-            result self.new }
-        ensures used { self.new.used ≡ self.old.used }
-        ensures setting { SameSetting self.old self.new }
-    {
-        match mark {
-            Mark::First => {
-                if octet != 0xE0 {
-                    return Err(Reason::Malformed);
-                }
-                self.phase = Phase::InMarker(Mark::Second, good);
-            }
-            Mark::Second => self.phase = Phase::InMarker(Mark::Third, good && octet == 1),
-            Mark::Third => self.phase = Phase::InMarker(Mark::Fourth, good && octet == 0),
-            Mark::Fourth => {
-                if octet != 0xEA {
-                    return Err(Reason::Malformed);
-                }
-                if !good {
-                    return Err(Reason::Version);
-                }
-                self.context.reset();
-                self.start = self.used;
-                self.phase = Phase::Ready;
-            }
-        }
-        Ok(Effect::Goes)
-    }
-
-    /// Takes up one octet that is in no body: what it did, or why it is refused. Behind an `Err`
-    /// nothing is known of the machine.
-    fn feed(&mut self, octet: u8) -> Result<Effect, Reason>
-        requires used { self.old.used < 2 ^ 63 - 1 }
-        requires outside { is_in_body self.old.phase ≡ false }
-        ensures does { Does
-            (feed (setting_of self.old) (machine_of self.old) octet)
-            result self.new }
-        ensures used { self.new.used ≡ self.old.used + 1 }
-        ensures setting { SameSetting self.old self.new }
-    {
-        self.used += 1;
-        match self.phase {
-            Phase::InMarker(mark, good) => self.on_marker(mark, good, octet),
-            Phase::Ready => self.on_descriptor(opening_of(octet)),
-            Phase::InNumber(purpose, so_far) => self.on_number(purpose, so_far, octet),
-            Phase::InBody(_, _) => unreachable!(),
-            Phase::InPad(missing) => self.on_pad(missing),
-        }
+    fn held(&self) -> usize {
+        self.walk.held()
     }
 }

@@ -1,10 +1,6 @@
 //! What a reader holds between two octets.
 
-ghost use Rattle.std.specs.Prelude.{◌≡◌};
-ghost use Rattle.ion_binary.specs.machine.EachOctet.{end_of};
-
-use crate::form::{Form, Listing, Scalar};
-use ion_model::{Field, Reason, Sequence, Symbol, Value};
+use crate::form::{Form, Scalar};
 
 /// Which octet of a version marker comes next.
 #[derive(Clone, Copy, PartialEq, Eq)]
@@ -50,45 +46,4 @@ pub enum Effect {
     Goes,
     /// It ended a value of the top level, which the reader holds until it is taken.
     Gives,
-}
-
-/// A container that isn't whole yet: the octet at which it ends, and what has come of it.
-#[derive(Drop)]
-pub enum Frame {
-    /// The items of a list or an s-expression.
-    Items {
-        end: u64,
-        listing: Listing,
-        items: Sequence<Value>,
-    },
-    /// The fields of a struct, where the next begins.
-    Fields {
-        end: u64,
-        fields: Sequence<Field>,
-    },
-    /// The fields of a struct and the name of the next, or why its id is none.
-    Named {
-        end: u64,
-        fields: Sequence<Field>,
-        name: Result<Symbol, Reason>,
-    },
-    /// The annotations of a wrapper.
-    Annotated {
-        end: u64,
-        annotations: Sequence<Symbol>,
-    },
-}
-
-impl Frame {
-    /// The octet at which the container ends.
-    pub fn end(&self) -> u64
-        ensures { result ≡ end_of self.now }
-    {
-        match self {
-            Frame::Items { end, .. } => *end,
-            Frame::Fields { end, .. } => *end,
-            Frame::Named { end, .. } => *end,
-            Frame::Annotated { end, .. } => *end,
-        }
-    }
 }

@@ -3,7 +3,7 @@ ghost use Rattle.std.specs.Prelude.{◌≡◌, ◌+◌, ◌-◌, ◌<◌, ◌^�
 ghost use Rattle.ion_atoms.specs.declared.refusal.Reason.TheVariants.{Memory};
 ghost use Rattle.ion_visiting.specs.Parts.{payload_of};
 ghost use Rattle.ion_model.specs.Measures.{bare};
-ghost use Rattle.ion_binary.specs.declared.state.Frame.{Frame as AnyFrame};
+ghost use Rattle.ion_binary.specs.machine.Frames.{Frame as AnyFrame};
 ghost use Rattle.ion_binary.specs.machine.EachOctet.{deliver, feed, marks, on_descriptor, on_marker, one_octet};
 ghost use Rattle.ion_binary.specs.machine.Views.{is_in_body};
 ghost use Rattle.ion_visiting.specs.Tables.{Hears, WasTold, heard};
@@ -23,6 +23,7 @@ mod bounds;
 mod containers;
 mod numbers;
 mod scalars;
+mod unread;
 mod whole_scalars;
 
 /// A container that isn't whole yet, by the octet at which it ends.

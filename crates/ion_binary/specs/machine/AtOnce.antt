@@ -4,7 +4,7 @@ use Rattle.std.proofs.lemmas.Bool.{cond-false}
 use Rattle.ion_symtab.specs.declared.limits.Limits.{Limits}
 use Rattle.ion_symtab.specs.declared.catalog.Catalog.{Catalog}
 use Rattle.ion_binary.specs.declared.form.Scalar.{Scalar}
-use Rattle.ion_binary.specs.declared.state.Frame.{Frame}
+use Rattle.ion_binary.specs.machine.Frames.{Frame}
 use Rattle.ion_binary.specs.declared.state.Phase.TheVariants.{InPad}
 use Rattle.ion_binary.specs.machine.EachOctet.{Spot, Outcome, under, moved, at, in_body, on_body, on_pad}
 use Rattle.ion_binary.specs.machine.Run.{run, run_on}

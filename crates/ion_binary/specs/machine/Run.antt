@@ -1,13 +1,12 @@
 -- Whole runs of the machine.
-use Rattle.std.specs.Prelude.{◌≡◌, ◌≢◌, ◌≤◌, ◌<◌, ℕ, ◌+◌, List, [], ◌∷◌, length, take, Option, Some, None, Result, Ok, Err, Bool, true, false, if◌then◌else◌}
+use Rattle.std.specs.Prelude.{ℕ, ◌+◌, List, [], ◌∷◌, Option, Some, None, Result, Ok, Err, Bool, true, false, if◌then◌else◌}
 use Rattle.ion_model.specs.declared.value.Value.{Value}
 use Rattle.ion_atoms.specs.declared.refusal.Refusal.{Refusal}
-use Rattle.ion_atoms.specs.declared.refusal.Reason.TheVariants.{Memory, Incomplete}
-use Rattle.ion_symtab.specs.declared.items.Step.{Step}
+use Rattle.ion_atoms.specs.declared.refusal.Reason.TheVariants.{Incomplete}
 use Rattle.ion_symtab.specs.declared.limits.Limits.{Limits}
 use Rattle.ion_symtab.specs.declared.catalog.Catalog.{Catalog}
 use Rattle.ion_symtab.specs.Trace.{Trace}
-use Rattle.ion_binary.specs.declared.state.Frame.{Frame}
+use Rattle.ion_binary.specs.machine.Frames.{Frame}
 use Rattle.ion_binary.specs.declared.state.Phase.{Phase}
 use Rattle.ion_binary.specs.declared.state.Phase.TheVariants.{Ready}
 use Rattle.ion_binary.specs.machine.EachOctet.{Machine, Outcome, goes, gives, refuses, under, feed, initial}
@@ -32,15 +31,6 @@ module _ (g : Catalog) (l : Limits) where
   abbrev pub run : ℕ → Machine → List ℕ → Run
   run to m [] = record { given = []; now = Ok m }
   run to m (b ∷ bs) = run_on (to + 1) (λ n. run (to + 1) n bs) (feed (under g l) m b)
-
--- Over this piece a step answered what a run from here says, and left the machine there.
-abbrev pub Advances : ℕ → (List ℕ → Run) → List ℕ → Result Step Refusal → Machine → Type 0
-Advances to run piece (Ok step) m = (step.used ≤ length piece) × Stopped step.value
-  where
-    Stopped : Option Value → Type 0
-    Stopped None = (step.used ≡ length piece) × (run piece ≡ record { given = []; now = Ok m })
-    Stopped (Some v) = (0 < step.used) × (run (take step.used piece) ≡ record { given = (v, to + step.used) ∷ []; now = Ok m })
-Advances to run piece (Err refusal) m = refusal.reason ≢ Memory → run piece ≡ record { given = []; now = Err refusal }
 
 -- no piece is open
 abbrev pub whole : Phase → List Frame → Bool

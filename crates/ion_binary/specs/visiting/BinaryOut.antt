@@ -1,11 +1,13 @@
 -- The visitor that writes values as binary values as it is told them.
 use Rattle.std.specs.Prelude.{◌≡◌, if◌then◌else◌, ◌+◌, ℕ, Bool, true, false, List, [], ◌∷◌, ◌++◌, length, take, drop, Option}
+use Rattle.ion_model.specs.declared.value.Value.{Value}
 use Rattle.ion_model.specs.declared.value.Payload.{Payload}
 use Rattle.ion_model.specs.declared.value.Payload.TheViews.{out-Payload}
 use Rattle.ion_scalar.specs.binary.Spellings.{var_uint_octets}
 use Rattle.ion_visiting.specs.Events.{Event, part, annotation, name, opens, closes, ended}
+use Rattle.ion_visiting.specs.KeptEvents.{KeptEvent}
 use Rattle.ion_binary.specs.declared.binary_out.Frame.{Frame}
-use Rattle.ion_binary.specs.Output.{Names, system_names, id_of, with_name, with_names, framed, with_count, layer_octets, layer_symbols, opening, table_from}
+use Rattle.ion_binary.specs.Output.{Names, Progress, system_names, id_of, with_name, with_names, framed, with_count, layer_octets, layer_symbols, value_octets, names_after, opening, table_from}
 use Rattle.ion_binary.specs.visiting.Brackets.{code_in}
 
 -- what is written so far: the octets of the values that ended, with the tables before them; the symbols that have ids, how many of them have
@@ -31,6 +33,10 @@ no_octets = record {
   frames = [];
   noted = false;
 }
+
+-- values that ended, which led to this progress, and nothing behind them
+abbrev pub of_values : List ℕ → Progress → Encoded
+of_values w p = record { whole = w; names = p.names; known = length p.names; begun = p.begun; value = []; frames = []; noted = false }
 
 -- an octet in place of a descriptor
 abbrev pub with_frame : Encoded → Bool → Encoded
@@ -93,8 +99,14 @@ encoded a (opens x) = with_frame (with_begun a) false
 encoded a (closes x) = with_ended (with_body a (code_in x))
 encoded a ended = with_end a
 
-abbrev pub encodes : Encoded → Event → Encoded → Type 0
-encodes a e b = b ≡ encoded a e
+-- an event that the types keep is written
+pub record Encodes (a : Encoded) (e : Event) (b : Encoded) : Type 0 where
+  pub kept : KeptEvent e
+  pub is : b ≡ encoded a e
+
+-- the symbols of a value got ids, and its octets stand behind what stood there
+abbrev pub with_value : Encoded → Value → Encoded
+with_value a v = let names = names_after a.names v in record a { names = names; value = a.value ++ value_octets names v }
 
 -- without the octets of the values that ended, which were handed over
 abbrev pub without_whole : Encoded → Encoded

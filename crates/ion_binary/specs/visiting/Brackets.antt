@@ -1,7 +1,5 @@
--- What stands in brackets: its form and its type code.
+-- What stands in brackets, and its type code.
 use Rattle.std.specs.Prelude.{ℕ}
-use Rattle.ion_binary.specs.declared.form.Form.{Form}
-use Rattle.ion_binary.specs.declared.form.Form.TheVariants as forms
 use Rattle.ion_binary.specs.declared.form.Listing.{Listing}
 use Rattle.ion_binary.specs.declared.form.Listing.TheVariants as listings
 use Rattle.ion_visiting.specs.declared.bracket.Bracket.{Bracket}
@@ -12,13 +10,7 @@ abbrev pub bracket_of : Listing → Bracket
 bracket_of listings.List = brackets.List
 bracket_of listings.Sexp = brackets.Sexp
 
--- the form of what stands in brackets; that of a struct that announces the order of its fields is another
-abbrev pub form_in : Bracket → Form
-form_in brackets.List = forms.Listing listings.List
-form_in brackets.Sexp = forms.Listing listings.Sexp
-form_in brackets.Fields = forms.Struct
-
--- its type code
+-- the type code of what stands in brackets
 abbrev pub code_in : Bracket → ℕ
 code_in brackets.List = 11
 code_in brackets.Sexp = 12

@@ -7,7 +7,7 @@ use Rattle.ion_atoms.specs.declared.refusal.Refusal.{Refusal}
 use Rattle.ion_visiting.specs.Events.{Event}
 use Rattle.ion_visiting.specs.Tables.{heard}
 use Rattle.ion_symtab.specs.declared.items.Walked.{Walked}
-use Rattle.ion_binary.specs.declared.state.Frame.{Frame}
+use Rattle.ion_binary.specs.machine.Frames.{Frame}
 use Rattle.ion_binary.specs.declared.state.Effect.{Effect}
 use Rattle.ion_binary.specs.declared.state.Effect.TheVariants.{Goes, Gives}
 use Rattle.ion_binary.specs.declared.walking.BinaryWalk.{BinaryWalk}

@@ -1,5 +1,5 @@
 //! Walks over pieces: octets of a body or a pad are taken up at once, else one.
-ghost use Rattle.std.specs.Prelude.{◌≡◌, ◌≢◌, ℕ, ◌+◌, ◌-◌, ◌≤◌, ◌<◌, ◌^◌, [], ◌++◌, List, true, false, length, take, None, Result, IfOk, IfErr, IfSome, IsNone};
+ghost use Rattle.std.specs.Prelude.{◌≡◌, ◌≢◌, ℕ, ◌+◌, ◌-◌, ◌≤◌, ◌<◌, ◌^◌, [], ◌++◌, List, true, false, length, take, None, Some, Result, IfOk, IfErr, IfSome, IsNone};
 ghost use Rattle.ion_atoms.specs.declared.refusal.Reason.TheVariants.{Memory};
 ghost use Rattle.ion_visiting.specs.Events.{Event};
 ghost use Rattle.ion_symtab.specs.Trace.{Answers};
@@ -10,7 +10,7 @@ ghost use Rattle.ion_binary.specs.machine.EachOctet.{judged, moved};
 ghost use Rattle.ion_model.specs.declared.value.Value.{Value as AnyValue};
 ghost use Rattle.ion_binary.specs.machine.Run.{trace, whole};
 ghost use Rattle.ion_binary.specs.machine.Views.{goes_on, is_in_body};
-ghost use Rattle.ion_binary.specs.declared.state.Frame.{Frame as AnyFrame};
+ghost use Rattle.ion_binary.specs.machine.Frames.{Frame as AnyFrame};
 ghost use Rattle.ion_binary.specs.declared.state.Phase.TheVariants as phases;
 ghost use Rattle.ion_binary.specs.walking.Holds.{AreAround, Does, Holds, SameSetting, setting_of, shells, spot_of, told};
 ghost use Rattle.ion_binary.specs.walking.Runs.{Led, Told, Took, Walks, awaits, failed, kept, pending, run_of, taken};
@@ -307,6 +307,7 @@ impl BinaryWalk<'_> {
     /// Ends the octets, which end no value that hasn't ended: whether one ended, so never. A refusal
     /// has the octets of all pieces, `Incomplete` where they end inside a value, a pad or a marker.
     pub fn finish_by<V: Visitor>(self, visitor: &mut V) -> Result<bool, Refusal>
+        ensures never { IfOk result (λ ended. ended ≡ false) }
         ensures ends { (u : List ℕ) (s : List (AnyValue × ℕ)) (es : List Event) →
             Told self.entry u s es →
             EndsOn V.takes (trace self.entry.catalog.now self.entry.limits u) es
@@ -329,6 +330,19 @@ impl BinaryWalk<'_> {
             offset: end,
             reason: Reason::Incomplete,
         })
+    }
+
+    /// Refuses from now on, behind so many octets: what was told got no memory.
+    pub(crate) fn run_out(&mut self, used: u64) -> Refusal
+        ensures refusal { result ≡ record { offset = used; reason = Memory } }
+        ensures kept { self.new ≡ record self.old { failed = Some result } }
+    {
+        let refusal = Refusal {
+            offset: used,
+            reason: Reason::Memory,
+        };
+        self.failed = Some(refusal);
+        refusal
     }
 
     /// How many octets were used so far.

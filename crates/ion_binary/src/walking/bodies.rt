@@ -2,7 +2,7 @@
 ghost use Rattle.std.specs.Prelude.{◌≡◌, ◌<◌, ◌^◌, List, []};
 ghost use Rattle.ion_binary.specs.Judge.{judge};
 ghost use Rattle.ion_binary.specs.declared.form.Form.TheVariants as forms;
-ghost use Rattle.ion_binary.specs.declared.state.Frame.{Frame as AnyFrame};
+ghost use Rattle.ion_binary.specs.machine.Frames.{Frame as AnyFrame};
 ghost use Rattle.ion_binary.specs.machine.EachOctet.{begin, judged, on_pad, open_struct, sized};
 ghost use Rattle.ion_binary.specs.walking.Holds.{AreAround, Does, Holds, HoldsNoWrapper, MayBegin, SameSetting, setting_of, spot_of, told};
 

@@ -1,13 +1,20 @@
 //! Where a value, a pad or a number may stand, and how far it may reach.
 ghost use Rattle.std.specs.Prelude.{◌≡◌, nat_lt};
 ghost use Rattle.ion_binary.specs.machine.EachOctet.{levels, too_long, misfits, stray, nameless, unending, outside, past, unfit};
+ghost use Rattle.ion_binary.specs.machine.Views.{malformed_unless};
 ghost use Rattle.ion_binary.specs.walking.Holds.{fields_end, is_named, items_end, named_end, open_containers, shells, wrapper_end};
 
 use super::{BinaryWalk, Container};
 use crate::form::Form;
-use crate::reader::bounds::malformed_unless;
 use crate::state::Purpose;
 use ion_model::Reason;
+
+/// No reason where it holds, else `Malformed`.
+fn malformed_unless(holds: bool) -> Option<Reason>
+    ensures { result ≡ malformed_unless holds }
+{
+    if holds { None } else { Some(Reason::Malformed) }
+}
 
 impl BinaryWalk<'_> {
     /// Whether the innermost container is a struct whose next field has a name.

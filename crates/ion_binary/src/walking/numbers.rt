@@ -4,13 +4,13 @@ ghost use Rattle.ion_scalar.specs.binary.Fields.{VarUInt};
 ghost use Rattle.ion_binary.specs.declared.state.Phase.TheVariants as phases;
 ghost use Rattle.ion_binary.specs.declared.state.Purpose.TheVariants as purposes;
 ghost use Rattle.ion_symtab.specs.Slots.{resolve};
-ghost use Rattle.ion_binary.specs.declared.state.Frame.{Frame as AnyFrame};
+ghost use Rattle.ion_binary.specs.machine.Frames.{Frame as AnyFrame};
 ghost use Rattle.ion_binary.specs.machine.EachOctet.{longer, unsized, name_came, count_came, annotation_came, moved, number_came, on_number};
 ghost use Rattle.ion_binary.specs.walking.Holds.{Does, DoesAlone, Holds, IsWithin, SameSetting, behind_annotation, open_containers, setting_of, spot_of, told};
 
 use super::{BinaryWalk, Container, heard};
-use crate::build::number;
 use crate::form::Form;
+use crate::lengths::number;
 use crate::state::{Effect, Phase, Purpose};
 use ion_model::Reason;
 use ion_visiting::Visitor;

@@ -11,7 +11,7 @@ ghost use Rattle.ion_binary.specs.walking.Holds.{IsNumber, TellsAs};
 
 use super::heard;
 use crate::form::Scalar;
-use crate::walk::is_scalar;
+use crate::walking::unread::is_scalar;
 use ion_model::{Reason, Symbol, Whole};
 use ion_scalar::{Number, decimal_of, timestamp_of, uint_of};
 use ion_symtab::Context;
@@ -128,7 +128,7 @@ fn number_of(scalar: Scalar, body: &[u8]) -> Result<Number, Reason>
 }
 
 // The int of a sign and a magnitude.
-fn int_of(negative: bool, body: &[u8]) -> Result<Whole, Reason>
+pub(super) fn int_of(negative: bool, body: &[u8]) -> Result<Whole, Reason>
     ensures { MatchResult result
         (λ z. int_of negative (uint_field body.now) ≡ Ok (payloads.Int z))
         (λ reason. int_of negative (uint_field body.now) ≡ Err reason) }

@@ -4,14 +4,14 @@ ghost use Rattle.std.specs.Prelude.{◌≡◌, ◌+◌, ◌-◌, ◌≤◌, ◌<
 ghost use Rattle.ion_binary.specs.Grammar.{Header};
 ghost use Rattle.ion_binary.specs.Judge.{judge};
 ghost use Rattle.ion_binary.specs.declared.form.Form.TheVariants as forms;
-ghost use Rattle.ion_binary.specs.declared.state.Frame.{Frame as AnyFrame};
+ghost use Rattle.ion_binary.specs.machine.Frames.{Frame as AnyFrame};
 ghost use Rattle.ion_binary.specs.declared.state.Phase.TheVariants as phases;
 ghost use Rattle.ion_binary.specs.machine.EachOctet.{hollow, judged, moved, unfit};
 ghost use Rattle.ion_binary.specs.walking.Holds.{AreAround, Does, Holds, SameSetting, setting_of, shells, spot_of, told};
 
 use super::BinaryWalk;
-use crate::build::lengths;
 use crate::form::{Form, Opening, Scalar, hollow, opening_of};
+use crate::lengths::lengths;
 use crate::state::{Effect, Phase};
 use ion_model::Reason;
 use ion_visiting::Visitor;

@@ -5,11 +5,26 @@ ghost use Rattle.std.specs.Prelude.{◌≡◌, ◌<◌, ◌≤◌, ◌*◌, ◌^
 ghost use Rattle.ion_symtab.specs.declared.fault.Fault.TheVariants as faults;
 ghost use Rattle.ion_scalar.specs.binary.Spellings.{var_uint_octets, uint_octets, decimal_octets};
 ghost use Rattle.ion_binary.specs.Output.{framed, null_octet, truth_octet, whole_octets};
+ghost use Rattle.ion_binary.specs.visiting.Brackets.{code_in};
 ghost use Rattle.ion_scalar.specs.binary.TimestampSpellings.{timestamp_octets};
 
 use ion_model::{Decimal, Kind, Timestamp, Whole};
 use ion_scalar::{put_decimal, put_timestamp, put_uint, put_var_uint};
 use ion_symtab::Fault;
+use ion_visiting::Bracket;
+
+/// The type code of what stands in brackets (Ion 1.0, "Ion Binary Encoding", "11: List", "12:
+/// S-expression", "13: Structure").
+pub(crate) fn code_of(bracket: Bracket) -> u8
+    ensures code { result ≡ code_in bracket }
+    ensures small { result < 16 }
+{
+    match bracket {
+        Bracket::List => 11,
+        Bracket::Sexp => 12,
+        Bracket::Fields => 13,
+    }
+}
 
 /// Appends a body behind the descriptor of its type code and length, which has the fewest octets.
 #[inline(never)]

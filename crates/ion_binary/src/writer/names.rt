@@ -1,12 +1,11 @@
 //! The ids that a writer has given to symbols (Ion 1.0, "Symbols", "Symbol IDs").
-ghost use Rattle.std.specs.Prelude.{◌≡◌, ◌<◌, ◌≤◌, ◌^◌, ◌+◌, Some, suc, true, length, map, take, drop, MatchResult, IfErr, IfOk, IfSome, OnOk};
+ghost use Rattle.std.specs.Prelude.{◌≡◌, ◌<◌, ◌≤◌, ◌^◌, Some, suc, true, length, map, take, drop, MatchBool, MatchResult, IfOk, IsOkUnless, OnOk};
 ghost use Rattle.ion_model.specs.Symbols.{symbol_same};
 ghost use Rattle.ion_symtab.specs.Slots.{greatest_id};
 ghost use Rattle.ion_symtab.specs.declared.fault.Fault.TheVariants as faults;
 ghost use Rattle.ion_binary.specs.Output.{Names as SymbolsById, system_names, id_of, with_name, with_names};
-ghost use Rattle.ion_binary.specs.Writing.{IsNumberingFault};
+ghost use Rattle.ion_binary.specs.Writing.{NeedsLargeId};
 ghost use Rattle.ion_binary.specs.writer.Later.{IsLater};
-ghost use Rattle.ion_binary.specs.machine.Transcribed.{HasId};
 
 use super::recent_ids::Guesses;
 use indexmap::IndexSet;
@@ -24,15 +23,11 @@ pub(crate) struct Names<S: BuildHasher> {
 }
 
 impl<S: BuildHasher> Model for Names<S> {
-    ghost use Rattle.std.specs.Prelude.{◌≤◌, suc, length};
-    ghost use Rattle.ion_symtab.specs.Slots.{greatest_id};
     ghost use Rattle.ion_binary.specs.Output.{Names as SymbolsById};
 
     ghost Value = { SymbolsById };
 
     ghost view = { λ n. n.symbols.keys };
-
-    ghost invariant = { λ n. length n.symbols.keys ≤ suc greatest_id };
 }
 
 impl<S: BuildHasher + Drop> Names<S> {
@@ -51,7 +46,6 @@ impl<S: BuildHasher + Drop> Names<S> {
 
     // Gives each of the texts the next id, if it has none. The only fault is `Memory`.
     fn insert_texts(&mut self, alloc: Global, texts: &[&str]) -> Result<(), Fault>
-        requires room { length self.old + length texts.now ≤ suc greatest_id }
         ensures { MatchResult result (λ _. self.new
             ≡ with_names self.old (map (λ t. Some t.now) texts.now)) (λ f. f ≡ faults.Memory) }
     {
@@ -66,20 +60,25 @@ impl<S: BuildHasher + Drop> Names<S> {
     pub(crate) fn len(&self) -> usize
         ensures count { result ≡ length self.now }
         ensures small { result < 2 ^ 63 }
-        ensures in_range { length self.now ≤ suc greatest_id }
     {
         self.symbols.len()
     }
 
-    /// The id of a symbol, which is the next one where it had none. It stays the symbol's id.
-    ///
-    /// `Memory`, or `TooLarge` where that id would be above 2^31-1.
+    /// Whether a symbol has an id above 2^31-1.
+    pub(crate) fn needs_large_id(&self) -> bool
+        ensures { MatchBool result (NeedsLargeId self.now) (length self.now ≤ suc greatest_id) }
+    {
+        self.symbols.len() > GREATEST_ID as usize + 1
+    }
+
+    /// The id of a symbol, which is the next one where it had none, however great. It stays the
+    /// symbol's id. The only fault is `Memory`.
     pub(crate) fn add(&mut self, guesses: &mut Guesses, symbol: &Symbol) -> Result<u64, Fault>
         ensures ok { OnOk result (self.new ≡ with_name self.old symbol.now) }
         ensures id { IfOk result (λ id. (later : SymbolsById) → IsLater self.new later →
             id ≡ id_of later symbol.now) }
         ensures small { IfOk result (λ id. id < 2 ^ 63) }
-        ensures cause { IfErr result (IsNumberingFault (with_name self.old symbol.now)) }
+        ensures memory { IsOkUnless result faults.Memory }
     {
         let place = Guesses::place_of(symbol);
         let guess = guesses.guess(place);
@@ -121,18 +120,14 @@ impl<S: BuildHasher + Drop> Names<S> {
         ensures ok { OnOk result (self.new ≡ with_name self.old symbol.now) }
         ensures id { IfOk result (λ id. id ≡ id_of self.new symbol.now) }
         ensures small { IfOk result (λ id. id < 2 ^ 63) }
-        ensures cause { IfErr result (IsNumberingFault (with_name self.old symbol.now)) }
+        ensures memory { IsOkUnless result faults.Memory }
     {
         let key = symbol.copy().map_err(|_| Fault::Memory)?;
-        if self.symbols.len() > GREATEST_ID as usize && !self.symbols.contains(&key) {
-            return Err(Fault::TooLarge);
-        }
         self.insert(key)
     }
 
     // Gives the symbol the next id, if it has none, and answers its id. The only fault is `Memory`.
     fn insert(&mut self, key: Symbol) -> Result<usize, Fault>
-        requires room { length (with_name self.old key) ≤ suc greatest_id }
         ensures ok { MatchResult result (λ _. self.new ≡ with_name self.old key)
             (λ f. f ≡ faults.Memory) }
         ensures id { IfOk result (λ id. id ≡ id_of self.new key) }
@@ -142,24 +137,6 @@ impl<S: BuildHasher + Drop> Names<S> {
         // Its contract alone says that there are fewer than 2^63.
         let _count = self.symbols.len();
         Ok(id)
-    }
-
-    /// The id of a symbol, if it has one.
-    #[inline(never)]
-    pub(crate) fn known_id(&self, symbol: &Symbol) -> Option<usize>
-        ensures { IfSome result (λ id. HasId self.now symbol.now id) }
-    {
-        let _count = self.symbols.len();
-        self.symbols.get_index_of(symbol)
-    }
-
-    /// The id of the symbol of a text, if it has one. Without memory none is found.
-    #[inline(never)]
-    pub(crate) fn known_text(&self, alloc: Global, text: &str) -> Option<usize>
-        ensures { IfSome result (λ id. HasId self.now (Some text.now) id) }
-    {
-        let key = Symbol::known(alloc, text).ok()?;
-        self.known_id(&key)
     }
 
     /// The id of a text, or how many symbols there are, where it has none. The only fault is

@@ -9,4 +9,4 @@ returns-clause-value c = value_told
 pub returns-clause-values : goal.returns-clause-values
 returns-clause-values c = λ s b h.
     let told = values_told s b h in
-    (ap (λ (x : Encoded). x.whole) told, ap (λ (x : Encoded). x.names) told, ap (λ (x : Encoded). x.begun) told)
+    (ap (λ (x : Encoded). x.whole) told.0, ap (λ (x : Encoded). x.names) told.0, ap (λ (x : Encoded). x.begun) told.0, told.1)

@@ -18,8 +18,8 @@ use Rattle.ion_binary.specs.declared.form.Listing.{Listing}
 use Rattle.ion_binary.specs.declared.form.Listing.TheVariants as listings
 use Rattle.ion_binary.specs.declared.form.Scalar.{Scalar}
 use Rattle.ion_binary.specs.declared.form.Scalar.TheVariants as scalars
-use Rattle.ion_binary.specs.declared.state.Frame.{Frame}
-use Rattle.ion_binary.specs.declared.state.Frame.TheVariants as frames
+use Rattle.ion_binary.specs.machine.Frames.{Frame}
+use Rattle.ion_binary.specs.machine.Frames as frames
 use Rattle.ion_binary.specs.declared.state.Purpose.{Purpose}
 use Rattle.ion_binary.specs.declared.state.Purpose.TheVariants as purposes
 use Rattle.ion_binary.specs.declared.state.Phase.TheVariants.{Ready, InNumber, InPad}

@@ -10,8 +10,8 @@ use Rattle.ion_symtab.specs.declared.catalog.Catalog.{Catalog}
 use Rattle.ion_symtab.specs.Slots.{Slot}
 use Rattle.ion_binary.specs.declared.form.Form.{Form}
 use Rattle.ion_binary.specs.declared.form.Form.TheVariants as forms
-use Rattle.ion_binary.specs.declared.state.Frame.{Frame}
-use Rattle.ion_binary.specs.declared.state.Frame.TheVariants as frames
+use Rattle.ion_binary.specs.machine.Frames.{Frame}
+use Rattle.ion_binary.specs.machine.Frames as frames
 use Rattle.ion_binary.specs.declared.state.Purpose.{Purpose}
 use Rattle.ion_binary.specs.declared.state.Purpose.TheVariants as purposes
 use Rattle.ion_binary.specs.declared.state.Phase.{Phase}

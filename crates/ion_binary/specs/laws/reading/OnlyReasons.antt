@@ -17,8 +17,8 @@ use Rattle.ion_binary.specs.declared.form.Form.{Form}
 use Rattle.ion_binary.specs.declared.form.Form.TheVariants as forms
 use Rattle.ion_binary.specs.declared.form.Opening.{Opening}
 use Rattle.ion_binary.specs.declared.form.Opening.TheVariants.{Refused}
-use Rattle.ion_binary.specs.declared.state.Frame.{Frame}
-use Rattle.ion_binary.specs.declared.state.Frame.TheVariants as frames
+use Rattle.ion_binary.specs.machine.Frames.{Frame}
+use Rattle.ion_binary.specs.machine.Frames as frames
 use Rattle.ion_scalar.specs.binary.Descriptor.{descriptor_of, typed}
 use Rattle.ion_scalar.specs.declared.descriptor.Descriptor.{Descriptor}
 use Rattle.ion_scalar.specs.declared.descriptor.Descriptor.TheVariants as descriptors

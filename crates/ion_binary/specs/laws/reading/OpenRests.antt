@@ -10,8 +10,8 @@ use Rattle.ion_symtab.specs.Decided.{Decides}
 use Rattle.ion_binary.specs.declared.form.Form.{Form}
 use Rattle.ion_binary.specs.declared.form.Form.TheVariants as forms
 use Rattle.ion_binary.specs.declared.form.Scalar.{Scalar}
-use Rattle.ion_binary.specs.declared.state.Frame.{Frame}
-use Rattle.ion_binary.specs.declared.state.Frame.TheVariants as frames
+use Rattle.ion_binary.specs.machine.Frames.{Frame}
+use Rattle.ion_binary.specs.machine.Frames as frames
 use Rattle.ion_binary.specs.declared.state.Mark.{Mark}
 use Rattle.ion_binary.specs.declared.state.Mark.TheVariants.{First, Second, Third, Fourth}
 use Rattle.ion_binary.specs.declared.state.Purpose.{Purpose}

@@ -13,7 +13,7 @@ use Rattle.ion_symtab.specs.Trace.{Streams, Grows, plain}
 use Rattle.ion_symtab.specs.Promises.{Refuses, BeginsNone, IsFirst, HasPieces, Shown, Shows, IsSmall, Spaced, IsReadersReason, HasReasons, NoTables, GivesNoTable, EndsValues}
 use Rattle.ion_symtab.specs.laws.Promises.{first_refused, shown_once}
 use Rattle.ion_symtab.specs.Decided.{IsDecided}
-use Rattle.ion_binary.specs.declared.state.Frame.{Frame}
+use Rattle.ion_binary.specs.machine.Frames.{Frame}
 use Rattle.ion_binary.specs.declared.state.Phase.{Phase}
 use Rattle.ion_binary.specs.declared.state.Phase.TheVariants.{InMarker, Ready, InNumber, InBody, InPad}
 use Rattle.ion_model.specs.Kinds.{is_table}

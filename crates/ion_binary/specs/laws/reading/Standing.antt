@@ -1,75 +1,66 @@
--- What is known of a reader that stands for octets.
-use Rattle.std.proofs.Common.{◌≡◌, ℕ, ◌≤◌, List, length, ap, arith, Option, None, Ok, refl}
+-- What is known of a reader that builds values and stands for octets.
+use Rattle.std.proofs.Common.{◌≡◌, ℕ, List, [], ◌∷◌, ap, sym, None, Result, Ok, refl}
 use Rattle.ion_atoms.specs.declared.refusal.Refusal.{Refusal}
 use Rattle.ion_model.specs.declared.value.Value.{Value}
-use Rattle.ion_symtab.specs.declared.limits.Limits.{Limits}
-use Rattle.ion_symtab.specs.declared.catalog.Catalog.{Catalog}
-use Rattle.ion_symtab.specs.Slots.{Slot}
-use Rattle.ion_symtab.specs.Trace.{plain}
 use Rattle.ion_symtab.specs.Walks.{HasTold}
-use Rattle.ion_binary.specs.declared.state.Frame.{Frame}
-use Rattle.ion_binary.specs.declared.state.Phase.{Phase}
-use Rattle.ion_binary.specs.declared.state.Phase.TheVariants.{InMarker, Ready, InNumber, InBody, InPad}
+use Rattle.ion_visiting.specs.Building.{Built, built, builds, fresh}
+use Rattle.ion_visiting.specs.Events.{Event, Led}
+use Rattle.ion_visiting.specs.Tables.{heard}
+use Rattle.ion_binary.specs.machine.Frames.{Frame}
 use Rattle.ion_binary.specs.declared.reader.BinaryReader.{BinaryReader}
-use Rattle.ion_binary.specs.machine.EachOctet.{Spot, Machine, initial}
-use Rattle.ion_binary.specs.machine.Run.{Run, run, trace, trace_of}
-use Rattle.ion_binary.specs.machine.Views.{Stands, open_frames, spot_of, body_so_far}
-use Rattle.ion_binary.specs.laws.reading.Stands.{Standing}
-use Rattle.ion_binary.specs.laws.reading.Promises.{ran_stands}
-use Rattle.ion_binary.specs.laws.reading.OpenRests.{body_within}
+use Rattle.ion_binary.specs.declared.walking.BinaryWalk.{BinaryWalk}
+use Rattle.ion_binary.specs.machine.EachOctet.{Machine, initial}
+use Rattle.ion_binary.specs.machine.Run.{Run, trace}
+use Rattle.ion_binary.specs.Reading.{Stands}
+use Rattle.ion_binary.specs.walking.Holds.{machine_of, told}
+use Rattle.ion_binary.specs.walking.Runs.{Told, failed, kept, taken}
+use Rattle.ion_binary.specs.laws.reading.Walking as walks
 
--- the values for which a reader stands are those that the trace gives
-pub given_of : (r : BinaryReader) (u : List ℕ) (s : List (Value × ℕ)) → Stands r u s → (trace r.catalog.now r.limits u).given ≡ s
-given_of r u s h = ap (λ (x : Run). (trace_of x).given) h.ran
+-- where its walk told what octets did, the trace says the same of them
+pub has_told : (r : BinaryReader) (u : List ℕ) (s : List (Value × ℕ)) (es : List Event) → Told r.walk u s es
+    → HasTold (λ (x : BinaryReader). taken x.walk) (λ x. kept x.walk) (λ x. failed x.walk) (λ _. None)
+    (trace r.walk.catalog.now r.walk.limits) r.walk.limits.item r u s
+has_told r u s es h =
+    let k = walks.has_told r.walk u s es h in
+    record {
+      counted = k.counted;
+      not_failed = k.not_failed;
+      not_refused = k.not_refused;
+      given_so_far = k.given_so_far;
+      given_with_next = tt;
+      bounded = k.bounded;
+    }
 
--- a reader that stands for octets has refused none
-pub not_failed : (r : BinaryReader) (u : List ℕ) (s : List (Value × ℕ)) → Stands r u s → r.failed ≡ None
-not_failed r u s h = h.fine
+-- where it stands for octets, too
+pub stood : (r : BinaryReader) (u : List ℕ) (s : List (Value × ℕ)) → Stands r u s
+    → HasTold (λ (x : BinaryReader). taken x.walk) (λ x. kept x.walk) (λ x. failed x.walk) (λ _. None)
+    (trace r.walk.catalog.now r.walk.limits) r.walk.limits.item r u s
+stood r u s h = has_told r u s h.0 h.1
 
--- the trace refuses no octet for which a reader stands
-pub not_refused : (r : BinaryReader) (u : List ℕ) (s : List (Value × ℕ)) → Stands r u s → (trace r.catalog.now r.limits u).refused ≡ None
-not_refused r u s h = ap (λ (x : Run). (trace_of x).refused) h.ran
+-- before the first octet there is nothing to tell
+told_none : (r : BinaryWalk) (fs : List Frame) → initial ≡ machine_of r fs → heard (told fs) ≡ []
+told_none r fs e = ap (λ (m : Machine). heard (told m.frames)) (sym e)
 
-so_far_within : (g : Catalog) (l : Limits) (start : ℕ) (c : List Slot) (s : List Value) (fs : List Frame) (body : List ℕ) (phase : Phase) (u : List ℕ)
-    → Standing g l start c s fs (body_so_far phase body) phase u → length (body_so_far phase body) ≤ l.item
-so_far_within g l start c s fs body (InBody t n) u o = body_within g l start c s fs body t n u o
-so_far_within g l start c s fs body (InMarker m good) u o = omega arith
-so_far_within g l start c s fs body Ready u o = omega arith
-so_far_within g l start c s fs body (InNumber p a) u o = omega arith
-so_far_within g l start c s fs body (InPad n) u o = omega arith
+same_machine : (m n : Machine) (r : Result Machine Refusal) → r ≡ Ok m → r ≡ Ok n → m ≡ n
+same_machine m n r is e = cc
 
--- the machine to which a run over octets led
-abbrev pub machine_at : Spot → List Frame → Phase → List ℕ → Machine
-machine_at spot fs phase body = record { spot = spot; frames = fs; phase = phase; body = body_so_far phase body }
+-- a reader of no octets has told nothing
+pub nothing_told : (r : BinaryReader) → Stands r [] [] → Told r.walk [] [] []
+nothing_told r h =
+    let stands = h.1.1 in
+    let first = same_machine initial (machine_of r.walk h.1.0) (Ok initial) refl (ap (λ (x : Run). x.now) stands.ran) in
+    (h.1.0, stands, sym (told_none r.walk h.1.0 first))
 
-module _ (g : Catalog) (l : Limits) (u : List ℕ) (s : List (Value × ℕ)) (spot : Spot) (fs : List Frame) (phase : Phase) (body : List ℕ)
-    (ran : run g l 0 initial u ≡ record { given = s; now = Ok (machine_at spot fs phase body) }) where
-  -- the octets kept are of one scalar
-  pub kept_within : length (body_so_far phase body) ≤ l.item
-  kept_within =
-      let o = ran_stands g l u s (machine_at spot fs phase body) ran in
-      so_far_within g l spot.start spot.context (plain s) fs body phase u o.standing
+-- what is built where these events are told
+abbrev built_by : List Event → Built → Built
+built_by [] b = b
+built_by (e ∷ es) b = built_by es (built b e)
 
-  -- what is so of a reader there
-  pub told_there : {X : Type 0} (taken kept : X → ℕ) (failed : X → Option Refusal) (r : X) → taken r ≡ length u → failed r ≡ None
-      → kept r ≡ length (body_so_far phase body) → HasTold taken kept failed (λ _. None) (trace g l) l.item r u s
-  told_there taken kept failed r counted fine kept_so = record {
-    counted = counted;
-    not_failed = fine;
-    not_refused = ap (λ (x : Run). (trace_of x).refused) ran;
-    given_so_far = λ none. ap (λ (x : Run). (trace_of x).given) ran;
-    given_with_next = tt;
-    bounded = rw kept_so kept_within;
-  }
+led_by : (es : List Event) (b : Built) → Led builds es b (built_by es b)
+led_by [] b = refl
+led_by (e ∷ es) b = (built b e, refl, led_by es (built b e))
 
--- the octets kept are of one scalar
-pub bounded : (r : BinaryReader) (u : List ℕ) (s : List (Value × ℕ)) → Stands r u s → length (body_so_far r.phase r.body.items) ≤ r.limits.item
-bounded r u s h = kept_within r.catalog.now r.limits u s (spot_of r) (open_frames r) r.phase r.body.items h.ran
-
--- a reader that tells whole values alone told what it gave
-pub has_told : (r : BinaryReader) (u : List ℕ) (s : List (Value × ℕ)) → Stands r u s
-    → HasTold (λ (x : BinaryReader). x.used) (λ x. length (body_so_far x.phase x.body.items)) (λ x. x.failed) (λ _. None)
-    (trace r.catalog.now r.limits)
-    r.limits.item r u s
-has_told r u s h = told_there r.catalog.now r.limits u s (spot_of r) (open_frames r) r.phase r.body.items h.ran (λ x. x.used)
-    (λ x. length (body_so_far x.phase x.body.items)) (λ x. x.failed) r h.counted h.fine refl
+-- where a reader told what octets are, one that built what was told stands for them
+pub one_stands : (r : BinaryReader) (u : List ℕ) (s : List (Value × ℕ)) (es : List Event) → Told r.walk u s es
+    → (q : BinaryReader) × Stands q u s × (q.walk.catalog.now ≡ r.walk.catalog.now) × (q.walk.limits ≡ r.walk.limits)
+one_stands r u s es h = (record r { build = built_by es fresh }, (es, h, led_by es fresh), refl, refl)

@@ -1,16 +1,42 @@
 -- What is known of a reader that holds no values and told a visitor what it did.
-use Rattle.std.proofs.Common.{ℕ, List, refl}
+use Rattle.std.proofs.Common.{ℕ, ◌≤◌, List, length, ap, arith}
 use Rattle.ion_model.specs.declared.value.Value.{Value}
+use Rattle.ion_symtab.specs.declared.catalog.Catalog.{Catalog}
+use Rattle.ion_symtab.specs.declared.limits.Limits.{Limits}
+use Rattle.ion_symtab.specs.Slots.{Slot}
+use Rattle.ion_symtab.specs.Trace.{plain}
 use Rattle.ion_symtab.specs.Walks.{HasTold}
 use Rattle.ion_visiting.specs.Events.{Event}
+use Rattle.ion_binary.specs.machine.Frames.{Frame}
+use Rattle.ion_binary.specs.declared.state.Phase.{Phase}
+use Rattle.ion_binary.specs.declared.state.Phase.TheVariants.{InMarker, Ready, InNumber, InBody, InPad}
 use Rattle.ion_binary.specs.declared.walking.BinaryWalk.{BinaryWalk}
-use Rattle.ion_binary.specs.machine.Run.{trace}
-use Rattle.ion_binary.specs.walking.Holds.{spot_of}
+use Rattle.ion_binary.specs.machine.Run.{Run, trace, trace_of}
+use Rattle.ion_binary.specs.machine.Views.{body_so_far}
+use Rattle.ion_binary.specs.walking.Holds.{machine_of}
 use Rattle.ion_binary.specs.walking.Runs.{Told, awaits, failed, kept, taken}
-use Rattle.ion_binary.specs.laws.reading.Standing.{told_there}
+use Rattle.ion_binary.specs.laws.reading.Stands.{Standing}
+use Rattle.ion_binary.specs.laws.reading.Promises.{ran_stands}
+use Rattle.ion_binary.specs.laws.reading.OpenRests.{body_within}
 
--- where it told what octets did, all is so that is so of a reader that stands for them
+so_far_within : (g : Catalog) (l : Limits) (start : ℕ) (c : List Slot) (s : List Value) (fs : List Frame) (body : List ℕ) (phase : Phase) (u : List ℕ)
+    → Standing g l start c s fs (body_so_far phase body) phase u → length (body_so_far phase body) ≤ l.item
+so_far_within g l start c s fs body (InBody t n) u o = body_within g l start c s fs body t n u o
+so_far_within g l start c s fs body (InMarker m good) u o = omega arith
+so_far_within g l start c s fs body Ready u o = omega arith
+so_far_within g l start c s fs body (InNumber p a) u o = omega arith
+so_far_within g l start c s fs body (InPad n) u o = omega arith
+
+-- where it told what octets did, the trace says the same of them
 pub has_told : (r : BinaryWalk) (u : List ℕ) (s : List (Value × ℕ)) (es : List Event) → Told r u s es
     → HasTold taken kept failed awaits (trace r.catalog.now r.limits) r.limits.item r u s
 has_told r u s es h =
-    told_there r.catalog.now r.limits u s (spot_of r) h.0 r.phase r.body.items h.1.ran taken kept failed r h.1.counted h.1.fine refl
+    let o = ran_stands r.catalog.now r.limits u s (machine_of r h.0) h.1.ran in
+    record {
+      counted = h.1.counted;
+      not_failed = h.1.fine;
+      not_refused = ap (λ (x : Run). (trace_of x).refused) h.1.ran;
+      given_so_far = λ none. ap (λ (x : Run). (trace_of x).given) h.1.ran;
+      given_with_next = tt;
+      bounded = so_far_within r.catalog.now r.limits r.start r.context (plain s) h.0 r.body.items r.phase u o.standing;
+    }

@@ -4,7 +4,7 @@ use Rattle.ion_binary.specs.Output.{framed}
 use Rattle.ion_binary.proofs.BinaryTold.{symbol_put}
 use Rattle.ion_binary.proofs.binary_out.BinaryOut.put_symbol_value.Goals as goal
 
-pub returns-in-Some : goal.returns-in-Some
-returns-in-Some g c = λ e.
+pub returns-in-Some-clause-put : goal.returns-in-Some-clause-put
+returns-in-Some-clause-put g c = λ e.
     let put : c.put_symbol.new.out.items ≡ c.self.inside.value.items ++ framed 7 (uint_octets c.in-Some.id) = search rules in
     symbol_put _ c.symbol_id.new.self c.args.self.now _ c.in-Some.id c.put_symbol.new.out.items c.self.view_is c.in-Some.ensures.named c.in-Some.ensures.id put

@@ -1,28 +1,70 @@
-use Rattle.std.proofs.Common.{rules, ◌≡◌, ◌++◌}
-use Rattle.ion_symtab.specs.laws.Took.{Front-none}
-use Rattle.ion_binary.specs.Output.{opening, adds, names_after, table_octets, value_octets}
-use Rattle.ion_binary.proofs.Fronts.{on_err, front_first, front_later}
+use Rattle.std.proofs.Common.{◌≤◌, List, ℕ, Result, Ok, Err, OnOk, OnErr, ap, subst, ◌∙◌, length, suc, MatchBool}
+use Rattle.ion_symtab.specs.Slots.{greatest_id}
+use Rattle.ion_symtab.specs.Took.{Took, TookFront}
+use Rattle.ion_binary.specs.Output.{Names, Progress}
+use Rattle.ion_binary.specs.Writing.{NeedsLargeId, Writing}
+use Rattle.ion_binary.specs.visiting.BinaryOut.{Encoded}
+use Rattle.ion_binary.proofs.BinaryTold.{end_told, names_told, value_kept}
 use Rattle.ion_binary.proofs.writer.BinaryWriter.put_next.Goals as goal
 
-pub returns-in_err-put_value-clause-front : goal.returns-in_err-put_value-clause-front
-returns-in_err-put_value-clause-front g c =
-    on_err c.from_residual.result (Front-none g.W.Outlet.took g.W.Outlet.written c.args.out.now (adds c.args.self.now.progress c.args.value.now))
+-- what is so whatever a call answers is so where it answers no fault
+on_ok : {A E P : Type 0} (r : Result A E) → P → OnOk r P
+on_ok (Ok x) p = p
+on_ok (Err e) p = tt
 
-pub returns-in_err-write_whole-clause-front : goal.returns-in_err-write_whole-clause-front
-returns-in_err-write_whole-clause-front g c =
+-- what the writer stands for, of what it holds
+abbrev progress_of : Encoded → Progress
+progress_of e = record { names = e.names; begun = e.begun }
+
+pub returns-then-needs_large_id-clause-cause : goal.returns-then-needs_large_id-clause-cause
+returns-then-needs_large_id-clause-cause g c =
     let p = c.args.self.now.progress in
-    let names = names_after p.names c.args.value.now in
-    let is : c.deref.result.now ≡ opening p.begun ++ table_octets p.names names = search rules in
-    on_err c.from_residual-in_err-write_whole.result
-    (front_first g.W.Outlet.took g.W.Outlet.written (opening p.begun) (table_octets p.names names) (value_octets names c.args.value.now) c.deref.result.now is
-    c.args.out.now c.write_whole.new.writer c.in_err-write_whole.ensures.front)
+    let is = ap (λ (w : Writing). w.progress) c.self.view_is in
+    let names = names_told p (progress_of c.self.inside.visitor) is c.args.value.now c.go_on.new.self c.tell.new.visitor c.go_on.ensures
+    (c.tell.ensures c.if-not-tell.false) in
+    let large = subst (λ b. MatchBool b (NeedsLargeId c.tell.new.visitor.names) (length c.tell.new.visitor.names ≤ suc greatest_id)) c.if-needs_large_id.true
+    c.needs_large_id.ensures in
+    subst NeedsLargeId names large
+
+pub returns-clause-in_range : goal.returns-clause-in_range
+returns-clause-in_range g c =
+    let p = c.args.self.now.progress in
+    let is = ap (λ (w : Writing). w.progress) c.self.view_is in
+    let names = names_told p (progress_of c.self.inside.visitor) is c.args.value.now c.go_on.new.self c.tell.new.visitor c.go_on.ensures
+    (c.tell.ensures c.if-not-tell.false) in
+    let few = subst (λ b. MatchBool b (NeedsLargeId c.tell.new.visitor.names) (length c.tell.new.visitor.names ≤ suc greatest_id)) c.if-needs_large_id.false
+    c.needs_large_id.ensures in
+    on_ok c.write_whole.result (subst (λ (n : Names). length n ≤ suc greatest_id) names few)
+
+pub returns-clause-kept : goal.returns-clause-kept
+returns-clause-kept g c =
+    let p = c.args.self.now.progress in
+    let is = ap (λ (w : Writing). w.progress) c.self.view_is in
+    on_ok c.write_whole.result (value_kept p (progress_of c.self.inside.visitor) is c.args.value.now c.go_on.new.self c.tell.new.visitor c.go_on.ensures
+    (c.tell.ensures c.if-not-tell.false))
+
+pub returns-clause-ok : goal.returns-clause-ok
+returns-clause-ok g c =
+    let p = c.args.self.now.progress in
+    let is = ap (λ (w : Writing). w.progress) c.self.view_is in
+    let told = end_told p (progress_of c.self.inside.visitor) is c.args.value.now c.go_on.new.self c.tell.new.visitor c.go_on.ensures
+    (c.tell.ensures c.if-not-tell.false) c.ended.new.self (c.ended.ensures c.if-not-ended.false) in
+    subst (λ (w : List ℕ). OnOk c.write_whole.result (Took g.W.Outlet.took g.W.Outlet.written c.args.out.now c.write_whole.new.writer w))
+    (c.octets.ensures ∙ ap (λ (e : Encoded). e.whole) told) c.write_whole.ensures.whole
 
 pub returns-clause-front : goal.returns-clause-front
 returns-clause-front g c =
     let p = c.args.self.now.progress in
-    let names = names_after p.names c.args.value.now in
-    let is : c.deref.result.now ≡ opening p.begun ++ table_octets p.names names = search rules in
-    let body : c.deref-2.result.now ≡ value_octets names c.args.value.now = search rules in
-    front_later g.W.Outlet.took g.W.Outlet.written (opening p.begun) (table_octets p.names names) (value_octets names c.args.value.now) c.deref.result.now is
-    c.write_whole-2.result
-    c.args.out.now c.write_whole.new.writer c.write_whole-2.new.writer c.deref-2.result.now body c.in_ok-write_whole.ensures.whole c.write_whole-2.ensures.front
+    let is = ap (λ (w : Writing). w.progress) c.self.view_is in
+    let told = end_told p (progress_of c.self.inside.visitor) is c.args.value.now c.go_on.new.self c.tell.new.visitor c.go_on.ensures
+    (c.tell.ensures c.if-not-tell.false) c.ended.new.self (c.ended.ensures c.if-not-ended.false) in
+    subst (λ (w : List ℕ). OnErr c.write_whole.result (TookFront g.W.Outlet.took g.W.Outlet.written c.args.out.now c.write_whole.new.writer w))
+    (c.octets.ensures ∙ ap (λ (e : Encoded). e.whole) told) c.write_whole.ensures.front
+
+pub returns-clause-after : goal.returns-clause-after
+returns-clause-after g c =
+    let p = c.args.self.now.progress in
+    let is = ap (λ (w : Writing). w.progress) c.self.view_is in
+    let told = end_told p (progress_of c.self.inside.visitor) is c.args.value.now c.go_on.new.self c.tell.new.visitor c.go_on.ensures
+    (c.tell.ensures c.if-not-tell.false) c.ended.new.self (c.ended.ensures c.if-not-ended.false) in
+    on_ok c.write_whole.result (λ i. record { progress = record { names = (told i).names; begun = (told i).begun }; failed = (c.self.view_is i).failed })

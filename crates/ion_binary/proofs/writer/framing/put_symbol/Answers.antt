@@ -1,5 +1,5 @@
 use Rattle.std.proofs.Common.{◌++◌, ◌∷◌, [], ap, ◌∙◌, arith}
-use Rattle.ion_binary.proofs.Shortest.{symbol_of_one}
+use Rattle.ion_binary.proofs.OneDigit.{symbol_of_one}
 use Rattle.ion_binary.proofs.writer.framing.put_symbol.Goals as goal
 
 pub returns-then-id-lt256-clause-ok : goal.returns-then-id-lt256-clause-ok

@@ -9,8 +9,8 @@ use Rattle.ion_symtab.specs.declared.limits.Limits.{Limits}
 use Rattle.ion_symtab.specs.declared.catalog.Catalog.{Catalog}
 use Rattle.ion_binary.specs.declared.form.Form.{Form}
 use Rattle.ion_binary.specs.declared.form.Form.TheVariants as forms
-use Rattle.ion_binary.specs.declared.state.Frame.{Frame}
-use Rattle.ion_binary.specs.declared.state.Frame.TheVariants as frames
+use Rattle.ion_binary.specs.machine.Frames.{Frame}
+use Rattle.ion_binary.specs.machine.Frames as frames
 use Rattle.ion_binary.specs.Opening.{is_pad, is_wrapper}
 use Rattle.ion_binary.specs.Deciding.{Decides}
 use Rattle.ion_binary.specs.machine.EachOctet.{Spot, under, Outcome, end_of, deliver, unless, or_else, misfits, stray, nameless, unending, judged}

@@ -17,8 +17,8 @@ use Rattle.ion_scalar.specs.binary.Fields.{none}
 use Rattle.ion_binary.specs.declared.form.Form.{Form}
 use Rattle.ion_binary.specs.declared.form.Form.TheVariants as forms
 use Rattle.ion_binary.specs.declared.form.Listing.{Listing}
-use Rattle.ion_binary.specs.declared.state.Frame.{Frame}
-use Rattle.ion_binary.specs.declared.state.Frame.TheVariants as frames
+use Rattle.ion_binary.specs.machine.Frames.{Frame}
+use Rattle.ion_binary.specs.machine.Frames as frames
 use Rattle.ion_binary.specs.Grammar.{Header, IsPad, listed, Plain, is_listing, is_struct, is_ordered, Binary, unannotated, wrapped, one_more, padded, Fields, one_field, padded_field, Pieces, skips, turns, holds}
 use Rattle.ion_binary.specs.Deciding.{bad_table}
 use Rattle.ion_binary.specs.machine.EachOctet.{Spot, under, levels, turned, deliver, proceed, nameless}

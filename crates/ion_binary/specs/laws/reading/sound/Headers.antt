@@ -17,7 +17,7 @@ use Rattle.ion_binary.specs.declared.form.Form.{Form}
 use Rattle.ion_binary.specs.declared.form.Form.TheVariants as forms
 use Rattle.ion_binary.specs.declared.form.Opening.{Opening}
 use Rattle.ion_binary.specs.declared.form.Opening.TheVariants.{Refused, Marker, Null, Truth, Sized}
-use Rattle.ion_binary.specs.declared.state.Frame.{Frame}
+use Rattle.ion_binary.specs.machine.Frames.{Frame}
 use Rattle.ion_binary.specs.Opening.{opening_of}
 use Rattle.ion_binary.specs.Grammar.{Header, short, IsPad, skipped, Plain, is_null, is_truth, is_scalar, nothing, no_fields}
 use Rattle.ion_binary.specs.Judge.{judge}

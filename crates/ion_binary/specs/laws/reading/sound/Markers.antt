@@ -19,7 +19,7 @@ use Rattle.ion_binary.specs.declared.form.Scalar.{Scalar}
 use Rattle.ion_binary.specs.declared.form.Scalar.TheVariants as scalars
 use Rattle.ion_binary.specs.declared.form.Opening.{Opening}
 use Rattle.ion_binary.specs.declared.form.Opening.TheVariants.{Refused, Marker, Sized}
-use Rattle.ion_binary.specs.declared.state.Frame.{Frame}
+use Rattle.ion_binary.specs.machine.Frames.{Frame}
 use Rattle.ion_binary.specs.declared.state.Mark.{Mark}
 use Rattle.ion_binary.specs.declared.state.Mark.TheVariants.{First, Second, Third, Fourth}
 use Rattle.ion_binary.specs.declared.state.Phase.TheVariants.{Ready}

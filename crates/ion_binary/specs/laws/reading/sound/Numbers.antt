@@ -8,8 +8,8 @@ use Rattle.ion_symtab.specs.declared.catalog.Catalog.{Catalog}
 use Rattle.ion_symtab.specs.Slots.{Slot, resolve}
 use Rattle.ion_scalar.specs.binary.Fields.{positional, Digits128, none, more, VarUInt, seven_bits, is_last}
 use Rattle.ion_scalar.specs.Positional.{positional_push}
-use Rattle.ion_binary.specs.declared.state.Frame.{Frame}
-use Rattle.ion_binary.specs.declared.state.Frame.TheVariants as frames
+use Rattle.ion_binary.specs.machine.Frames.{Frame}
+use Rattle.ion_binary.specs.machine.Frames as frames
 use Rattle.ion_binary.specs.declared.state.Purpose.{Purpose}
 use Rattle.ion_binary.specs.declared.state.Purpose.TheVariants as purposes
 use Rattle.ion_binary.specs.Grammar.{long, Ids, no_ids, one_id}

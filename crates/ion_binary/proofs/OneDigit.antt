@@ -1,0 +1,31 @@
+-- Numbers of one octet.
+use Rattle.std.proofs.Common.{◌≡◌, ℕ, ◌+◌, ◌-◌, ◌/◌, ◌%◌, ◌<◌, ◌≤◌, List, [], ◌∷◌, ◌++◌, length, take, get_or, append_assoc, ap, ap₂, sym, ◌∙◌, arith}
+use Rattle.std.proofs.lemmas.Int.Digits.{digits_of_step}
+use Rattle.std.specs.Int.Digits.{digits_of}
+use Rattle.ion_scalar.specs.binary.Fields.{VarUInt, none}
+use Rattle.ion_scalar.specs.binary.Spellings.{uint_octets}
+use Rattle.ion_scalar.specs.Positional.{positional_one}
+use Rattle.ion_binary.specs.Output.{framed}
+
+-- a VarUInt of one octet
+pub one_digit : (octets : List ℕ) → 0 < length octets → 128 ≤ get_or octets 0 0 → get_or octets 0 0 < 256 → VarUInt (take 1 octets) (get_or octets 0 0 - 128)
+one_digit [] some last octet = absurd (omega arith)
+one_digit (b ∷ bs) some last octet =
+    let same : b ≡ 128 + (b - 128) = omega arith in
+    record {
+      digits = [];
+      last = b - 128;
+      small = none;
+      octets = ap (λ d. d ∷ []) same;
+      value = sym (positional_one 128 (b - 128));
+      bound = omega arith;
+    }
+
+one_digit_written : (o : ℕ) → 0 < o → o < 256 → digits_of 256 o ≡ o ∷ []
+one_digit_written o some small =
+    digits_of_step 256 o (omega arith) some
+    ∙ ap₂ (λ (a b : ℕ). digits_of 256 a ++ b ∷ []) (let e : o / 256 ≡ 0 = omega arith in e) (let e : o % 256 ≡ o = omega arith in e)
+
+-- what is written of a symbol whose id is one octet
+pub symbol_of_one : (front : List ℕ) (id : ℕ) → 0 < id → id < 256 → (front ++ 0x71 ∷ []) ++ id ∷ [] ≡ front ++ framed 7 (uint_octets id)
+symbol_of_one front id some small = append_assoc front (0x71 ∷ []) (id ∷ []) ∙ ap (λ d. front ++ framed 7 d) (sym (one_digit_written id some small))

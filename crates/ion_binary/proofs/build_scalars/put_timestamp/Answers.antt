@@ -1,8 +1,0 @@
-use Rattle.std.proofs.Common.{sym, subst}
-use Rattle.ion_binary.specs.Grammar.{IsScalar}
-use Rattle.ion_binary.specs.declared.form.Scalar.TheVariants as scalars
-use Rattle.ion_binary.proofs.Slotted.{timestamp_is}
-use Rattle.ion_binary.proofs.build_scalars.put_timestamp.Goals as goal
-
-pub returns : goal.returns
-returns c = λ _ k. subst (λ p. IsScalar k c.args.body.now scalars.Timestamp p) (sym c.put.ensures) (timestamp_is k _ _ (sym c.in-Ok.ensures.value))

@@ -1,0 +1,13 @@
+use Rattle.std.proofs.Common.{◌∙◌, ap, sym}
+use Rattle.ion_scalar.specs.declared.descriptor.Size.TheVariants.{Known}
+use Rattle.ion_binary.specs.Grammar.{short, long}
+use Rattle.ion_binary.specs.declared.form.Opening.TheVariants.{Sized}
+use Rattle.ion_binary.proofs.lengths.lengths.Goals as goal
+
+pub returns-else-count-rest-clause-header : goal.returns-else-count-rest-clause-header
+returns-else-count-rest-clause-header c =
+    λ form b e. short b (e ∙ ap (λ s. Sized form s) (c.in-Known.is ∙ ap Known (sym c.from-count.ensures)))
+
+pub returns-else-count-rest-2-clause-header : goal.returns-else-count-rest-2-clause-header
+returns-else-count-rest-2-clause-header c =
+    λ form b e. long b _ (e ∙ ap (λ s. Sized form s) c.in-Follows.is) c.in_ok-count-in-Follows.ensures.is

@@ -1,7 +1,0 @@
-use Rattle.std.proofs.Common.{sym}
-use Rattle.ion_model.specs.declared.value.Payload.TheVariants as payloads
-use Rattle.ion_binary.proofs.Slotted.{decimal_is}
-use Rattle.ion_binary.proofs.telling.Telling.decimal.Goals as goal
-
-pub returns-in-Ok : goal.returns-in-Ok
-returns-in-Ok g c = λ e. (payloads.Decimal c.in-Ok.decimal, λ k. decimal_is k _ _ (sym c.in-Ok.ensures.value), c.number.ensures e)

@@ -1,5 +1,0 @@
-use Rattle.ion_binary.proofs.Transcriptions.{ok_some, clob_again}
-use Rattle.ion_binary.proofs.transcription.put_clob.Goals as goal
-
-pub returns : goal.returns
-returns c = ok_some c.put_framed.result c.ok.result c.ok.ensures.value c.put_framed.ensures.ok (λ e s names. clob_again s names _ _ _ c.are_octets.ensures e)

@@ -1,0 +1,8 @@
+use Rattle.std.proofs.Common.{arith}
+use Rattle.ion_scalar.specs.Positional.{positional_more}
+use Rattle.ion_binary.proofs.walking.unread.small_uint_of_any.Goals as goal
+
+pub loop-octet-preserved : goal.loop-octet-preserved
+loop-octet-preserved c =
+    let more = positional_more 256 c.args.body.now c.loop-octet.octet-index c.loop-octet-test.true in
+    record { so_far = omega arith }

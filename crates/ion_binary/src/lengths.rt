@@ -1,0 +1,59 @@
+//! Numbers and lengths at the front of octets that are all here.
+ghost use Rattle.std.specs.Prelude.{◌≡◌, ◌≤◌, ◌+◌, length, take, IfSome};
+ghost use Rattle.ion_scalar.specs.binary.Fields.{VarUInt};
+ghost use Rattle.ion_binary.specs.machine.Framed.{Heads};
+
+use ion_scalar::{Size, read_var_uint};
+
+/// The VarUInt at the front of these octets, and how many octets it has.
+#[inline(always)]
+pub(crate) fn number(octets: &[u8]) -> Option<(u64, usize)>
+    ensures within { IfSome result (λ read. read.1 ≤ length octets.now) }
+    ensures is { IfSome result (λ read. VarUInt (take read.1 octets.now) read.0) }
+{
+    if octets.is_empty() {
+        return None;
+    }
+    if octets[0] >= 128 {
+        return Some((u64::from(octets[0] - 128), 1));
+    }
+    long_number(octets)
+}
+
+/// The same of more than one octet.
+#[inline(never)]
+#[tactic(auto, using(ion_scalar::specs::binary::laws::VarUInt::var_uint_ok))]
+fn long_number(octets: &[u8]) -> Option<(u64, usize)>
+    ensures within { IfSome result (λ read. read.1 ≤ length octets.now) }
+    ensures is { IfSome result (λ read. VarUInt (take read.1 octets.now) read.0) }
+{
+    match read_var_uint(octets) {
+        Ok(read) => Some(read),
+        Err(_) => None,
+    }
+}
+
+/// How many octets behind a descriptor are a length, and how many there are of the body behind
+/// them.
+#[inline(always)]
+pub(crate) fn lengths(size: Size, rest: &[u8]) -> Option<(usize, usize)>
+    ensures within { IfSome result (λ sizes. sizes.0 + sizes.1 ≤ length rest.now) }
+    ensures header { IfSome result (λ sizes. Heads size sizes.1 (take sizes.0 rest.now)) }
+{
+    match size {
+        Size::Known(count) => {
+            let count = usize::from(count);
+            if count > rest.len() {
+                return None;
+            }
+            Some((0, count))
+        }
+        Size::Follows => {
+            let (count, used) = number(rest)?;
+            if count > (rest.len() - used) as u64 {
+                return None;
+            }
+            Some((used, count as usize))
+        }
+    }
+}
