@@ -1,14 +1,11 @@
 -- What a token does that is taken up where the scanner rests and a container is open.
-use Rattle.std.proofs.Common.{◌≡◌, ◌≢◌, ℕ, zero, suc, ◌+◌, ◌-◌, ◌<◌, ◌≤◌, Bool, true, false, List, [], ◌∷◌, length, take, drop, get_or, Option, Some, None, Ok, Err, refl, ap, sym, ◌∙◌, subst, arith, ◌⊎◌, inl, inr}
-use Rattle.std.specs.Prelude.{IsNone}
+use Rattle.std.proofs.Common.{◌≡◌, ◌≢◌, ℕ, zero, suc, ◌+◌, ◌-◌, ◌<◌, ◌≤◌, Bool, true, false, List, [], ◌∷◌, length, take, drop, get_or, Option, Some, None, Ok, Err, refl, ap, sym, ◌∙◌, subst, arith}
 use Rattle.ion_model.specs.declared.value.Value.{Value}
 use Rattle.ion_atoms.specs.declared.refusal.Reason.TheVariants as reasons
 use Rattle.ion_symtab.specs.declared.limits.Limits.{Limits}
 use Rattle.ion_symtab.specs.declared.catalog.Catalog.{Catalog}
 use Rattle.ion_tokens.specs.declared.mode.TokenKind.{TokenKind}
-use Rattle.ion_tokens.specs.declared.scanner.Scanner.{Scanner}
 use Rattle.ion_tokens.specs.declared.plain_tokens.Rest.{Rest}
-use Rattle.ion_tokens.specs.machine.Bounds.{IsSteady}
 use Rattle.std.specs.Prelude.{if◌then◌else◌, ◌==◌, ◌&&◌, ◌^◌, nat_lt, min, IsUtf8}
 use Rattle.std.specs.List.{list_all}
 use Rattle.std.proofs.lemmas.Bool.Decides.{nat_tests}
@@ -16,16 +13,12 @@ use Rattle.std.proofs.lemmas.Str.{is_utf8-from_IsUtf8}
 use Rattle.ion_scalar.specs.declared.number.Number.{Number}
 use Rattle.ion_scalar.specs.text.Reading.{number_read}
 use Rattle.ion_tokens.specs.declared.mode.Mark.{Mark}
-use Rattle.ion_tokens.specs.declared.mode.Mark.TheVariants as marks
 use Rattle.ion_tokens.specs.declared.mode.TokenKind.TheVariants as kinds
 use Rattle.ion_tokens.specs.Octets.{is_digit}
 use Rattle.ion_tokens.specs.Bodies.{Content, Word, Short, Long, Operator, Number', Mark', id_of, number_in}
 use Rattle.ion_tokens.specs.machine.Said.{said, spelled, word_said, number_said}
-use Rattle.ion_tokens.proofs.runs.WholeTokens.{comma_found}
-use Rattle.ion_tokens.specs.machine.Views.{scanned, looks, failure}
-use Rattle.ion_tokens.specs.machine.Rests.{resting, past_blank, past_token, lexeme_at, before_end, IsPassed, IsFound}
+use Rattle.ion_tokens.specs.machine.Rests.{resting, past_blank, past_token, lexeme_at, IsFound}
 use Rattle.ion_tokens.specs.declared.mode.Place.TheVariants as places
-use Rattle.ion_tokens.specs.machine.Scanning.{Known}
 use Rattle.ion_tokens.specs.Lexemes.{Lexeme}
 use Rattle.std.proofs.lemmas.Grind.{common_steps}
 use Rattle.ion_text.specs.declared.state.Held.{Held}
@@ -34,15 +27,12 @@ use Rattle.ion_text.specs.declared.state.Frame.TheVariants as frames
 use Rattle.ion_text.specs.declared.state.Listing.TheVariants as listings
 use Rattle.ion_text.specs.declared.state.Now.{Now}
 use Rattle.ion_text.specs.declared.state.Now.TheVariants as nows
-use Rattle.ion_text.specs.declared.reader.TextReader.{TextReader}
 use Rattle.ion_text.specs.machine.EachToken.{Setting, Spot, under, spot_at, spot_in, Reading, Turn, Symbols, goes, place, place_in, item_place, settle, turn, turn_now, begun_at, on_ready, on_after, on_comma, ended, released, paid, held_payload, named}
 use Rattle.ion_text.specs.machine.Run.{is_top, with_scan, token_of}
 use Rattle.ion_text.specs.machine.Pieces.{Quiet}
-use Rattle.ion_text.specs.machine.Views.{setting_of, spot_of, state_of, reading_of, open_frames, IsCalm, SameSetting}
 use Rattle.ion_text.specs.machine.Places.{pending_at}
-use Rattle.ion_text.specs.machine.AtOnce.{Passes, IsStill, Inside, Strides}
-use Rattle.ion_text.proofs.Passing.{NoticesNothing, inner_notices, passes_blank, passes_left, passes_given, calm_quiet}
-use Rattle.ion_text.proofs.Striding.{still_settles}
+use Rattle.ion_text.specs.machine.AtOnce.{Passes, IsStill}
+use Rattle.ion_text.proofs.Passing.{NoticesNothing, inner_notices, passes_left, passes_given}
 
 begun_inner : (start begin : ℕ) (fs : List Frame) (ss : Symbols) → is_top fs ≡ false → begun_at start begin fs ss ≡ start
 begun_inner start begin [] ss h = absurd cc
@@ -135,87 +125,6 @@ module _ (g : Catalog) (l : Limits) (r : Reading) (inner : is_top r.frames ≡ f
       → Passes g l (with_scan (resting rest) r) octets n (with_scan (resting (past_token (place r) rest kind n)) q)
   given_passes f quiet stays = given_leads f quiet stays.0 stays.1
 
--- the reader with this scanner in place of its own
-abbrev pub with_scanner : TextReader → Scanner → TextReader
-with_scanner r s = record {
-  alloc = r.alloc;
-  catalog = r.catalog;
-  limits = r.limits;
-  scanner = s;
-  beside = r.beside;
-  recent = r.recent;
-  start = r.start;
-  context =
-      r.context;
-  frames = r.frames;
-  notes = r.notes;
-  stage = r.stage;
-  given = r.given;
-  awaited = r.awaited;
-  failed = r.failed;
-}
-
--- a scanner that was moved there
-pub record Moved (s moved : Scanner) (rest : Rest) : Type 0 where
-  pub rests : scanned moved ≡ resting rest
-  pub failure : failure moved ≡ failure s
-  pub steady : IsSteady (scanned s) (looks s) → IsSteady (scanned moved) (looks moved)
-
-module _ (old new : TextReader) (moved : Scanner) (rest behind : Rest) (octets : List ℕ) (inside : Inside old octets)
-    (rests : scanned old.scanner ≡ resting rest) (move : Moved old.scanner moved behind) (setting : SameSetting (with_scanner old moved) new) where
-  here : scanned new.scanner ≡ resting behind
-  here = ap scanned setting.scanner ∙ move.rests
-
-  -- what was taken up so goes there
-  pub moved_strides : (n : ℕ) → n < length octets → behind.used ≡ rest.used + n → StaysIn old.start (reading_of new)
-      → Passes old.catalog.now old.limits (with_scan (resting rest) (reading_of old)) octets n (with_scan (resting behind) (reading_of new))
-      → Strides old new octets n
-  moved_strides n within counted stays passes = record {
-    within = within;
-    passes =
-        subst (λ s. Passes old.catalog.now old.limits (with_scan s (reading_of old)) octets n (state_of new)) (sym rests)
-        (subst (λ s. Passes old.catalog.now old.limits (with_scan (resting rest) (reading_of old)) octets n (with_scan s (reading_of new))) (sym here) passes);
-    used = ap (λ (s : Known). s.used) here ∙ (counted ∙ ap (λ (s : Known). s.used + n) (sym rests));
-    inner = stays.0;
-    start = λ _. stays.1;
-    rests = λ _. (stays.2, ap (λ (s : Known). s.mode) here);
-    fine = subst (λ s. IsNone s) (sym (ap failure setting.scanner ∙ move.failure)) inside.fine;
-    steady = λ h. subst (λ s. IsSteady (scanned s) (looks s)) (sym setting.scanner) (move.steady h);
-    same = record { catalog = setting.catalog; limits = setting.limits; awaited = setting.awaited; failed = setting.failed };
-  }
-
-  -- these octets stay within the limit on the open item
-  pub room : rest.used + length octets ≤ old.limits.item + old.start
-  room = subst (λ (s : Known). s.used + length octets ≤ old.limits.item + old.start) rests inside.fits
-
-  -- a token
-  module _ (kind : TokenKind) (kept : List ℕ) (n : ℕ) (left : Bool) (c : Content) (within : n < length octets)
-      (there : behind ≡ past_token (place (reading_of old)) rest kind n) (still : IsStill old.stage) (may : IsCalm old.stage ⊎ (before_end left n ≡ 0))
-      (found : IsFound (place (reading_of old)) rest octets kind kept n left) (says : said kind kept ≡ Ok c)
-      (turns : turn old.catalog.now old.limits (reading_of old) (token_of (lexeme_at rest kind kept n) c) ≡ goes (reading_of new))
-      (stays : StaysIn old.start (reading_of new)) where
-    quiet : (k : ℕ) → k ≤ n → IsCalm old.stage ⊎ (k ≡ 0) → Quiet old.catalog.now old.limits (reading_of old) (place (reading_of old)) (resting rest)
-        (take k octets)
-    quiet k few (inl calm) = let r = room in calm_quiet old.catalog.now old.limits (reading_of old) inside.inner calm (resting rest) refl octets k (omega arith)
-        (omega arith)
-    quiet k few (inr none) = subst (λ j. Quiet old.catalog.now old.limits (reading_of old) (place (reading_of old)) (resting rest) (take j octets)) (sym none)
-        tt
-
-    by : (b : Bool) → IsFound (place (reading_of old)) rest octets kind kept n b → IsCalm old.stage ⊎ (before_end b n ≡ 0)
-        → Passes old.catalog.now old.limits (with_scan (resting rest) (reading_of old)) octets n
-        (with_scan (resting (past_token (place (reading_of old)) rest kind n)) (reading_of new))
-    by true f m = left_passes old.catalog.now old.limits (reading_of old) inside.inner (still_settles old.catalog.now old.limits (reading_of old) still) rest
-        octets kind kept n c (reading_of new) says turns room f (quiet n (omega arith) m)
-    by false f m = given_passes old.catalog.now old.limits (reading_of old) inside.inner (still_settles old.catalog.now old.limits (reading_of old) still) rest
-        octets kind kept n c (reading_of new) says turns room f (quiet (n - 1) (omega arith) m) stays
-
-    -- a token found whole in an open container is taken up at once
-    pub token_strides : Strides old new octets n
-    token_strides =
-        moved_strides n within (ap (λ (k : Rest). k.used) there) stays
-        (subst (λ (k : Rest). Passes old.catalog.now old.limits (with_scan (resting rest) (reading_of old)) octets n (with_scan (resting k) (reading_of new)))
-        (sym there) (by left found may))
-
 -- a token of a mark says this mark
 pub mark_says : (m : Mark) → said (kinds.Mark m) [] ≡ Ok (Mark' m)
 unfolding said
@@ -279,50 +188,6 @@ blank_colon r n = by (n == 0)
     by : (b : Bool) → (if b then r else record { start = r.used + (n - 1); used = r.used + n; colon = r.colon }).colon ≡ r.colon
     by true = refl
     by false = refl
-
--- a blank
-pub blank_strides : (old : TextReader) (moved : Scanner) (rest behind : Rest) (octets : List ℕ) (n : ℕ) → Inside old octets → scanned old.scanner ≡ resting rest
-    → behind ≡ past_blank rest n → Moved old.scanner moved behind → IsStill old.stage → n < length octets → IsPassed octets n
-    → Strides old (with_scanner old moved) octets n
-blank_strides old moved rest behind octets n inside rests there move still within passed =
-    let fits = room old (with_scanner old moved) moved rest behind octets inside rests move same in
-    moved_strides old (with_scanner old moved) moved rest behind octets inside rests move same n within (ap (λ (k : Rest). k.used) there ∙ blank_used rest n)
-    (inside.inner, refl, still)
-    (subst (λ (k : Rest). Passes old.catalog.now old.limits (with_scan (resting rest) (reading_of old)) octets n (with_scan (resting k) (reading_of old)))
-    (sym there)
-    (passes_blank old.catalog.now old.limits (reading_of old) (old.limits.item + old.start) (inner_notices old.limits (reading_of old) inside.inner)
-    (resting rest) (resting (past_blank rest n)) octets n (omega arith) refl refl (passed (place (reading_of old)) rest) (omega arith)
-    (still_settles old.catalog.now old.limits (reading_of old) still)))
-  where
-    same : SameSetting (with_scanner old moved) (with_scanner old moved)
-    same = record { catalog = refl; limits = refl; scanner = refl; awaited = refl; failed = refl }
-
--- a value that is a token
-pub value_strides : (old new : TextReader) (moved : Scanner) (rest behind : Rest) (octets : List ℕ) (kind : TokenKind) (kept : List ℕ) (n : ℕ) (left : Bool)
-    (c : Content) (v : Value) → Inside old octets → scanned old.scanner ≡ resting rest → Moved old.scanner moved behind
-    → SameSetting (with_scanner old moved) new
-    → n < length octets → behind ≡ past_token (place (reading_of old)) rest kind n → old.stage ≡ nows.Ready
-    → IsFound (place (reading_of old)) rest octets kind kept n left → said kind kept ≡ Ok c
-    → on_ready (setting_of old) (spot_of old (rest.used + n)) (open_frames old) old.notes c ≡ ended (setting_of old) (spot_of old (rest.used + n))
-    (open_frames old) v
-    → ended (setting_of old) (spot_of old (rest.used + n)) (open_frames old) v ≡ goes (reading_of new) → Strides old new octets n
-value_strides old new moved rest behind octets kind kept n left c v inside rests move setting within there now found says same does =
-    token_strides old new moved rest behind octets inside rests move setting kind kept n left c within there (subst IsStill (sym now) tt)
-    (inl (subst IsCalm (sym now) tt)) found says
-    (ready_turns old.catalog.now old.limits (reading_of old) (lexeme_at rest kind kept n) c now inside.inner ∙ (same ∙ does))
-    (ended_stays (setting_of old) (spot_of old (rest.used + n)) (reading_of new) (open_frames old) v inside.inner does)
-
--- the comma behind an element or a field is taken up at once
-pub comma_strides : (old new : TextReader) (moved : Scanner) (rest behind : Rest) (octets : List ℕ) → Inside old octets → scanned old.scanner ≡ resting rest
-    → Moved old.scanner moved behind → SameSetting (with_scanner old moved) new
-    → 1 < length octets → get_or octets 0 0 ≡ 44 → behind ≡ past_token (place (reading_of old)) rest (kinds.Mark marks.Comma) 1 → old.stage ≡ nows.After
-    → on_comma old.start old.context (open_frames old) ≡ goes (reading_of new) → Strides old new octets 1
-comma_strides old new moved rest behind octets inside rests move setting within first there now does =
-    token_strides old new moved rest behind octets inside rests move setting (kinds.Mark marks.Comma) [] 1 false (Mark' marks.Comma) within there
-    (subst IsStill (sym now) tt) (inr refl)
-    (comma_found (place (reading_of old)) rest octets (omega arith) first) (mark_says marks.Comma)
-    (after_turns old.catalog.now old.limits (reading_of old) (lexeme_at rest (kinds.Mark marks.Comma) [] 1) (Mark' marks.Comma) now ∙ does)
-    (comma_stays (setting_of old) (spot_of old 0) (reading_of new) (open_frames old) does)
 
 -- where a value or a name stands
 

@@ -1,6 +1,5 @@
 -- What the end of the octets shows.
 use Rattle.std.proofs.Common.{◌≡◌, ◌≢◌, ℕ, List, Option, Some, None, Result, Ok, Err, refl, sym, ap, ◌∙◌, subst}
-use Rattle.ion_model.specs.declared.value.Value.{Value}
 use Rattle.ion_atoms.specs.declared.refusal.Reason.{Reason}
 use Rattle.ion_atoms.specs.declared.refusal.Reason.TheVariants.{Memory}
 use Rattle.ion_atoms.specs.declared.refusal.Refusal.{Refusal}
@@ -19,10 +18,6 @@ use Rattle.ion_text.specs.machine.Run.{end_settled, end_waiting, end_ready, end_
 use Rattle.ion_text.specs.machine.Progress.{DidEnd}
 use Rattle.ion_text.specs.machine.Views.{token_in}
 use Rattle.ion_text.proofs.Meetings.{said_so, token_so}
-
-end_same : (used : ℕ) (a b : Result (Option Value) Refusal) (result : Result (Option Value) Reason) → a ≡ b → DidEnd used b result → DidEnd used a result
-end_same used a b (Ok v) e d = e ∙ d
-end_same used a b (Err reason) e d = λ other. e ∙ d other
 
 module _ (g : Catalog) (l : Limits) (used : ℕ) where
   -- where the end ends no token, it settles what waited
@@ -61,22 +56,6 @@ module _ (g : Catalog) (l : Limits) (used : ℕ) where
       → end_waiting g l used x t ≡ end_waiting g l used (Err e) t
   refused_opens x t e r h other = opens x t e (λ i. subst (λ (y : Result (Option Lexeme) Reason). Ends used y (Err r)) i h other)
 
-  pub waiting_none : (x : Result (Option Lexeme) Reason) (t : Turn) (result : Result (Option Value) Reason) → Ends used x (Ok None)
-      → DidEnd used (end_settled used t) result → DidEnd used (end_waiting g l used x t) result
-  waiting_none x t result h d = end_same used (end_waiting g l used x t) (end_settled used t) result (none_settles x t h) d
-
-  -- where a token ends with the octets, what waited answers as where one is refused there
-  pub waiting_token : (x : Result (Option Lexeme) Reason) (t : Turn) (found : Found) (result : Result (Option Value) Reason) → Ends used x (Ok (Some found))
-      → ((e : Reason) → DidEnd used (end_waiting g l used (Err e) t) result) → DidEnd used (end_waiting g l used x t) result
-  waiting_token x t found result h d =
-      end_same used (end_waiting g l used x t) (end_waiting g l used (Err Memory) t) result (token_opens x t Memory found h) (d Memory)
-
-  -- where the scanner refuses at the end, what waited answers the same for whatever reason
-  pub waiting_refused : (x : Result (Option Lexeme) Reason) (t : Turn) (r : Refusal) (result : Result (Option Value) Reason) → Ends used x (Err r)
-      → r.reason ≢ Memory → ((e : Reason) → DidEnd used (end_waiting g l used (Err e) t) result) → DidEnd used (end_waiting g l used x t) result
-  waiting_refused x t r result h other d =
-      end_same used (end_waiting g l used x t) (end_waiting g l used (Err Memory) t) result (refused_opens x t Memory r h other) (d Memory)
-
   module _ (r : Reading) where
     -- where nothing waits, what the scanner refuses at the end is refused
     pub ready_refused : (x : Result (Option Lexeme) Reason) (refusal : Refusal) → Ends used x (Err refusal)
@@ -94,20 +73,11 @@ module _ (g : Catalog) (l : Limits) (used : ℕ) where
         ap (end_said g l used r x) (said_so x found h) ∙ ap (λ t. end_turned g l used (turn g l r t)) (token_so x found h)
     token_turns (Err e) found h = absurd h
 
-    pub ready_token : (x : Result (Option Lexeme) Reason) (found : Found) (result : Result (Option Value) Reason) → Ends used x (Ok (Some found))
-        → DidEnd used (end_turned g l used (turn g l r (token_in found))) result → DidEnd used (end_ready g l used r x) result
-    ready_token x found result h d =
-        end_same used (end_ready g l used r x) (end_turned g l used (turn g l r (token_in found))) result (token_turns x found h) d
-
   -- where the token that the end ends goes on, what waits then is settled by the end
   pub goes_settles : (t : Turn) (r : Reading) (h : Catalog) (k : Limits) → t ≡ goes r → h ≡ g → k ≡ l
       → end_turned g l used t ≡ end_settled used (settle h k r)
   goes_settles t r h k e i j =
       ap (end_turned g l used) e ∙ (ap (λ x. end_settled used (settle x l r)) (sym i) ∙ ap (λ x. end_settled used (settle h x r)) (sym j))
-
-  pub turned_goes : (t : Turn) (r : Reading) (h : Catalog) (k : Limits) (result : Result (Option Value) Reason) → t ≡ goes r → h ≡ g → k ≡ l
-      → DidEnd used (end_settled used (settle h k r)) result → DidEnd used (end_turned g l used t) result
-  turned_goes t r h k result e i j d = end_same used (end_turned g l used t) (end_settled used (settle h k r)) result (goes_settles t r h k e i j) d
 
   -- where nothing waits
   pub now_ready : (r : Reading) (x : Result (Option Lexeme) Reason) (n : Now) → ((h : Held) (end : ℕ) → n ≡ nows.Pending h end → ⊥)

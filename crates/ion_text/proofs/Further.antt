@@ -1,24 +1,18 @@
 -- What is so behind a step.
-use Rattle.std.proofs.Common.{◌≡◌, ℕ, zero, suc, ◌+◌, ◌<◌, ◌≤◌, Bool, true, false, List, [], ◌∷◌, ◌++◌, length, take, drop, Option, Some, None, Result, Ok, Err, IfOk, IfErr, refl, ap, sym, subst, ◌∙◌, arith, length-append, append-nil, append_assoc}
+use Rattle.std.proofs.Common.{◌≡◌, ℕ, zero, suc, ◌+◌, ◌<◌, ◌≤◌, true, List, [], ◌∷◌, ◌++◌, length, take, drop, Option, Some, None, Result, Ok, Err, refl, ap, sym, ◌∙◌, arith, length-append, append-nil, append_assoc}
 use Rattle.std.specs.Option.{is_some}
-use Rattle.std.specs.Prelude.{◌≢◌, IsNone}
 use Rattle.std.proofs.lemmas.Grind.{common_steps}
 use Rattle.std.proofs.lemmas.List.{length-take-le, take-append-drop}
 use Rattle.ion_model.specs.declared.value.Value.{Value}
 use Rattle.ion_atoms.specs.declared.refusal.Refusal.{Refusal}
-use Rattle.ion_atoms.specs.declared.refusal.Reason.{Reason}
-use Rattle.ion_atoms.specs.declared.refusal.Reason.TheVariants as reasons
-use Rattle.ion_atoms.specs.declared.refusal.Reason.TheVariants.{Memory}
 use Rattle.ion_symtab.specs.Trace.{Answers, IsFront, given_at}
 use Rattle.ion_symtab.specs.declared.items.Step.{Step}
 use Rattle.ion_symtab.specs.declared.limits.Limits.{Limits}
 use Rattle.ion_symtab.specs.declared.catalog.Catalog.{Catalog}
-use Rattle.ion_text.specs.declared.reader.TextReader.{TextReader}
-use Rattle.ion_text.specs.machine.Run.{State, Effect, uses, tells, leaves, fails, Run, run, run_on, once_more, eats, begun, trace, trace_of}
+use Rattle.ion_text.specs.machine.Run.{State, Run, run, run_on, once_more, eats, begun, trace, trace_of}
 use Rattle.ion_text.specs.machine.Pieces.{led, then_run, run-append, grows}
-use Rattle.ion_text.specs.machine.Views.{state_of, IsFine}
 use Rattle.ion_text.specs.laws.reading.Stands.{behind, further}
-use Rattle.ion_text.specs.machine.Progress.{resumed, BeginsWith, StopsBefore, Advances, Ran, Stands, SameSettings, StaysSteady, failed, octets_used}
+use Rattle.ion_text.specs.machine.Progress.{resumed, BeginsWith, StopsBefore, Advances, Ran}
 
 module _ (g : Catalog) (l : Limits) where
   begins_take : (awaited : Option ℕ) (piece : List ℕ) (used : ℕ) → BeginsWith awaited piece → (is_some awaited ≡ true → 0 < used)
@@ -101,90 +95,4 @@ module _ (g : Catalog) (l : Limits) where
       ran = led_there used h.1.onward h.1.before h.1.ran;
       left = h.1.left;
       all = ap (λ k. s ++ (v, k) ∷ []) (sym (size used h.0));
-    }
-
--- a refusal at one of these octets, of which there are n behind the next one
-abbrev RefusedWithin : ℕ → ℕ → Refusal → Type 0
-RefusedWithin to n r = (to < r.offset) × (r.offset ≤ to + 1 + n)
-
-abbrev refused_at : ℕ → Reason → Result State Refusal
-refused_at to y = Err (record { offset = to + 1; reason = y })
-
-refused_here : (to n : ℕ) (y : Reason) (r : Refusal) → refused_at to y ≡ Err r → RefusedWithin to n r
-refused_here to n y r e =
-    let same : record { offset = to + 1; reason = y } ≡ r = cc in
-    let k = ap (λ (q : Refusal). q.offset) same in
-    (omega (arith, k), omega (arith, k))
-
-module _ (to n : ℕ) (rest : State → Run) (r : Refusal) (later : (m : State) → (rest m).now ≡ Err r → (to + 1 < r.offset) × (r.offset ≤ to + 1 + n)) where
-  further_on : (m : State) → (rest m).now ≡ Err r → RefusedWithin to n r
-  further_on m e = let k = later m e in (omega (arith, k.0), k.1)
-
-  more_within : (x : Effect) → (once_more to rest x).now ≡ Err r → RefusedWithin to n r
-  more_within (uses m) e = further_on m e
-  more_within (tells v m) e = further_on m e
-  more_within (leaves v m) e = refused_here to n reasons.Unexpected r e
-  more_within (fails y) e = refused_here to n y r e
-
-  on_within : (again : State → Effect) (x : Effect) → (run_on to again rest x).now ≡ Err r → RefusedWithin to n r
-  on_within again (uses m) e = further_on m e
-  on_within again (tells v m) e = further_on m e
-  on_within again (leaves v m) e = more_within (again m) e
-  on_within again (fails y) e = refused_here to n y r e
-
--- a run is refused at one of its octets
-module _ (g : Catalog) (l : Limits) (r : Refusal) where
-  run_within : (os : List ℕ) (to : ℕ) (m : State) → (run g l to m os).now ≡ Err r → (to < r.offset) × (r.offset ≤ to + length os)
-  run_within [] to m e = absurd cc
-  run_within (o ∷ os) to m e =
-      let k = on_within to (length os) (λ n. run g l (to + 1) n os) r (λ n e. run_within os (to + 1) n e) (λ n. eats g l n o) (eats g l m o) e in
-      (k.0, omega (arith, k.1))
-
-  resumed_within : (again : Bool) (to : ℕ) (m : State) (os : List ℕ) → (resumed g l again to m os).now ≡ Err r → (to < r.offset) × (r.offset ≤ to + length os)
-  resumed_within false to m os e = run_within os to m e
-  resumed_within true to m [] e = run_within [] to m e
-  resumed_within true to m (o ∷ os) e =
-      let k = more_within to (length os) (λ n. run g l (to + 1) n os) r (λ n e. run_within os (to + 1) n e) (eats g l m o) e in
-      (k.0, omega (arith, k.1))
-
--- a step is refused at an octet of its piece
-pub step_within : (old : TextReader) (now : State) (next : Option ℕ) (piece : List ℕ) (result : Result Step Refusal)
-    → Advances old.catalog.now old.limits (is_some old.awaited) (octets_used old) (state_of old) piece result next now
-    → IfErr result (λ refusal. refusal.reason ≢ Memory → IsNone (failed old) → (octets_used old < refusal.offset)
-    × (refusal.offset ≤ octets_used old + length piece))
-step_within old now next piece (Ok step) advances = tt
-step_within old now next piece (Err refusal) advances =
-    λ other none. resumed_within old.catalog.now old.limits refusal (is_some old.awaited) (octets_used old) (state_of old) piece
-    (ap (λ (x : Run). x.now) (advances other))
-
--- a step of a reader that stands for u answers what the trace says
-pub step_answers : (old : TextReader) (now : State) (next : Option ℕ) (u : List ℕ) (s : List (Value × ℕ)) (piece : List ℕ) (result : Result Step Refusal)
-    → Stands old u s → BeginsWith old.awaited piece
-    → Advances old.catalog.now old.limits (is_some old.awaited) (octets_used old) (state_of old) piece result next now
-    → Answers (trace old.catalog.now old.limits) u s piece result
-step_answers old now next u s piece result h begins advances =
-    answers old.catalog.now old.limits (octets_used old) u s (state_of old) now old.awaited piece h.counted h.ran begins result next advances
-
--- the reader stands for the octets that a step used, too
-pub step_stands : (old new : TextReader) (piece : List ℕ) (result : Result Step Refusal) → BeginsWith old.awaited piece
-    → Advances old.catalog.now old.limits (is_some old.awaited) (octets_used old) (state_of old) piece result new.awaited (state_of new)
-    → IfOk result (λ step. octets_used new ≡ octets_used old + step.used) → IfOk result (λ _. IsFine new) → IfOk result (λ _. StaysSteady old new)
-    → SameSettings old new
-    → IfOk result (λ step. (u : List ℕ) (s : List (Value × ℕ)) → Stands old u s
-    → Stands new (u ++ take step.used piece) (s ++ given_at step.value (length u + step.used)))
-step_stands old new piece (Err refusal) begins advances counts fine steady same = tt
-step_stands old new piece (Ok step) begins advances counts fine steady same = λ u s h.
-    let before = h.counted in
-    record {
-      fine = same.failed ∙ h.fine;
-      scanner_fine = fine;
-      counted = omega (arith, length-append u (take step.used piece), length-take-le step.used piece advances.0);
-      steady = steady h.steady;
-      ran =
-          let values = s ++ given_at step.value (length u + step.used) in
-          let octets = u ++ take step.used piece in
-          subst (λ (g : Catalog). Ran g new.limits octets values (state_of new) new.awaited) (ap (λ (b : _). b.now) (sym same.catalog))
-          (subst (λ (l : Limits). Ran old.catalog.now l octets values (state_of new) new.awaited) (sym same.limits)
-          (ran_further old.catalog.now old.limits (octets_used old) u s (state_of old) (state_of new) old.awaited piece h.counted h.ran begins step.used
-          step.value new.awaited advances));
     }

@@ -1,11 +1,13 @@
 -- Tokens that a reader without values takes up at once, and that end a value of the top level.
-use Rattle.std.proofs.Common.{◌≡◌, ℕ, ◌+◌, ◌-◌, ◌<◌, ◌≤◌, Bool, true, false, List, [], ◌∷◌, length, take, drop, get_or, Some, Ok, Err, refl, ap, sym, ◌∙◌, subst, arith, length-drop, get_or-drop, inl, inr}
-use Rattle.std.specs.Prelude.{◌||◌, if◌then◌else◌}
+use Rattle.std.proofs.Common.{◌≡◌, ℕ, ◌+◌, ◌-◌, ◌<◌, ◌≤◌, Bool, true, false, List, [], ◌∷◌, length, take, drop, get_or, Result, Some, Ok, Err, refl, ap, sym, ◌∙◌, subst, arith, length-drop, get_or-drop, inl, inr}
+use Rattle.std.specs.Prelude.{◌&&◌, ◌||◌, if◌then◌else◌}
 use Rattle.std.proofs.lemmas.Grind.{common_steps}
 use Rattle.std.proofs.lemmas.List.{length-take-le}
 use Rattle.ion_atoms.specs.declared.refusal.Reason.{Reason}
-use Rattle.ion_atoms.specs.declared.refusal.Reason.TheVariants.{Memory}
 use Rattle.ion_model.specs.declared.value.Payload.{Payload}
+use Rattle.ion_model.specs.declared.value.Payload.TheVariants as payloads
+use Rattle.ion_model.specs.declared.value.Payload.TheViews as views
+use Rattle.ion_model.specs.Kinds.{is_fields, is_table, layer_kind, names_table}
 use Rattle.ion_model.specs.Measures.{annotated}
 use Rattle.ion_symtab.specs.declared.limits.Limits.{Limits}
 use Rattle.ion_symtab.specs.declared.catalog.Catalog.{Catalog}
@@ -23,16 +25,18 @@ use Rattle.ion_tokens.specs.machine.Views.{scanned}
 use Rattle.ion_tokens.specs.declared.scanner.Scanner.{Scanner}
 use Rattle.ion_visiting.specs.declared.bracket.Bracket.{Bracket}
 use Rattle.ion_visiting.specs.Events.{Event, events_of}
-use Rattle.ion_text.specs.declared.reader.finders.Scalar.{Scalar}
+use Rattle.ion_text.specs.declared.tokens.finders.Scalar.{Scalar}
 use Rattle.ion_text.specs.declared.state.Frame.{Frame}
 use Rattle.ion_text.specs.declared.state.Held.{Held}
 use Rattle.ion_text.specs.declared.state.Held.TheVariants as helds
+use Rattle.ion_text.specs.declared.state.Now.{Now}
 use Rattle.ion_text.specs.declared.state.Now.TheVariants as nows
 use Rattle.ion_text.specs.declared.state.Effect.TheVariants.{Gives}
 use Rattle.ion_text.specs.declared.state.Taken.{Taken}
 use Rattle.ion_text.specs.declared.state.Taken.TheVariants as taken
 use Rattle.ion_text.specs.declared.walk.TextWalk.{TextWalk}
 use Rattle.ion_text.specs.machine.EachToken.{Setting, Spot, under, spot_at, Reading, Symbols, Turn, at, begun_at, closed, ended, gives, goes, held_payload, paid, place, released, settle, turn, turn_now, token_at}
+use Rattle.ion_text.specs.machine.LongStrings.{LongThere}
 use Rattle.ion_text.specs.machine.FrontTokens.{ends_symbol, held_of, is_marker, BeginsValue, EndsAtOnce, IsValue, Pays}
 use Rattle.ion_text.specs.visiting.Walks.{FoundSymbol}
 use Rattle.ion_text.specs.machine.Nested.{close_mark, close_octet, closes}
@@ -40,16 +44,17 @@ use Rattle.ion_text.specs.machine.AtOnce.{Passes, IsStill}
 use Rattle.ion_text.specs.machine.Pieces.{drive, go_on, led, Quiet}
 use Rattle.ion_text.specs.machine.Run.{State, Effect, eats, is_top, leaves, on_said, on_scan, on_settled, behind_left, run, takes as takes_up, token_of, unsettled, with_scan}
 use Rattle.ion_text.specs.walk.Holds.{Does, Holds, SameSetting, reading_of, state_of, told}
-use Rattle.ion_text.specs.walk.Strides.{Ahead, Ended, EndsBy, EndsSo, Strode, TookSo, resting_at}
+use Rattle.ion_text.specs.walk.Strides.{Ahead, Ended, EndsBy, EndsSo, Strode, StridesBy, TookSo, resting_at}
 use Rattle.ion_visiting.specs.Tables.{heard}
-use Rattle.ion_text.proofs.Strides.{front_same, settings_none, strides_there, strode_none, strode_on, take_short, with_moved}
+use Rattle.ion_text.proofs.Strides.{front_same, settings_none, settings_on, strides_there, strode_none, strode_on, take_short, with_moved}
 use Rattle.ion_visiting.specs.laws.Filters.{hears_both}
 use Rattle.ion_text.proofs.Arms.{blank_used, given_found, left_found, mark_says}
 use Rattle.ion_text.proofs.Nested.{close_found, closing}
 use Rattle.ion_text.proofs.Passing.{NoticesNothing, blank_quiet, blank_waits}
 use Rattle.ion_text.proofs.Striding.{still_settles}
 use Rattle.ion_text.proofs.Symbols.{ends_waits, held_in, waits_so}
-use Rattle.ion_text.proofs.Tops.{passes_then, token_gives, top_quiet, waits_notices}
+use Rattle.ion_text.proofs.LongStrings.{long_unsettled}
+use Rattle.ion_text.proofs.Tops.{passes_then, token_gives, top_ended, top_quiet, waits_notices}
 
 -- what holds where no container is open
 pub top_only : (P : List Frame → Type 0) (fs : List Frame) → is_top fs ≡ true → P [] → P fs
@@ -65,6 +70,14 @@ released_top setting spot [] (helds.Null k) e = refl
 released_top setting spot [] (helds.Truth b) e = refl
 released_top setting spot [] helds.Nan e = refl
 released_top setting spot (x ∷ ss) h e = refl
+
+-- a text is no local symbol table
+text_free : (ss : Symbols) (w : List ℕ) → is_table (annotated ss (payloads.Str w)) ≡ false
+text_free [] w = refl
+text_free (s ∷ ss) w = ap (λ k. names_table s && is_fields (layer_kind k)) (views.outs-Str w) ∙ neither (names_table s) where
+  neither : (b : Bool) → (b && false) ≡ false
+  neither true = refl
+  neither false = refl
 
 module _ {V : Type 0} (leads : V → Event → V → Type 0) (old new : TextWalk) (rest : Rest) (octets : List ℕ) (a b : V) (fs : List Frame) (ss : Symbols)
     (h : Ahead old fs ss rest (length octets)) where
@@ -234,6 +247,36 @@ module _ {V : Type 0} (leads : V → Event → V → Type 0) (old new : TextWalk
           does.2,
         )
 
+  -- a long string and the blank behind it, where the octet behind them shows that no segment follows
+  pub long_leaves : (count : ℕ) (after : Rest) (text : List ℕ) → LongThere places.Top rest octets count after text
+      → Does leads (told [] ss) (ended (under g' l') (spot_at after.used begun old.context) [] (annotated ss (payloads.Str text))) (Ok Gives) new a b
+      → EndsSo leads [] ss old new rest after octets count a b taken.Leaves
+  long_leaves count after text x does =
+      let fits = h.fits in
+      let more = x.more in
+      let used = x.segments.used in
+      let s = x.segments.leads g' l' old.start old.context ss [] refl fits in
+      let early = s.1 in
+      let v = annotated ss (payloads.Str text) in
+      let free = text_free ss text in
+      let waiting = at begun old.context [] ss (nows.Long text s.0) in
+      let o = get_or octets count 0 in
+      let known = feed (place waiting) (resting after) o in
+      let again : State → Effect = λ m. takes_up g' l' 2 m o in
+      let settles : settle g' l' waiting ≡ gives does.0 (reading_of new [] []) =
+      top_ended g' l' s.0 begun old.context v free (omega arith)
+      ∙ (sym (top_ended g' l' after.used begun old.context v free (omega arith)) ∙ does.1) in (
+        x.segments.some,
+        does.0,
+        with_scan (resting after) waiting,
+        subst (λ (k : Now). run g' l' rest.used (with_scan (resting rest) (at old.start old.context [] ss k)) (take count octets)
+            ≡ led (with_scan (resting after) waiting)) (sym now) s.2,
+        ap (λ b. if b then on_scan g' l' again waiting known else on_settled g' l' again (resting after) known (settle g' l' waiting))
+            (long_unsettled g' l' waiting text s.0 refl after o x.ends)
+            ∙ ap (on_settled g' l' again (resting after) known) settles,
+        does.2,
+      )
+
 -- what each token answers, from what its method does
 module _ {V : Type 0} (leads : V → Event → V → Type 0) where
   pub ends_none : (r : TextWalk) (rest : Rest) (octets : List ℕ) (a : V) → EndsBy leads r r rest rest octets (Ok (0, taken.Uses)) a a
@@ -241,15 +284,23 @@ module _ {V : Type 0} (leads : V → Event → V → Type 0) where
       let x = strode_none leads r rest octets a in
       record { ended = record { leads = x.leads; within = x.within; used = x.used }; memory = tt; same = settings_none r }
 
-  pub ends_err : (old new : TextWalk) (before after : Rest) (octets : List ℕ) (reason : Reason) (a b : V) → reason ≡ Memory → SameSetting old new
-      → EndsBy leads old new before after octets (Err reason) a b
-  ends_err old new before after octets reason a b memory same = record { ended = tt; memory = memory; same = same }
-
   pub ends_so : (old new : TextWalk) (before after : Rest) (octets : List ℕ) (count : ℕ) (t : Taken) (a b : V)
       → ((fs : List Frame) (ss : Symbols) → Ahead old fs ss before (length octets) → EndsSo leads fs ss old new before after octets count a b t)
       → count < length octets → after.used ≡ before.used + count → SameSetting old new → EndsBy leads old new before after octets (Ok (count, t)) a b
   ends_so old new before after octets count t a b h within used same =
       record { ended = record { leads = h; within = omega arith; used = used }; memory = tt; same = same }
+
+  -- what goes on ends no value
+  pub strides_ends : (old new : TextWalk) (before after : Rest) (octets : List ℕ) (count : ℕ) (a b : V)
+      → StridesBy leads old new before after octets (Ok count) a b → EndsBy leads old new before after octets (Ok (count, taken.Uses)) a b
+  strides_ends old new before after octets count a b x =
+      record { ended = record { leads = x.strode.leads; within = x.strode.within; used = x.strode.used }; memory = tt; same = x.same }
+
+  pub ends_strode : (old new : TextWalk) (before after : Rest) (octets : List ℕ) (count : ℕ) (t : Taken) (a b : V) → t ≡ taken.Uses
+      → EndsBy leads old new before after octets (Ok (count, t)) a b → Strode leads old new before after octets count a b
+  ends_strode old new before after octets count t a b is x =
+      let y = subst (λ t. Ended leads old new before after octets (count, t) a b) is x.ended in
+      record { leads = y.leads; within = y.within; used = y.used }
 
   module _ (old new : TextWalk) (rest : Rest) (octets : List ℕ) (a b : V) (same : SameSetting old new) where
     abbrev g'' : Catalog
@@ -316,6 +367,16 @@ module _ {V : Type 0} (leads : V → Event → V → Type 0) where
         → EndsSo leads fs ss old new rest after octets (s.token.count + m) a b taken.Leaves) fs (top fs ss h.holds)
         (λ h. word_leaves leads old new rest octets a b ss h now s.token.kind f.part.token.kept s.token.count m s.token.left content payload some
         more f.part.token.found f.part.token.says passed ends pays f.free (does [] ss h.holds)) h) more (omega arith) same
+
+    pub long_ends_answer : (count : ℕ) (after : Rest) (text : List ℕ) → old.stage ≡ nows.Ready → IsTop → LongThere places.Top rest octets count after text
+        → ((fs : List Frame) (ss : Symbols) → Holds old fs ss
+        → Does leads (told fs ss) (ended (under g'' l'') (spot_at after.used (begun_at old.start rest.used fs ss) old.context) fs
+        (annotated ss (payloads.Str text))) (Ok Gives) new a b)
+        → EndsBy leads old new rest after octets (Ok (count, taken.Leaves)) a b
+    long_ends_answer count after text now top x does =
+        ends_so old new rest after octets count taken.Leaves a b
+        (λ fs ss h. top_only (λ fs. Ahead old fs ss rest (length octets) → EndsSo leads fs ss old new rest after octets count a b taken.Leaves) fs
+        (top fs ss h.holds) (λ h. long_leaves leads old new rest octets a b ss h now count after text x (does [] ss h.holds)) h) x.more x.segments.used same
 
   -- behind octets that give nothing
   module _ (old mid new : TextWalk) (r s t : Rest) (octets behind : List ℕ) (i j : ℕ) (a m b : V) (is : behind ≡ drop i octets) (same : SameSetting old mid)
@@ -395,6 +456,21 @@ module _ {V : Type 0} (leads : V → Event → V → Type 0) where
           within = omega arith;
           used = omega arith;
         }
+
+module _ {V : Type 0} (leads : V → Event → V → Type 0) (old mid new : TextWalk) (r s t : Rest) where
+  -- the same of what is answered
+  pub ends_on : (octets behind : List ℕ) (i j : ℕ) (a m b : V) → behind ≡ drop i octets → SameSetting old mid → Strode leads old mid r s octets i a m
+      → (e : Taken) → EndsBy leads mid new s t behind (Ok (j, e)) m b → EndsBy leads old new r t octets (Ok (i + j, e)) a b
+  ends_on octets behind i j a m b is same x e y =
+      record { ended = ended_on leads old mid new r s t octets behind i j a m b is same x e y.ended; memory = tt; same = settings_on old mid new same y.same }
+
+  -- behind no octets
+  pub ends_there : (octets : List ℕ) (a m b : V) → StridesBy leads old mid r s octets (Ok 0) a m → (x : Result (ℕ × Taken) Reason)
+      → EndsBy leads mid new s t octets x m b → EndsBy leads old new r t octets x a b
+  ends_there octets a m b went (Ok e) y =
+      let none : 0 + e.0 ≡ e.0 = omega arith in
+      subst (λ n. EndsBy leads old new r t octets (Ok (n, e.1)) a b) none (ends_on octets octets 0 e.0 a m b refl went.same went.strode e.1 y)
+  ends_there octets a m b went (Err e) y = record { ended = tt; memory = y.memory; same = settings_on old mid new went.same y.same }
 
 get_there : (j k : ℕ) (w : List ℕ) → j < k → get_or (take k w) j 0 ≡ get_or w j 0
 get_there j k w h = grind (arith, common_steps)

@@ -1,5 +1,5 @@
 -- Long strings of segments that lie whole in a piece.
-use Rattle.std.proofs.Common.{◌≡◌, ℕ, ◌+◌, ◌-◌, ◌<◌, ◌≤◌, Bool, true, false, List, [], ◌∷◌, ◌++◌, length, take, drop, get_or, Ok, refl, ap, sym, ◌∙◌, subst, arith, length-drop, ◌⊎◌, inl, inr, min}
+use Rattle.std.proofs.Common.{◌≡◌, ℕ, ◌+◌, ◌-◌, ◌<◌, ◌≤◌, Bool, true, false, List, [], ◌∷◌, ◌++◌, length, take, drop, get_or, Ok, refl, ap, sym, ◌∙◌, subst, arith, length-drop, ◌⊎◌, inl, inr}
 use Rattle.std.specs.Prelude.{◌&&◌, ◌||◌, not, if◌then◌else◌, ◌==◌, cond}
 use Rattle.std.proofs.lemmas.Bool.Decides.{nat_tests}
 use Rattle.std.proofs.lemmas.List.{length-take-le}
@@ -17,14 +17,12 @@ use Rattle.ion_text.specs.machine.EachToken.{Reading, Symbols, goes, place, sett
 use Rattle.ion_text.specs.machine.Run.{State, Effect, uses, is_top, noticed, waits, waits_now, in_segment, unsettled, with_scan, eats, takes, on_scan, on_said, on_settled, behind_given, token_of}
 use Rattle.ion_text.specs.machine.Pieces.{followed, Quiet, Stays, Waiting, drive, go_on}
 use Rattle.ion_text.specs.laws.reading.complete.Meets.{follows_as}
-use Rattle.ion_text.specs.machine.Views.{lulls, ended_so_far, setting_of, spot_of, reading_of, open_frames, SameSetting}
-use Rattle.ion_text.specs.machine.AtOnce.{LeadsTo, Passes, Strides, TokenAhead}
+use Rattle.ion_text.specs.machine.Views.{lulls, ended_so_far}
+use Rattle.ion_text.specs.machine.AtOnce.{LeadsTo, Passes}
 use Rattle.ion_model.specs.declared.value.Value.{Value}
-use Rattle.ion_tokens.specs.declared.scanner.Scanner.{Scanner}
 use Rattle.ion_tokens.specs.declared.plain_tokens.Rest.{Rest}
 use Rattle.ion_tokens.specs.Octets.{is_digit, is_white, begins_word, is_operator_octet}
 use Rattle.ion_tokens.specs.machine.Rests.{resting, past_blank, past_token, lexeme_at, IsFound}
-use Rattle.ion_text.specs.declared.reader.TextReader.{TextReader}
 use Rattle.ion_text.proofs.Lulls.{lull_noticed}
 use Rattle.ion_text.proofs.Passing.{calm_quiet, leads_on, leads_one, passes_none, passes_on, passes_same, passes_led}
 use Rattle.ion_text.proofs.Striding.{still_settles}
@@ -32,15 +30,13 @@ use Rattle.ion_text.proofs.Tops.{top_quiet}
 use Rattle.ion_model.specs.Measures.{annotated}
 use Rattle.ion_symtab.specs.Slots.{Slot}
 use Rattle.ion_tokens.specs.Places.{is_name, is_sexp}
-use Rattle.ion_text.specs.declared.reader.walks.Tally.{Tally}
 use Rattle.ion_text.specs.machine.FrontTokens.{ends_symbol}
-use Rattle.ion_text.specs.machine.Walked.{rested, LeadsBehind, Walked}
-use Rattle.ion_text.proofs.Arms.{ended_stays, at_drop, blank_used, Moved, with_scanner, ended_place, moved_strides, room}
+use Rattle.ion_text.specs.machine.Walked.{rested}
+use Rattle.ion_text.proofs.Arms.{ended_stays, at_drop, blank_used, ended_place}
 use Rattle.ion_tokens.specs.declared.mode.Mode.{Mode}
 use Rattle.ion_tokens.specs.declared.mode.Action.{Action}
 use Rattle.ion_tokens.specs.machine.Table.{begins_value, in_blank}
 use Rattle.ion_text.specs.machine.LongStrings.{ends_long, PassedSegment, LongSoFar, LongThere}
-use Rattle.ion_text.proofs.Walks.{flat_text}
 use Rattle.ion_tokens.specs.machine.Scanning as scanning
 use Rattle.ion_text.specs.declared.state.Now.TheVariants as nows
 use Rattle.ion_tokens.specs.declared.mode.TokenKind.TheVariants as kinds
@@ -473,49 +469,3 @@ more_segments p before mid after octets behind i j old new is s x =
       within = omega arith;
       used = omega arith;
     }
-
--- a long string leads behind its value
-pub long_leads : (p : Place) (level : ℕ) (before : Rest) (octets : List ℕ) (count : ℕ) (after : Rest) (text : List ℕ)
-    → LongThere p before octets count after text → LeadsBehind p level before octets count after (payloads.Str text)
-long_leads p level before octets count after text x = λ g l start c ss fs those n inner here deep room puts.
-    settled_on g l start c ss fs p before octets count after text x inner here room 0 (at start c those [] n) (puts (under g l) (spot_at 0 start c))
-
--- with what is noted
-pub walked_long : (p : Place) (level : ℕ) (octets : List ℕ) (count : ℕ) (before after : Tally) (rest : Rest) (text : List ℕ) → before.level ≤ level
-    → LongThere p before.rest octets count rest text
-    → after ≡ record { level = before.level; rest = rest }
-    → (w : Walked p level octets count before after) × (w.payload ≡ payloads.Str text)
-walked_long p level octets count before after rest text low x e =
-    let flat = flat_text text in
-    let deep = flat.deep in
-    let more = x.more in
-    rw e (
-      record {
-        payload = payloads.Str text;
-        leads = long_leads p level before.rest octets count rest text x;
-        within = omega arith;
-        used = x.segments.used;
-        deep = omega arith;
-        left = omega arith;
-      },
-      refl,
-    )
-
--- a long string is taken up at once
-pub long_strides : (old new : TextReader) (moved : Scanner) (rest behind : Rest) (octets : List ℕ) (count end : ℕ) (text : List ℕ)
-    → TokenAhead nows.Ready old rest octets → Moved old.scanner moved behind → SameSetting (with_scanner old moved) new
-    → LongThere (place (reading_of old)) rest octets count behind text
-    → ended (setting_of old) (spot_of old end) (open_frames old) (annotated old.notes (payloads.Str text)) ≡ goes (reading_of new)
-    → Strides old new octets count
-long_strides old new moved rest behind octets count end text ahead move setting x does =
-    let inside = ahead.inside in
-    let g = old.catalog.now in
-    let l = old.limits in
-    let v = annotated old.notes (payloads.Str text) in
-    let there : place_in (open_frames old) nows.Ready ≡ place (reading_of old) = ap (place_in (open_frames old)) (sym ahead.stage) in
-    moved_strides old new moved rest behind octets inside ahead.rests move setting count x.more x.segments.used
-    (ended_stays (setting_of old) (spot_of old end) (reading_of new) (open_frames old) v inside.inner does)
-    (subst (λ n. Passes g l (with_scan (resting rest) (at old.start old.context (open_frames old) old.notes n)) octets count
-    (with_scan (resting behind) (reading_of new))) (sym ahead.stage)
-    (settled_on g l old.start old.context old.notes (open_frames old) (place (reading_of old)) rest octets count behind text x inside.inner there
-    (room old new moved rest behind octets inside ahead.rests move setting) end (reading_of new) does))

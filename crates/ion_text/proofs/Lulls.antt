@@ -17,7 +17,7 @@ use Rattle.ion_tokens.specs.machine.Bounds.{is_idle}
 use Rattle.ion_tokens.specs.machine.AtOnce.{goes_on, gone_on, GoesOver}
 use Rattle.ion_tokens.specs.Lexemes.{Each}
 use Rattle.ion_tokens.specs.machine.Scanning as scanning
-use Rattle.ion_tokens.specs.machine.Scanning.{Known, Outcome, Next, feed}
+use Rattle.ion_tokens.specs.machine.Scanning.{Known, Next, feed}
 use Rattle.ion_tokens.specs.machine.Views.{begun_in, behind, form_of}
 use Rattle.ion_tokens.proofs.runs.Runs.{next_used, feed_used}
 use Rattle.ion_tokens.proofs.runs.GoesOn.{one_on, through}

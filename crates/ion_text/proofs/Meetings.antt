@@ -1,9 +1,8 @@
 -- What the scanner answers, and what comes of the octets.
-use Rattle.std.proofs.Common.{◌≡◌, ◌≢◌, ℕ, ◌+◌, true, false, Option, Some, None, Result, Ok, Err, refl, sym, ap, ◌∙◌, subst, arith}
+use Rattle.std.proofs.Common.{◌≡◌, ◌≢◌, ℕ, ◌+◌, true, false, Some, None, Ok, Err, refl, sym, ap, ◌∙◌, subst, arith}
 use Rattle.ion_atoms.specs.declared.refusal.Reason.{Reason}
 use Rattle.ion_atoms.specs.declared.refusal.Reason.TheVariants.{Memory}
 use Rattle.ion_atoms.specs.declared.refusal.Refusal.{Refusal}
-use Rattle.ion_model.specs.declared.value.Value.{Value}
 use Rattle.ion_symtab.specs.declared.limits.Limits.{Limits}
 use Rattle.ion_symtab.specs.declared.catalog.Catalog.{Catalog}
 use Rattle.ion_tokens.specs.declared.token.Token.{Token as Found}
@@ -11,28 +10,11 @@ use Rattle.ion_tokens.specs.Bodies.{Content, content}
 use Rattle.ion_tokens.specs.machine.Scanning.{Known, Outcome, Next, Given, Left, Refused}
 use Rattle.ion_tokens.specs.Lexemes.{Lexeme}
 use Rattle.ion_tokens.specs.machine.Steps.{Stepped, Answers, IsToken, GivesToken}
-use Rattle.ion_tokens.specs.machine.Views.{scanned}
 use Rattle.ion_tokens.proofs.runs.Cutting.{one_body}
-use Rattle.ion_text.specs.declared.reader.TextReader.{TextReader}
-use Rattle.ion_text.specs.declared.state.Met.{Met}
-use Rattle.ion_text.specs.declared.state.Met.TheVariants as met
 use Rattle.ion_tokens.specs.machine.Said.{said, says}
 use Rattle.ion_text.specs.machine.EachToken.{Reading, turn}
-use Rattle.ion_text.specs.machine.Run.{State, Effect, uses, tells, leaves, fails, noticed, behind_given, behind_left, on_said, on_scan, token_of}
-use Rattle.ion_text.specs.machine.Views.{state_of, token_in, Told, DidMeet, IsBehind, is_left, decided, comes_again, DidWhatCame, MeetsWith}
-
-told_same : (e f : Effect) (with_it : Value → State → Effect) (given : Option Value) (m : State) → e ≡ f → Told f with_it given m → Told e with_it given m
-told_same e f with_it None m h t = t
-told_same e f with_it (Some v) m h t = h ∙ t
-
-did_same : (e f : (State → Effect) → Effect) (result : Result Met Reason) (r : TextReader) → ((again : State → Effect) → e again ≡ f again) → DidMeet f result r
-    → DidMeet e result r
-did_same e f (Ok met.Uses) r h d = λ again. h again ∙ d again
-did_same e f (Ok met.Tells) r h d = λ again. told_same (e again) (f again) tells r.given (state_of r) (h again) (d again)
-did_same e f (Ok met.Leaves) r h d = λ again. told_same (e again) (f again) leaves r.given (state_of r) (h again) (d again)
-did_same e f (Ok met.Again) r h d = λ again. h again ∙ d again
-did_same e f (Ok (met.Late reason)) r h d = λ again. h again ∙ d again
-did_same e f (Err reason) r h d = λ other again. h again ∙ d other again
+use Rattle.ion_text.specs.machine.Run.{State, Effect, fails, noticed, behind_given, behind_left, on_said, on_scan, token_of}
+use Rattle.ion_text.specs.machine.Views.{token_in, decided}
 
 -- a lexeme says what the scanner's token of it holds
 pub said_so : (x : Lexeme) (t : Found) → IsToken x t → said x.kind x.octets ≡ Ok (content t.body)
@@ -87,11 +69,6 @@ module _ (g : Catalog) (l : Limits) (r : Reading) where
       let b = a other in
       (ap (λ (q : Refusal). q.offset) b, λ again. ap (λ (q : Refusal). fails q.reason) (sym b))
 
-  -- so is the reader's
-  pub refused_meets : (before : ℕ) (x : Outcome) (refusal : Refusal) (now : Known) (new : TextReader) → Answers before x (Err refusal) now
-      → MeetsWith g l r x (Err refusal) new
-  refused_meets before x refusal now new a = scan_refused before x refusal now a
-
   -- what the scanner answered, where it gave no token
   pub record NoToken (x : Outcome) (now : Known) : Type 0 where
     pub is : x ≡ Next now
@@ -102,17 +79,6 @@ module _ (g : Catalog) (l : Limits) (r : Reading) where
   no_token before (Left x s) scan now a e = absurd (subst (λ t. GivesToken x t) e a.1)
   no_token before (Refused n y) scan now a e = absurd a
 
-  -- where the scanner gave no token and the reader has no reason to refuse, the octets are used
-  pub next_meets : (before : ℕ) (x : Outcome) (scan : Stepped) (now : Known) (new : TextReader) → Answers before x (Ok scan) now → scan.token ≡ None
-      → scanned new.scanner ≡ now → noticed l r now ≡ uses (state_of new) → DidWhatCame g l r x met.Uses new
-  next_meets before x scan now new a e same did =
-      let h = (no_token before x scan now a e).is in
-      record {
-        did = λ again. ap (λ y. on_scan g l again r y) h ∙ did;
-        behind = subst (λ y. IsBehind y (scanned new.scanner)) (sym h) same;
-        left = ap is_left h;
-      }
-
   -- where the scanner gave no token and the reader has a reason to refuse, this is answered
   pub blank_refused : (before : ℕ) (x : Outcome) (scan : Stepped) (now : Known) (refusal : Refusal) (reason : Reason)
       → Answers before x (Ok scan) now → scan.token ≡ None → noticed l r now ≡ fails reason
@@ -122,11 +88,6 @@ module _ (g : Catalog) (l : Limits) (r : Reading) where
       let at = ap (λ (q : Refusal). q.offset) same in
       let here : refusal.offset ≡ now.used = omega arith in
       λ other. (here ∙ sym (ap decided h), λ again. ap (λ y. on_scan g l again r y) h ∙ (did ∙ ap (λ (q : Refusal). fails q.reason) (sym same)))
-
-  pub next_refused : (before : ℕ) (x : Outcome) (scan : Stepped) (now : Known) (refusal : Refusal) (reason : Reason) (new : TextReader)
-      → Answers before x (Ok scan) now → scan.token ≡ None → noticed l r now ≡ fails reason
-      → refusal ≡ record { offset = now.used + 0; reason = reason } → MeetsWith g l r x (Err refusal) new
-  next_refused before x scan now refusal reason new a e did same = blank_refused before x scan now refusal reason a e did same
 
   -- what it answered, where it gave one
   pub record GivenToken (x : Outcome) (t : Found) (now : Known) : Type 0 where
@@ -153,19 +114,6 @@ module _ (g : Catalog) (l : Limits) (r : Reading) where
   left_token before (Left x s) scan t now a e f = record { lexeme = x; is = ap (λ k. Left x k) (sym a.0.known); token = subst (λ o. GivesToken x o) e a.1 }
   left_token before (Refused n y) scan t now a e f = absurd a
 
-  -- where the last octet ended a token, what the method did with the token is what came of the octets
-  pub given_meets : (before : ℕ) (x : Outcome) (scan : Stepped) (t : Found) (now : Known) (m : Met) (new : TextReader) → Answers before x (Ok scan) now
-      → scan.token ≡ Some t → scan.left ≡ false
-      → scanned new.scanner ≡ now → comes_again m ≡ false → DidMeet (λ _. behind_given l now (turn g l r (token_in t))) (Ok m) new → DidWhatCame g l r x m new
-  given_meets before x scan t now m new a e f same ends did =
-      let h = given_token before x scan t now a e f in
-      record {
-        did = did_same (λ again. on_scan g l again r x) (λ _. behind_given l now (turn g l r (token_in t))) (Ok m) new
-            (λ again. ap (λ y. on_scan g l again r y) h.is ∙ on_given again h.lexeme t now now refl h.token) did;
-        behind = subst (λ y. IsBehind y (scanned new.scanner)) (sym h.is) same;
-        left = ap is_left h.is ∙ sym ends;
-      }
-
   -- where the token that the last octet ended is refused, this is answered at that octet
   pub ended_refused : (before : ℕ) (x : Outcome) (scan : Stepped) (t : Found) (now : Known) (refusal : Refusal) (reason : Reason) (used : ℕ)
       → Answers before x (Ok scan) now → scan.token ≡ Some t → scan.left ≡ false
@@ -182,26 +130,6 @@ module _ (g : Catalog) (l : Limits) (r : Reading) where
             ∙ (on_given again h.lexeme t now now refl h.token ∙ (did (λ m. other (cause ∙ m)) again ∙ ap fails (sym cause))),
       )
 
-  pub given_refused : (before : ℕ) (x : Outcome) (scan : Stepped) (t : Found) (now : Known) (refusal : Refusal) (reason : Reason) (used : ℕ) (new : TextReader)
-      → Answers before x (Ok scan) now → scan.token ≡ Some t → scan.left ≡ false
-      → DidMeet (λ _. behind_given l now (turn g l r (token_in t))) (Err reason) new → used ≡ now.used → refusal ≡ record { offset = used + 0; reason = reason }
-      → MeetsWith g l r x (Err refusal) new
-  given_refused before x scan t now refusal reason used new a e f did at same = ended_refused before x scan t now refusal reason used a e f did at same
-
-  -- where the last octet showed the end of a token, what the method did with it is what came of the octets
-  pub left_meets : (before : ℕ) (x : Outcome) (scan : Stepped) (t : Found) (now : Known) (m : Met) (new : TextReader) → Answers before x (Ok scan) now
-      → scan.token ≡ Some t → scan.left ≡ true
-      → scanned new.scanner ≡ now → comes_again m ≡ true → DidMeet (λ again. behind_left again now (turn g l r (token_in t))) (Ok m) new
-      → DidWhatCame g l r x m new
-  left_meets before x scan t now m new a e f same ends did =
-      let h = left_token before x scan t now a e f in
-      record {
-        did = did_same (λ again. on_scan g l again r x) (λ again. behind_left again now (turn g l r (token_in t))) (Ok m) new
-            (λ again. ap (λ y. on_scan g l again r y) h.is ∙ on_left again h.lexeme t now now refl h.token) did;
-        behind = subst (λ y. IsBehind y (scanned new.scanner)) (sym h.is) same;
-        left = ap is_left h.is ∙ sym ends;
-      }
-
   -- where the token before the last octet is refused, this is answered at the octet that showed its end
   pub before_refused : (before : ℕ) (x : Outcome) (scan : Stepped) (t : Found) (now : Known) (refusal : Refusal) (reason : Reason) (used : ℕ)
       → Answers before x (Ok scan) now → scan.token ≡ Some t → scan.left ≡ true
@@ -217,9 +145,3 @@ module _ (g : Catalog) (l : Limits) (r : Reading) where
         λ again. ap (λ y. on_scan g l again r y) h.is
             ∙ (on_left again h.lexeme t now now refl h.token ∙ (did (λ m. other (cause ∙ m)) again ∙ ap fails (sym cause))),
       )
-
-  pub left_refused : (before : ℕ) (x : Outcome) (scan : Stepped) (t : Found) (now : Known) (refusal : Refusal) (reason : Reason) (used : ℕ) (new : TextReader)
-      → Answers before x (Ok scan) now → scan.token ≡ Some t → scan.left ≡ true
-      → DidMeet (λ again. behind_left again now (turn g l r (token_in t))) (Err reason) new → used ≡ now.used
-      → refusal ≡ record { offset = used + 1; reason = reason } → MeetsWith g l r x (Err refusal) new
-  left_refused before x scan t now refusal reason used new a e f did at same = before_refused before x scan t now refusal reason used a e f did at same

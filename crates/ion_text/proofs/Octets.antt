@@ -1,34 +1,18 @@
 -- One octet, as often as it comes.
-use Rattle.std.proofs.Common.{◌≡◌, ◌≢◌, ℕ, zero, suc, ◌+◌, ◌-◌, ◌<◌, true, false, [], ◌∷◌, Option, Some, None, Result, Ok, Err, refl, sym, ap, ◌∙◌, subst, arith}
+use Rattle.std.proofs.Common.{◌≡◌, ℕ, zero, suc, ◌+◌, ◌-◌, ◌<◌, true, false, [], ◌∷◌, refl, sym, ap, ◌∙◌, subst, arith}
 use Rattle.std.specs.Prelude.{if◌then◌else◌}
-use Rattle.ion_model.specs.declared.value.Value.{Value}
 use Rattle.ion_atoms.specs.declared.refusal.Reason.{Reason}
 use Rattle.ion_atoms.specs.declared.refusal.Reason.TheVariants as reasons
-use Rattle.ion_atoms.specs.declared.refusal.Refusal.{Refusal}
 use Rattle.ion_symtab.specs.declared.limits.Limits.{Limits}
 use Rattle.ion_symtab.specs.declared.catalog.Catalog.{Catalog}
 use Rattle.ion_tokens.specs.declared.mode.Place.{Place}
 use Rattle.ion_tokens.specs.machine.Scanning.{Known, Outcome, Next, Given, Left, Refused, feed, follow, run}
 use Rattle.ion_tokens.specs.Lexemes.{Lexeme}
 use Rattle.ion_tokens.proofs.runs.Runs.{feed_used, given_used, left_used}
-use Rattle.ion_text.specs.declared.reader.TextReader.{TextReader}
-use Rattle.ion_text.specs.declared.state.Taken.{Taken}
-use Rattle.ion_text.specs.declared.state.Taken.TheVariants as taken
 use Rattle.ion_text.specs.declared.state.Met.{Met}
-use Rattle.ion_text.specs.declared.state.Met.TheVariants as met
-use Rattle.ion_text.specs.machine.EachToken.{Reading, Turn, goes, gives, late, place, settle}
-use Rattle.ion_text.specs.machine.Run.{State, Effect, tells, leaves, fails, lesser, or_worse, unsettled, with_scan, on_scan, on_settled, on_octet, takes}
-use Rattle.ion_text.specs.machine.Views.{state_of, Told, DidTake, DidMeet, Gave, IsBehind, DidWhatCame, MeetsWith, is_left, comes_again, worse}
-
-told_same : (e f : Effect) (with_it : Value → State → Effect) (given : Option Value) (m : State) → e ≡ f → Told f with_it given m → Told e with_it given m
-told_same e f with_it None m h t = t
-told_same e f with_it (Some v) m h t = h ∙ t
-
-pub take_same : (e f : Effect) (result : Result Taken Reason) (r : TextReader) → e ≡ f → DidTake f result r → DidTake e result r
-take_same e f (Ok taken.Uses) r h d = h ∙ d
-take_same e f (Ok taken.Tells) r h d = told_same e f tells r.given (state_of r) h d
-take_same e f (Ok taken.Leaves) r h d = told_same e f leaves r.given (state_of r) h d
-take_same e f (Err reason) r h d = λ other. h ∙ d other
+use Rattle.ion_text.specs.machine.EachToken.{Reading, Turn, place, settle}
+use Rattle.ion_text.specs.machine.Run.{State, Effect, lesser, unsettled, on_scan, on_settled, on_octet, takes}
+use Rattle.ion_text.specs.machine.Views.{IsBehind, is_left, comes_again}
 
 -- memory that runs out answers for every other reason
 pub least : (e : Reason) → lesser e reasons.Memory ≡ reasons.Memory
@@ -54,22 +38,6 @@ least reasons.Depth = refl
 least reasons.ItemTooLong = refl
 least reasons.Version = refl
 least reasons.KeywordAsName = refl
-
-told_worse : (reason : Reason) (e : Effect) (given : Option Value) (m : State) → Told e tells given m → or_worse reason e ≡ fails reason
-told_worse reason e (Some v) m h = ap (or_worse reason) h
-told_worse reason e None m h = absurd h
-
-left_worse : (reason : Reason) (e : Effect) (given : Option Value) (m : State) → Told e leaves given m → or_worse reason e ≡ fails reason
-left_worse reason e (Some v) m h = ap (or_worse reason) h
-left_worse reason e None m h = absurd h
-
--- an octet that was refused already and comes again is refused for the smaller of the reasons
-pub take_worse : (reason : Reason) (e : Effect) (again : Result Taken Reason) (r : TextReader) → DidTake e again r → (worse reason again ≢ reasons.Memory)
-    → or_worse reason e ≡ fails (worse reason again)
-take_worse reason e (Ok taken.Uses) r d other = ap (or_worse reason) d
-take_worse reason e (Ok taken.Tells) r d other = told_worse reason e r.given (state_of r) d
-take_worse reason e (Ok taken.Leaves) r d other = left_worse reason e r.given (state_of r) d
-take_worse reason e (Err f) r d other = ap (or_worse reason) (d (λ m. other (ap (lesser reason) m ∙ least reason)))
 
 -- one octet at the scanner
 pub one_octet : (p : Place) (s : Known) (o : ℕ) → run p (o ∷ []) s ≡ feed p s o
@@ -144,51 +112,6 @@ pub same_takes : (g h : Catalog) (l k : Limits) (n : ℕ) (o : ℕ) (m : State) 
 same_takes g h l k n o m e f = ap (λ x. takes x l n m o) (sym e) ∙ ap (λ x. takes h x n m o) (sym f)
 
 module _ (g : Catalog) (l : Limits) (n o : ℕ) where
-  -- what the scanner does of one octet is done by the reader
-  here_did : (r : Reading) (p : Place) (s : Known) (result : Result Taken Reason) (new : TextReader)
-      → DidTake (on_scan g l (λ m. takes g l n m o) r (run p (o ∷ []) s)) result new
-      → DidTake (on_scan g l (λ m. takes g l n m o) r (feed p s o)) result new
-  here_did r p s result new d =
-      take_same (on_scan g l (λ m. takes g l n m o) r (feed p s o)) (on_scan g l (λ m. takes g l n m o) r (run p (o ∷ []) s)) result new
-      (ap (on_scan g l (λ m. takes g l n m o) r) (sym (one_octet p s o))) d
-
-  -- the octet is used, or used with a token, or left behind one
-  pub once_did : (r : Reading) (p : Place) (s : Known) (y z : Met) (t : Taken) (mid : TextReader) → y ≡ z → DidWhatCame g l r (run p (o ∷ []) s) y mid
-      → ((e : (State → Effect) → Effect) → DidMeet e (Ok z) mid → DidTake (e (λ m. takes g l n m o)) (Ok t) mid)
-      → DidTake (on_scan g l (λ m. takes g l n m o) r (feed p s o)) (Ok t) mid
-  once_did r p s y z t mid is h takes_it =
-      let there = subst (λ (y : Met). DidWhatCame g l r (run p (o ∷ []) s) y mid) is h in
-      here_did r p s (Ok t) mid (takes_it (λ again. on_scan g l again r (run p (o ∷ []) s)) there.did)
-
-  -- the octet is refused
-  pub err_did : (r : Reading) (p : Place) (s : Known) (refusal : Refusal) (mid : TextReader) → MeetsWith g l r (run p (o ∷ []) s) (Err refusal) mid
-      → DidTake (on_scan g l (λ m. takes g l n m o) r (feed p s o)) (Err refusal.reason) mid
-  err_did r p s refusal mid h = here_did r p s (Err refusal.reason) mid (λ other. (h other).1 (λ m. takes g l n m o))
-
-  -- the octet comes again
-  pub again_did : (r : Reading) (p : Place) (s : Known) (y : Met) (mid : TextReader) (result : Result Taken Reason) (new : TextReader) → y ≡ met.Again
-      → DidWhatCame g l r (run p (o ∷ []) s) y mid
-      → mid.catalog.now ≡ g → mid.limits ≡ l → DidTake (takes mid.catalog.now mid.limits n (state_of mid) o) result new
-      → DidTake (on_scan g l (λ m. takes g l n m o) r (feed p s o)) result new
-  again_did r p s y mid result new is h e f d =
-      let there = subst (λ (y : Met). DidWhatCame g l r (run p (o ∷ []) s) y mid) is h in
-      take_same (on_scan g l (λ m. takes g l n m o) r (feed p s o)) (takes mid.catalog.now mid.limits n (state_of mid) o) result new
-      (ap (on_scan g l (λ m. takes g l n m o) r) (sym (one_octet p s o))
-      ∙ (there.did (λ m. takes g l n m o) ∙ same_takes g mid.catalog.now l mid.limits n o (state_of mid) e f)) d
-
-  -- behind a late refusal an octet that comes again is refused for the smaller of both reasons
-  pub late_did : (r : Reading) (p : Place) (s : Known) (y : Met) (reason cause : Reason) (mid : TextReader) (result : Result Taken Reason) (new : TextReader)
-      → y ≡ met.Late reason → DidWhatCame g l r (run p (o ∷ []) s) y mid
-      → mid.catalog.now ≡ g → mid.limits ≡ l → DidTake (takes mid.catalog.now mid.limits n (state_of mid) o) result new → cause ≡ worse reason result
-      → cause ≢ reasons.Memory → on_scan g l (λ m. takes g l n m o) r (feed p s o) ≡ fails cause
-  late_did r p s y reason cause mid result new is h e f d same other =
-      let there = subst (λ (y : Met). DidWhatCame g l r (run p (o ∷ []) s) y mid) is h in
-      ap (on_scan g l (λ m. takes g l n m o) r) (sym (one_octet p s o))
-      ∙ (there.did (λ m. takes g l n m o)
-      ∙ (ap (or_worse reason) (same_takes g mid.catalog.now l mid.limits n o (state_of mid) e f)
-      ∙ (take_worse reason (takes mid.catalog.now mid.limits n (state_of mid) o) result new d (λ m. other (same ∙ m))
-      ∙ ap fails (sym same))))
-
   module _ (m : State) (p : Place) (here : p ≡ place m.reading) (some : 0 < n) where
     -- what waits goes on
     pub goes_on_takes : unsettled m.scan m.reading (feed p m.scan o) ≡ true
@@ -198,12 +121,6 @@ module _ (g : Catalog) (l : Limits) (n o : ℕ) where
         ∙ (ap (λ q. on_octet g l (λ k. takes g l (n - 1) k o) m (feed q m.scan o)) (sym here)
         ∙ octet_goes_on g l o (λ k. takes g l (n - 1) k o) m (feed p m.scan o) w)
 
-    -- so does the reader
-    pub goes_on_did : (result : Result Taken Reason) (new : TextReader) → unsettled m.scan m.reading (feed p m.scan o) ≡ true
-        → DidTake (on_scan g l (λ k. takes g l (n - 1) k o) m.reading (feed p m.scan o)) result new → DidTake (takes g l n m o) result new
-    goes_on_did result new w d =
-        take_same (takes g l n m o) (on_scan g l (λ k. takes g l (n - 1) k o) m.reading (feed p m.scan o)) result new (goes_on_takes w) d
-
     -- it is settled
     pub settles : (t : Turn) → unsettled m.scan m.reading (feed p m.scan o) ≡ false → settle g l m.reading ≡ t
         → takes g l n m o ≡ on_settled g l (λ k. takes g l (n - 1) k o) m.scan (feed p m.scan o) t
@@ -211,28 +128,3 @@ module _ (g : Catalog) (l : Limits) (n o : ℕ) where
         takes_more g l o n m some
         ∙ (ap (λ q. on_octet g l (λ k. takes g l (n - 1) k o) m (feed q m.scan o)) (sym here)
         ∙ octet_settles g l o (λ k. takes g l (n - 1) k o) m (feed p m.scan o) t w e)
-
-    -- where what waited is settled and goes on, the octet does what it does behind that
-    pub settles_goes : (r : Reading) (h : Catalog) (k : Limits) (s : Known) (result : Result Taken Reason) (new : TextReader)
-        → unsettled m.scan m.reading (feed p m.scan o) ≡ false → settle g l m.reading ≡ goes r → h ≡ g → k ≡ l → s ≡ m.scan
-        → DidTake (on_scan h k (λ j. takes h k (n - 1) j o) r (feed p s o)) result new → DidTake (takes g l n m o) result new
-    settles_goes r h k s result new w e f i j d =
-        take_same (takes g l n m o) (on_scan h k (λ j. takes h k (n - 1) j o) r (feed p s o)) result new
-        (settles (goes r) w e ∙ same_scan g h l k (n - 1) o p m.scan s r f i j) d
-
-    -- where settling what waited is a late refusal, the octet is refused for the smaller of both reasons
-    pub settles_late : (reason cause : Reason) (r : Reading) (h : Catalog) (k : Limits) (s : Known) (result : Result Taken Reason) (new : TextReader)
-        → unsettled m.scan m.reading (feed p m.scan o) ≡ false → settle g l m.reading ≡ late reason r → h ≡ g → k ≡ l → s ≡ m.scan
-        → DidTake (on_scan h k (λ j. takes h k (n - 1) j o) r (feed p s o)) result new → cause ≡ worse reason result → cause ≢ reasons.Memory
-        → takes g l n m o ≡ fails cause
-    settles_late reason cause r h k s result new w e f i j d same other =
-        settles (late reason r) w e
-        ∙ (ap (or_worse reason) (same_scan g h l k (n - 1) o p m.scan s r f i j)
-        ∙ (take_worse reason (on_scan h k (λ j. takes h k (n - 1) j o) r (feed p s o)) result new d (λ m. other (same ∙ m))
-        ∙ ap fails (sym same)))
-
-    -- where the octet settles what waited as a value, it shows the value's end and isn't used
-    pub settles_gives : (given : Option Value) (now : State) (r : Reading) → unsettled m.scan m.reading (feed p m.scan o) ≡ false
-        → Gave (settle g l m.reading) given r → now ≡ with_scan m.scan r → Told (takes g l n m o) leaves given now
-    settles_gives None now r w e same = absurd e
-    settles_gives (Some v) now r w e same = settles (gives v r) w e ∙ ap (leaves v) (sym same)

@@ -1,10 +1,9 @@
 -- What an annotation, a name, an open and a close do to a reader that holds no values.
-use Rattle.std.proofs.Common.{◌≡◌, ◌≢◌, ℕ, List, [], ◌∷◌, ◌++◌, reverse, length, true, false, Option, Some, None, Result, Ok, refl, ap, sym, subst, ◌∙◌, arith}
-use Rattle.std.specs.Prelude.{if◌then◌else◌, nat_lt, ◌<◌, IsSome}
+use Rattle.std.proofs.Common.{◌≡◌, List, [], ◌∷◌, ◌++◌, reverse, length, true, false, Option, Some, None, Result, Ok, refl, ap, sym, subst, ◌∙◌, arith}
+use Rattle.std.specs.Prelude.{◌<◌, IsSome}
 use Rattle.std.specs.Option.{option_to_list}
 use Rattle.std.proofs.lemmas.List.{reverse-append}
 use Rattle.ion_atoms.specs.declared.refusal.Reason.{Reason}
-use Rattle.ion_atoms.specs.declared.refusal.Reason.TheVariants as reasons
 use Rattle.ion_model.specs.declared.value.Value.{Value}
 use Rattle.ion_model.specs.declared.value.Payload.TheVariants as payloads
 use Rattle.ion_model.specs.Measures.{annotated}
@@ -20,9 +19,8 @@ use Rattle.ion_text.specs.declared.state.Effect.{Effect as Turned}
 use Rattle.ion_text.specs.declared.state.Effect.TheVariants.{Goes}
 use Rattle.ion_text.specs.declared.walk.TextWalk.{TextWalk}
 use Rattle.ion_visiting.specs.declared.table_filter.TableFilter.{TableFilter}
-use Rattle.ion_text.specs.machine.EachToken.{Setting, Spot, Reading, Symbols, first_now, goes, refuses, late, at, ended, opened, opening, beyond_depth, closed, on_comma, named, unexpected}
-use Rattle.ion_symtab.specs.Slots.{Slot}
-use Rattle.ion_visiting.specs.Tables.{WasTold, Hears, Tells, heard, is_fields}
+use Rattle.ion_text.specs.machine.EachToken.{Setting, Spot, Symbols, first_now, goes, at, ended, opened, closed, on_comma, named, unexpected}
+use Rattle.ion_visiting.specs.Tables.{WasTold, Hears, Tells, heard}
 use Rattle.ion_text.specs.walk.Holds.{AreAround, AreOpen, Does, DoesAlone, Enters, Holds, MayClose, WentOn, bracket_of, brackets_of, behind_comma, calm, closes_in, has_notes, is_same, open_brackets, told, told_in}
 use Rattle.ion_text.proofs.Holding.{note_told, open_told, list_told, sexp_told, fields_told, name_told}
 use Rattle.ion_text.proofs.Taking.{does_behind}
@@ -68,27 +66,6 @@ entered leads r new b a z ready items noted stage start context tells fs ss h = 
       ∙ (ap (λ c. at new.start c (opened b ss ∷ fs) [] (first_now b)) (sym context)
       ∙ ap (λ n. at new.start new.context (opened b ss ∷ fs) [] n) (sym stage));
 }
-
-module _ (b : Bracket) (depth start : ℕ) (c : List Slot) (fs : List Frame) (ss : Symbols) where
-  -- the limit on depth admits it
-  pub opens_goes : nat_lt (length fs) depth ≡ true → opening b depth start c fs ss ≡ goes (at start c (opened b ss ∷ fs) [] (first_now b))
-  opens_goes admits = ap (λ x. if x then goes (at start c (opened b ss ∷ fs) [] (first_now b))
-      else beyond_depth b (at start c (opened b ss ∷ fs) [] (first_now b))) admits
-
-  -- or it doesn't
-  pub opens_beyond : nat_lt (length fs) depth ≡ false → opening b depth start c fs ss ≡ beyond_depth b (at start c (opened b ss ∷ fs) [] (first_now b))
-  opens_beyond admits = ap (λ x. if x then goes (at start c (opened b ss ∷ fs) [] (first_now b))
-      else beyond_depth b (at start c (opened b ss ∷ fs) [] (first_now b))) admits
-
-pub beyond_struct : (b : Bracket) (q : Reading) → is_fields b ≡ true → beyond_depth b q ≡ late reasons.Depth q
-beyond_struct brackets.Fields q h = refl
-beyond_struct brackets.List q h = absurd cc
-beyond_struct brackets.Sexp q h = absurd cc
-
-pub beyond_items : (b : Bracket) (q : Reading) → is_fields b ≡ false → beyond_depth b q ≡ refuses reasons.Depth
-beyond_items brackets.Fields q h = absurd cc
-beyond_items brackets.List q h = refl
-beyond_items brackets.Sexp q h = refl
 
 -- 2. An annotation.
 
@@ -173,10 +150,6 @@ module _ {V : Type 0} (leads : V → Event → V → Type 0) (setting : Setting)
       does_behind leads (told before []) (told_in fs ++ events_of v) (ended setting spot fs v) result new a z
       (subst (λ es. Hears leads (heard (told before [])) (heard es) a z) e i.1) (ends fs v same around (subst (λ es. WasTold g es) e i.0))
 
-  -- nothing else may be open there
-  abbrev Around : List Frame → Now → Type 0
-  Around fs now = AreOpen fs [] now
-
   by : (b' : Bracket) → b' ≡ b → (f : Frame) (fs : List Frame) (now : Now) → b ≡ bracket_of f → outer ≡ brackets_of fs → MayClose b' now
       → AreOpen (f ∷ fs) [] now → WasTold r.filter (told (f ∷ fs) [])
       → Does leads (told (f ∷ fs) []) (closed b' setting spot (f ∷ fs)) result new a z
@@ -243,32 +216,6 @@ module _ {V : Type 0} (leads : V → Event → V → Type 0) (setting : Setting)
   closes_does (f ∷ fs) h =
       by b refl f fs (calm r.stage) (ap first_of (sym open_there ∙ h.0.frames)) (ap rest_of (sym open_there ∙ h.0.frames)) may h.0.open_there h.1
 
--- nothing is open that could close so
-abbrev pub IsOther : Bracket → List Bracket → Type 0
-IsOther b [] = Unit {0}
-IsOther b (x ∷ xs) = x ≢ b
-
-pub closes_refused : (setting : Setting) (spot : Spot) (b : Bracket) (bs : List Bracket) (fs : List Frame) → bs ≡ brackets_of fs → IsOther b bs
-    → closed b setting spot fs ≡ unexpected
-closes_refused setting spot b bs fs e other = by b fs (subst (λ x. IsOther b x) e other)
-  where
-    by : (b : Bracket) (fs : List Frame) → IsOther b (brackets_of fs) → closed b setting spot fs ≡ unexpected
-    by brackets.List [] o = refl
-    by brackets.Sexp [] o = refl
-    by brackets.Fields [] o = refl
-    by brackets.List (frames.Items listings.List ss vs ∷ fs) o = absurd (o refl)
-    by brackets.List (frames.Items listings.Sexp ss vs ∷ fs) o = refl
-    by brackets.List (frames.Fields ss ms ∷ fs) o = refl
-    by brackets.List (frames.Named ss ms s ∷ fs) o = refl
-    by brackets.Sexp (frames.Items listings.List ss vs ∷ fs) o = refl
-    by brackets.Sexp (frames.Items listings.Sexp ss vs ∷ fs) o = absurd (o refl)
-    by brackets.Sexp (frames.Fields ss ms ∷ fs) o = refl
-    by brackets.Sexp (frames.Named ss ms s ∷ fs) o = refl
-    by brackets.Fields (frames.Items listings.List ss vs ∷ fs) o = refl
-    by brackets.Fields (frames.Items listings.Sexp ss vs ∷ fs) o = refl
-    by brackets.Fields (frames.Fields ss ms ∷ fs) o = absurd (o refl)
-    by brackets.Fields (frames.Named ss ms s ∷ fs) o = absurd (o refl)
-
 same_true : (b x : Bracket) → is_same b x ≡ true → b ≡ x
 same_true brackets.List brackets.List h = refl
 same_true brackets.Sexp brackets.Sexp h = refl
@@ -288,18 +235,6 @@ popped b items rest (Some x) e some h =
     whole ∙ ap (λ y. y ∷ reverse rest) (sym (same_true b x (ap (closes_in b) (sym whole) ∙ h)))
 popped b [] rest None e some h = absurd cc
 popped b (y ∷ items) rest None e some h = let s = some (omega arith) in absurd cc
-
-same_refl : (b : Bracket) → is_same b b ≡ true
-same_refl brackets.List = refl
-same_refl brackets.Sexp = refl
-same_refl brackets.Fields = refl
-
-other_first : (b x : Bracket) → is_same b x ≡ false → x ≢ b
-other_first b x h e = let s = ap (is_same b) e ∙ same_refl b in absurd cc
-
-pub none_closes : (b : Bracket) (bs : List Bracket) → closes_in b bs ≡ false → IsOther b bs
-none_closes b [] h = tt
-none_closes b (x ∷ xs) h = other_first b x h
 
 -- 5. A comma.
 

@@ -188,16 +188,6 @@ idle_first p os s t sane idle e = by (is_idle s.mode) refl
     by true h = h
     by false h = absurd (let n : true ≡ false = sym idle ∙ stays_begun p os s t sane h e in cc)
 
--- where no item is open, one octet is within each limit
-pub top_quiet : (g : Catalog) (l : Limits) (r : Reading) → 1 ≤ l.item → IsCalm r.now → r.frames ≡ [] → r.notes ≡ [] → (s : Known) → s.mode ≡ modes.Blank
-    → (octets : List ℕ) → 1 ≤ length octets → Quiet g l r (place r) s (take 1 octets)
-top_quiet g l r item calm top bare s rests octets some =
-    let size = length-take-le 1 octets some in
-    let floor_is : floor s ≡ s.used = ap (λ m. scanning.start_of m s.start s.used) rests in
-    let counts : base r.frames r.notes r.start (floor s) ≡ floor s = ap (λ fs. base fs r.notes r.start (floor s)) top
-    ∙ ap (λ ss. base [] ss r.start (floor s)) bare in
-    quiet_within g l r (floor s) calm (place r) (take 1 octets) s (omega arith) (omega arith) (omega arith)
-
 -- what is noticed where no token has begun that surely is one, as long as no more octets than these were used
 abbrev pub NoticesNothing : Limits → Reading → ℕ → Type 0
 NoticesNothing l r most = (s : Known) → is_idle s.mode ≡ true → s.used ≤ most → noticed l r s ≡ uses (with_scan s r)

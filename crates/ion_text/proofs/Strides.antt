@@ -1,11 +1,9 @@
 -- Tokens that a reader without values takes up at once, one behind the other.
-use Rattle.std.proofs.Common.{◌≡◌, ◌≢◌, ℕ, ◌+◌, ◌-◌, ◌<◌, ◌≤◌, Bool, true, false, List, [], ◌∷◌, ◌++◌, length, take, drop, get_or, Option, Ok, Err, refl, ap, sym, ◌∙◌, subst, arith, length-drop, ◌⊎◌, inl, inr}
+use Rattle.std.proofs.Common.{◌≡◌, ◌≢◌, ℕ, ◌+◌, ◌-◌, ◌<◌, ◌≤◌, Bool, true, false, List, [], ◌∷◌, ◌++◌, length, take, drop, get_or, Option, Ok, refl, ap, sym, ◌∙◌, subst, arith, length-drop, ◌⊎◌, inl, inr}
 use Rattle.std.specs.Prelude.{if◌then◌else◌, nat_lt}
 use Rattle.std.proofs.lemmas.Bool.Decides.{nat_tests}
 use Rattle.std.proofs.lemmas.Grind.{common_steps}
 use Rattle.std.proofs.lemmas.List.{length-map, length-reverse, length-take}
-use Rattle.ion_atoms.specs.declared.refusal.Reason.{Reason}
-use Rattle.ion_atoms.specs.declared.refusal.Reason.TheVariants.{Memory}
 use Rattle.ion_model.specs.declared.value.Payload.{Payload}
 use Rattle.ion_model.specs.declared.value.Payload.TheVariants as payloads
 use Rattle.ion_model.specs.Measures.{annotated}
@@ -495,10 +493,6 @@ module _ {V : Type 0} (takes : V → Event → V → Type 0) where
         below h = grind (arith, nat_tests)
 
   -- answers
-
-  pub strides_err : (old new : TextWalk) (before after : Rest) (octets : List ℕ) (reason : Reason) (a b : V) → reason ≡ Memory → SameSetting old new
-      → StridesBy takes old new before after octets (Err reason) a b
-  strides_err old new before after octets reason a b memory same = record { strode = tt; memory = memory; same = same }
 
   pub strides_ok : (old new : TextWalk) (before after : Rest) (octets : List ℕ) (count : ℕ) (a b : V) → Strode takes old new before after octets count a b
       → SameSetting old new → StridesBy takes old new before after octets (Ok count) a b

@@ -13,12 +13,10 @@ use Rattle.ion_symtab.specs.declared.limits.Limits.{Limits}
 use Rattle.ion_symtab.specs.declared.catalog.Catalog.{Catalog}
 use Rattle.ion_symtab.specs.Slots.{Slot}
 use Rattle.ion_tokens.specs.declared.token_reader.FoundToken.{FoundToken}
-use Rattle.ion_tokens.specs.declared.token_reader.TokenReader.{TokenReader}
 use Rattle.ion_tokens.specs.declared.mode.Place.{Place}
 use Rattle.ion_tokens.specs.declared.mode.Mark.TheVariants as marks
 use Rattle.ion_tokens.specs.declared.mode.TokenKind.{TokenKind}
 use Rattle.ion_tokens.specs.declared.mode.TokenKind.TheVariants as kinds
-use Rattle.ion_tokens.specs.declared.scanner.Scanner.{Scanner}
 use Rattle.ion_tokens.specs.declared.plain_tokens.Rest.{Rest}
 use Rattle.ion_tokens.specs.machine.Ahead.{symbol_waits}
 use Rattle.ion_tokens.specs.Bodies.{Content, Word, Id, Quoted, Short, Long, Number', TypedNull, Operator, Clob, Blob, Mark', SaysNumber, IsBody}
@@ -32,7 +30,6 @@ use Rattle.ion_tokens.specs.machine.Scanning.{Known, Outcome, Next, feed, follow
 use Rattle.ion_tokens.specs.Lexemes.{takes_colon}
 use Rattle.ion_tokens.specs.machine.Table.{in_blank, begins_value}
 use Rattle.ion_tokens.specs.declared.mode.Action.{Action}
-use Rattle.ion_tokens.specs.machine.Views.{scanned}
 use Rattle.ion_tokens.proofs.runs.Runs.{next_used}
 use Rattle.ion_tokens.proofs.runs.WholeTokens.{colon_found, colons_found}
 use Rattle.ion_text.specs.Grammar.{is_keyword}
@@ -40,18 +37,14 @@ use Rattle.ion_text.specs.declared.state.Frame.{Frame}
 use Rattle.ion_text.specs.declared.state.Frame.TheVariants as frames
 use Rattle.ion_text.specs.declared.state.Held.{Held}
 use Rattle.ion_text.specs.declared.state.Held.TheVariants as helds
-use Rattle.ion_text.specs.declared.state.Now.{Now}
 use Rattle.ion_text.specs.declared.state.Now.TheVariants as nows
-use Rattle.ion_text.specs.declared.reader.TextReader.{TextReader}
-use Rattle.ion_text.specs.visiting.Walks.{FoundPart}
-use Rattle.ion_text.specs.declared.reader.finders.Scalar.{Scalar}
-use Rattle.ion_text.specs.machine.FrontTokens.{ends_symbol, held_of, value_of, Pays, Names, BeginsValue, BeginsName, IsValue}
+use Rattle.ion_text.specs.machine.FrontTokens.{ends_symbol, held_of, Pays, Names, BeginsValue, BeginsName}
 use Rattle.ion_text.specs.machine.EachToken.{Setting, Spot, under, spot_in, token_at, Reading, Symbols, goes, late, at, place, place_in, settle, turn, turn_now, on_ready, on_name, ended, paid, held_word, held_payload, held_symbol, noted, keyed, named}
-use Rattle.ion_text.specs.machine.AtOnce.{Passes, IsStill, Inside, Strides, TokenAhead}
+use Rattle.ion_text.specs.machine.AtOnce.{Passes, IsStill}
 use Rattle.ion_text.specs.machine.Run.{is_top, with_scan, token_of}
 use Rattle.ion_text.specs.machine.Pieces.{Quiet}
-use Rattle.ion_text.specs.machine.Views.{setting_of, spot_of, reading_of, open_frames, with_beside, IsCalm, SameSetting}
-use Rattle.ion_text.proofs.Arms.{left_found, given_found, Moved, StaysIn, with_scanner, spelled_utf8, short_says, word_says, first_of, moved_strides, room, ready_turns, left_passes, given_leads, ended_stays, ended_place, named_stays, released_inner, same_place_in, name_place, value_strides, mark_says, blank_used, blank_colon, at_drop}
+use Rattle.ion_text.specs.machine.Views.{IsCalm}
+use Rattle.ion_text.proofs.Arms.{left_found, given_found, StaysIn, spelled_utf8, short_says, word_says, first_of, ready_turns, left_passes, given_leads, ended_stays, ended_place, released_inner, same_place_in, name_place, mark_says, blank_used, blank_colon, at_drop}
 use Rattle.ion_text.proofs.Passing.{NoticesNothing, inner_notices, passes_on, passes_blank, passes_waiting, passes_settled, passes_colons, calm_quiet, blank_quiet}
 use Rattle.ion_text.proofs.Striding.{still_settles}
 
@@ -83,26 +76,6 @@ waits_so setting spot fs ss c h e = go c e
     go (Operator w) e = absurd cc
     go (Clob w) e = absurd cc
     go (Blob w) e = absurd cc
-    go (Mark' m) e = absurd cc
-
-pub ends_so : (setting : Setting) (spot : Spot) (fs : List Frame) (ss : Symbols) (c : Content) (v : Payload) → value_of c ≡ Some v → on_ready setting spot fs ss c
-    ≡ ended setting spot fs (annotated ss v)
-ends_so setting spot fs ss c v e = go c e
-  where
-    value : (a : Payload) → Some a ≡ Some v → ended setting spot fs (annotated ss a) ≡ ended setting spot fs (annotated ss v)
-    value a e = ap (λ x. ended setting spot fs (annotated ss x)) (some_is a v e)
-
-    go : (c : Content) → value_of c ≡ Some v → on_ready setting spot fs ss c ≡ ended setting spot fs (annotated ss v)
-    go (Short w) e = value _ e
-    go (Operator w) e = value _ e
-    go (Clob w) e = value _ e
-    go (Blob w) e = value _ e
-    go (Word w) e = absurd cc
-    go (Quoted w) e = absurd cc
-    go (TypedNull k) e = absurd cc
-    go (Id n) e = absurd cc
-    go (Long w) e = absurd cc
-    go (Number' n) e = absurd cc
     go (Mark' m) e = absurd cc
 
 -- what is said is a field's name
@@ -294,9 +267,6 @@ module _ (g : Catalog) (l : Limits) (r : Reading) (start : ℕ) (now : r.now ≡
     may_colons : past_between.colon ≡ true
     may_colons = blank_colon past_symbol m ∙ may
 
-    same_there : place held_back ≡ place r
-    same_there = same_place_in r.frames nows.Ready held_back.now refl held (rest.used + n) refl ∙ ap (place_in r.frames) (sym now)
-
     colons : IsFound (place held_back) past_between (drop (n + m) octets) (kinds.Mark marks.Colons) [] 2 false
     colons = let some = colons_size in colons_found (place held_back) past_between (drop (n + m) octets) may_colons (omega arith) (at_drop (n + m) octets ∙ one)
         (next_at (n + m) octets ∙ two)
@@ -331,10 +301,6 @@ module _ (g : Catalog) (l : Limits) (r : Reading) (start : ℕ) (now : r.now ≡
         (drop (n + m) octets) 1 1 first_is second_is)
 
 -- The machine over such a token, the blank behind it, and what follows.
-
--- a blank without comments
-pub passed_rests : (octets : List ℕ) (n : ℕ) (rest : Rest) → n ≤ length octets → IsPassed octets n → RestsBehind octets n rest (past_blank rest n)
-passed_rests octets n rest within passed = record { ran = λ p. passed p rest; within = within; used = blank_used rest n }
 
 named_place : (start : ℕ) (c : List Slot) (q : Reading) (fs : List Frame) (s : Option (List ℕ)) → named start c fs s ≡ goes q → is_name (place_in fs nows.Name)
     ≡ true
@@ -547,8 +513,6 @@ module _ (p : Place) (r : Rest) (octets : List ℕ) (n : ℕ) where
     pub short_name : IsFound p r octets kinds.ShortString w n false → BeginsName p r octets short_token s
     short_name found = record { kept = w; content = Short w; found = found; says = short_says w text; names = is }
 
--- The reader over them.
-
 -- what is held of a symbol may be an annotation
 
 in_symbol : Result Payload Reason → Result (Option (List ℕ)) Reason
@@ -568,108 +532,3 @@ symbol_held helds.Nan s e = absurd cc
 pub held_in : (o : Option Held) (v : Payload) → Pays o v → (h : Held) × (o ≡ Some h) × (held_payload h ≡ Ok v)
 held_in None v p = absurd p
 held_in (Some h) v p = (h, refl, p)
-
-module _ (old new : TextReader) (moved : Scanner) (rest behind : Rest) (octets : List ℕ) (token : FoundToken) (inside : Inside old octets)
-    (rests : scanned old.scanner ≡ resting rest) (move : Moved old.scanner moved behind) (setting : SameSetting (with_scanner old moved) new) where
-  abbrev n : ℕ
-  n = token.count
-
-  fits : rest.used + length octets ≤ old.limits.item + old.start
-  fits = room old new moved rest behind octets inside rests move setting
-
-  total : (a b c : ℕ) → a + b + c ≡ a + (b + c)
-  total a b c = omega arith
-
-  -- in an open container a symbol that no `::` follows is taken up at once with the blank behind it
-  pub symbol_strides : (m : ℕ) (payload : Payload) → n + m < length octets → behind ≡ past_blank (past_token (place (reading_of old)) rest token.kind n) m
-      → old.stage ≡ nows.Ready → BeginsValue true (place (reading_of old)) rest octets token payload → IsPassed (drop n octets) m
-      → ends_symbol (get_or octets (n + m) 0) ≡ true → ended (setting_of old) (spot_of old (rest.used + n)) (open_frames old) (annotated old.notes payload)
-      ≡ goes (reading_of new) → Strides old new octets (n + m)
-  symbol_strides m payload within there now b passed ends does =
-      let pays = held_in (held_of b.content) payload b.is in
-      moved_strides old new moved rest behind octets inside rests move setting (n + m) within
-      (ap (λ (k : Rest). k.used) there ∙ (blank_used (past_token (place (reading_of old)) rest token.kind n) m ∙ total rest.used n m))
-      (ended_stays (setting_of old) (spot_of old (rest.used + n)) (reading_of new) (open_frames old) (annotated old.notes payload) inside.inner does)
-      (subst (λ (k : Rest). Passes old.catalog.now old.limits (with_scan (resting rest) (reading_of old)) octets (n + m)
-      (with_scan (resting k) (reading_of new))) (sym there)
-      (symbol_passes old.catalog.now old.limits (reading_of old) inside.inner rest octets token.kind b.kept n m token.left b.content fits within b.found b.says
-      (subst IsCalm (sym now) tt) (subst IsStill (sym now) tt) now pays.0
-      (symbol_colon (place (reading_of old)) token.kind b.kept b.content pays.0 b.says pays.1)
-      (waits_so (setting_of old) (spot_of old (rest.used + n)) (open_frames old) old.notes b.content pays.0 pays.1)
-      (past_blank (past_token (place (reading_of old)) rest token.kind n) m)
-      (passed_rests (drop n octets) m (past_token (place (reading_of old)) rest token.kind n) (let size = length-drop n octets in omega arith) passed)
-      (reading_of new) payload pays.2 does ends))
-
-  -- in an open container an annotation is taken up at once with its `::`
-  pub note_strides : (m : ℕ) (s : Option (List ℕ)) → n + m + 2 < length octets
-      → behind ≡ past_token (place (reading_of old)) (past_blank (past_token (place (reading_of old)) rest token.kind n) m) (kinds.Mark marks.Colons) 2
-      → old.stage ≡ nows.Ready → BeginsValue true (place (reading_of old)) rest octets token (payloads.Symbol s)
-      → IsPassed (drop n octets) m → get_or octets (n + m) 0 ≡ 58 → get_or octets (n + m + 1) 0 ≡ 58
-      → reading_of new ≡ at old.start old.context (open_frames old) (old.notes ++ s ∷ []) nows.Ready → Strides old new octets (n + m + 2)
-  note_strides m s within there now b passed one two is =
-      let pays = held_in (held_of b.content) (payloads.Symbol s) b.is in
-      moved_strides old new moved rest behind octets inside rests move setting (n + m + 2) within
-      (ap (λ (k : Rest). k.used) there ∙ (ap (λ k. k + 2) (blank_used (past_token (place (reading_of old)) rest token.kind n) m) ∙ more rest.used n m))
-      (subst (StaysIn old.start) (sym is) (inside.inner, refl, tt))
-      (subst (λ (k : Rest). Passes old.catalog.now old.limits (with_scan (resting rest) (reading_of old)) octets (n + m + 2)
-      (with_scan (resting k) (reading_of new))) (sym there)
-      (subst (λ q. Passes old.catalog.now old.limits (with_scan (resting rest) (reading_of old)) octets (n + m + 2)
-      (with_scan (resting (past_token (place (reading_of old)) (past_blank (past_token (place (reading_of old)) rest token.kind n) m)
-      (kinds.Mark marks.Colons) 2)) q)) (sym is)
-      (note_passes old.catalog.now old.limits (reading_of old) inside.inner rest octets token.kind b.kept n m token.left b.content fits (omega arith) b.found
-      b.says (subst IsCalm (sym now) tt) (subst IsStill (sym now) tt) now pays.0
-      (symbol_colon (place (reading_of old)) token.kind b.kept b.content pays.0 b.says pays.1)
-      (waits_so (setting_of old) (spot_of old (rest.used + n)) (open_frames old) old.notes b.content pays.0 pays.1) s (symbol_held pays.0 s pays.2) passed
-      within one two)))
-    where
-      more : (a b c : ℕ) → a + b + c + 2 ≡ a + (b + c + 2)
-      more a b c = omega arith
-
-  -- the name of a field is taken up at once with the blank and the colon behind it
-  pub name_strides : (m : ℕ) (name : Option (List ℕ)) → n + m + 1 < length octets
-      → behind ≡ past_token (place (reading_of old)) (past_blank (past_token (place (reading_of old)) rest token.kind n) m) (kinds.Mark marks.Colon) 1
-      → old.stage ≡ nows.Name → BeginsName (place (reading_of old)) rest octets token name
-      → IsPassed (drop n octets) m → get_or octets (n + m) 0 ≡ 58 → get_or octets (n + m + 1) 0 ≢ 58 → named old.start old.context (open_frames old) name
-      ≡ goes (reading_of new) → Strides old new octets (n + m + 1)
-  name_strides m name within there now b passed colon one does =
-      moved_strides old new moved rest behind octets inside rests move setting (n + m + 1) within
-      (ap (λ (k : Rest). k.used) there ∙ (ap (λ k. k + 1) (blank_used (past_token (place (reading_of old)) rest token.kind n) m) ∙ more rest.used n m))
-      (named_stays (setting_of old) (spot_of old 0) (reading_of new) (open_frames old) name does)
-      (subst (λ (k : Rest). Passes old.catalog.now old.limits (with_scan (resting rest) (reading_of old)) octets (n + m + 1)
-      (with_scan (resting k) (reading_of new))) (sym there)
-      (name_passes old.catalog.now old.limits (reading_of old) inside.inner rest octets token.kind b.kept n m token.left b.content fits (omega arith) b.found
-      b.says (subst IsCalm (sym now) tt) (subst IsStill (sym now) tt) now (reading_of new) passed within name
-      (name_colon (place (reading_of old)) token.kind b.kept b.content name b.says b.names)
-      (names_so (setting_of old) (spot_of old (rest.used + n)) (open_frames old) b.content name b.names) colon one does))
-    where
-      more : (a b c : ℕ) → a + b + c + 1 ≡ a + (b + c + 1)
-      more a b c = omega arith
-
-  -- in an open container a token that is a value at once is taken up
-  pub whole_strides : (payload : Payload) → n < length octets → behind ≡ past_token (place (reading_of old)) rest token.kind n → old.stage ≡ nows.Ready
-      → BeginsValue false (place (reading_of old)) rest octets token payload
-      → ended (setting_of old) (spot_of old (rest.used + n)) (open_frames old) (annotated old.notes payload) ≡ goes (reading_of new) → Strides old new octets n
-  whole_strides payload within there now b does =
-      value_strides old new moved rest behind octets token.kind b.kept n token.left b.content (annotated old.notes payload) inside rests move setting within
-      there now b.found b.says
-      (b.is (setting_of old) (spot_of old (rest.used + n)) (open_frames old) old.notes) does
-
--- what is so of a reader in an open container doesn't mind the reader of tokens beside the scanner
-inside_beside : (r : TextReader) (b : TokenReader) (octets : List ℕ) → Inside r octets → Inside (with_beside r b) octets
-inside_beside r b octets h = record { some = h.some; inner = h.inner; fits = h.fits; room = h.room; fine = h.fine }
-
--- nor do the octets ahead
-pub ahead_beside : (now : Now) (r : TextReader) (b : TokenReader) (rest : Rest) (octets : List ℕ) → TokenAhead now r rest octets
-    → TokenAhead now (with_beside r b) rest octets
-ahead_beside now r b rest octets h = record { inside = inside_beside r b octets h.inside; rests = h.rests; stage = h.stage }
-
--- a value that was found is there
-pub part_begins : (b : Bool) (p : Place) (r : Rest) (octets : List ℕ) (s : Scalar) (q payload : Payload) → FoundPart p r octets s q → payload ≡ q → s.waits ≡ b
-    → BeginsValue b p r octets s.token payload
-part_begins b p r octets s q payload f same waits = record {
-  kept = f.token.kept;
-  content = f.token.content;
-  found = f.token.found;
-  says = f.token.says;
-  is = subst (λ b. IsValue b f.token.content payload) waits (subst (λ x. IsValue s.waits f.token.content x) (f.is ∙ sym same) f.token.is);
-}

@@ -206,38 +206,9 @@ module _ {V : Type 0} (leads : V → Event → V → Type 0) where
     pub given_gives : scanned mid.scanner ≡ s → Does leads es t (Ok Gives) mid a b → DidMeet leads es (λ _. behind_given l s t) (Ok met.Tells) mid a b
     given_gives scan d = (d.0, (λ again. ap (behind_given l s) d.1 ∙ ap (λ x. tells d.0 (with_scan x (reading_of mid [] []))) (sym scan)), d.2)
 
-    pub given_goes : scanned mid.scanner ≡ s → mid.limits ≡ l
-        → ((fs : List Frame) (ss : Symbols) → Holds mid fs ss → noticed mid.limits (reading_of mid fs ss) (scanned mid.scanner) ≡ uses (state_of mid fs ss))
-        → Does leads es t (Ok Goes) mid a b → DidMeet leads es (λ _. behind_given l s t) (Ok met.Uses) mid a b
-    given_goes scan same_limits notices d = (
-      d.0,
-      d.1,
-      λ again. ap (behind_given l s) d.2
-          ∙ (ap (λ x. noticed l (reading_of mid d.0 d.1) x) (sym scan)
-          ∙ (ap (λ x. noticed x (reading_of mid d.0 d.1) (scanned mid.scanner)) (sym same_limits) ∙ notices d.0 d.1 d.3.holds)),
-      d.3,
-    )
-
     -- it ended before the last octet
     pub left_gives : scanned mid.scanner ≡ s → Does leads es t (Ok Gives) mid a b → DidMeet leads es (λ again. behind_left again s t) (Ok met.Leaves) mid a b
     left_gives scan d = (d.0, (λ again. ap (behind_left again s) d.1 ∙ ap (λ x. leaves d.0 (with_scan x (reading_of mid [] []))) (sym scan)), d.2)
-
-    pub left_goes : scanned mid.scanner ≡ s → Does leads es t (Ok Goes) mid a b → DidMeet leads es (λ again. behind_left again s t) (Ok met.Again) mid a b
-    left_goes scan d = (
-      d.0,
-      d.1,
-      λ again. ap (behind_left again s) d.2 ∙ ap (λ x. again (with_scan x (reading_of mid d.0 d.1))) (sym scan),
-      d.3,
-    )
-
-    pub left_late : (reason : Reason) → scanned mid.scanner ≡ s → Does leads es t (Ok (Late reason)) mid a b
-        → DidMeet leads es (λ again. behind_left again s t) (Ok (met.Late reason)) mid a b
-    left_late reason scan d = (
-      d.0,
-      d.1,
-      λ again. ap (behind_left again s) d.2 ∙ ap (λ x. or_worse reason (again (with_scan x (reading_of mid d.0 d.1)))) (sym scan),
-      d.3,
-    )
 
   -- 6. What the scanner answered.
 

@@ -8,8 +8,7 @@ use Rattle.ion_model.specs.declared.value.Field.{Field}
 use Rattle.ion_model.specs.declared.value.Payload.{Payload}
 use Rattle.ion_model.specs.declared.value.Payload.TheOpen.{Payload-F}
 use Rattle.ion_model.specs.declared.value.Payload.TheViews as views
-use Rattle.ion_model.specs.Kept as kepts
-use Rattle.ion_model.specs.Kept.{AreTexts, IsKept, KeptPayload, KeptItems, KeptFields, AreKept}
+use Rattle.ion_model.specs.Kept.{IsKept, AreKept}
 use Rattle.ion_model.specs.Measures.{Layer, depth, layer_depth, greatest}
 use Rattle.ion_model.specs.laws.Measures.{depth-out}
 use Rattle.ion_visiting.specs.declared.bracket.Bracket.{Bracket}
@@ -17,12 +16,14 @@ use Rattle.ion_visiting.specs.declared.bracket.Bracket.TheVariants as brackets
 use Rattle.ion_visiting.specs.declared.building.Open.TheVariants as places
 use Rattle.ion_visiting.specs.Building.{Built, fresh}
 use Rattle.ion_visiting.specs.Events.{Event, part, annotation, name, opens, closes, ended, within, events_of, field_events, layer_events, stream_events, Led}
+use Rattle.ion_visiting.specs.KeptEvents.{AreKeptEvents}
+use Rattle.ion_visiting.specs.laws.KeptEvents as kept_events
 use Rattle.ion_visiting.specs.laws.Built.{is_end, Awaits, value_awaited}
 use Rattle.ion_visiting.specs.laws.Led.{events_out}
 use Rattle.ion_text.specs.Output.{symbol_text, notes_text, enclosed, value_text, field_text, layer_text, adds, text_of}
 use Rattle.ion_text.specs.laws.writing.Output.{text-out}
-use Rattle.ion_text.specs.visiting.Transcribing.{open_octet, bracket_close, octet_between}
-use Rattle.ion_text.specs.visiting.TextOut.{Written, no_text, lines, between, front, with_begun, with_item, with_open, with_close, wrote, KeptEvent, Writes}
+use Rattle.ion_text.specs.visiting.Brackets.{open_octet, bracket_close, octet_between}
+use Rattle.ion_text.specs.visiting.TextOut.{Written, no_text, lines, between, front, with_begun, with_item, with_open, with_close, wrote, Writes}
 
 -- 1. Events one behind the other.
 
@@ -31,26 +32,16 @@ abbrev wrote_all : List Event → Written → Written
 wrote_all [] a = a
 wrote_all (e ∷ es) a = wrote_all es (wrote a e)
 
--- each is such as the types keep
-abbrev AreKeptEvents : List Event → Type 0
-AreKeptEvents [] = ⊤
-AreKeptEvents (e ∷ es) = KeptEvent e × AreKeptEvents es
-
 led_wrote : (es : List Event) (a b : Written) → Led Writes es a b → b ≡ wrote_all es a
 led_wrote [] a b h = sym h
 led_wrote (e ∷ es) a b h = led_wrote es h.0 b h.2 ∙ ap (wrote_all es) h.1.is
 
 led_kept : (es : List Event) (a b : Written) → Led Writes es a b → AreKeptEvents es
-led_kept [] a b h = tt
-led_kept (e ∷ es) a b h = (h.1.kept, led_kept es h.0 b h.2)
+led_kept = kept_events.led_kept Writes (λ a b e h. h.kept)
 
 wrote_both : (es fs : List Event) (a : Written) → wrote_all (es ++ fs) a ≡ wrote_all fs (wrote_all es a)
 wrote_both [] fs a = refl
 wrote_both (e ∷ es) fs a = wrote_both es fs (wrote a e)
-
-kept_split : (es fs : List Event) → AreKeptEvents (es ++ fs) → AreKeptEvents es × AreKeptEvents fs
-kept_split [] fs h = (tt, h)
-kept_split (e ∷ es) fs h = let s = kept_split es fs h.1 in ((h.0, s.0), s.1)
 
 -- 2. What is written of a value is its text.
 
@@ -164,63 +155,11 @@ each_wrote (suc n) = record {
 value_wrote : (v : Value) (a : Written) → wrote_all (events_of v) a ≡ with_item a (value_text v)
 value_wrote v = (each_wrote (suc (depth v))).value v (omega arith)
 
--- 3. Values whose events the types keep are kept.
-
-notes_kept : (ss : List (Option (List ℕ))) → AreKeptEvents (map annotation ss) → AreTexts ss
-notes_kept [] h = tt
-notes_kept (s ∷ ss) h = (h.0, notes_kept ss h.1)
-
-record Kept (n : ℕ) : Type 0 where
-  value : (v : Value) → depth v < n → AreKeptEvents (events_of v) → IsKept v
-
-items_kept : (n : ℕ) → Kept n → (vs : List Value) → greatest (map depth vs) < n → AreKeptEvents (flat_map events_of vs) → KeptItems vs
-items_kept n h [] small k = kepts.no_items
-items_kept n h (v ∷ vs) small k =
-    let s = kept_split (events_of v) (flat_map events_of vs) k in
-    kepts.an_item v vs (h.value v (omega (arith, small)) s.0) (items_kept n h vs (omega (arith, small)) s.1)
-
-fields_kept : (n : ℕ) → Kept n → (ms : List Field) → greatest (map (λ f. depth f.value) ms) < n → AreKeptEvents (flat_map field_events ms) → KeptFields ms
-fields_kept n h [] small k = kepts.no_fields
-fields_kept n h (m ∷ ms) small k =
-    let s = kept_split (events_of m.value) (flat_map field_events ms) k.1 in
-    kepts.a_field m.name m.value ms k.0 (h.value m.value (omega (arith, small)) s.0) (fields_kept n h ms (omega (arith, small)) s.1)
-
-layer_kept : (n : ℕ) → Kept n → (d : Layer) → layer_depth d < suc n → AreKeptEvents (layer_events d) → KeptPayload (views.roll-Payload d)
-unfolding views.roll-Payload denote.Hole.Carrier.roll
-layer_kept n h (Payload-F.Null k) small t = t.0
-layer_kept n h (Payload-F.Truth b) small t = t.0
-layer_kept n h (Payload-F.Int z) small t = t.0
-layer_kept n h (Payload-F.Decimal d) small t = t.0
-layer_kept n h (Payload-F.Timestamp s) small t = t.0
-layer_kept n h (Payload-F.Symbol s) small t = t.0
-layer_kept n h (Payload-F.Str w) small t = t.0
-layer_kept n h (Payload-F.Clob w) small t = t.0
-layer_kept n h (Payload-F.Blob w) small t = t.0
-layer_kept n h (Payload-F.List vs) small t =
-    kepts.kept_list vs (items_kept n h vs (omega (arith, small)) (kept_split (flat_map events_of vs) (closes brackets.List ∷ []) t.1).0)
-layer_kept n h (Payload-F.Sexp vs) small t =
-    kepts.kept_sexp vs (items_kept n h vs (omega (arith, small)) (kept_split (flat_map events_of vs) (closes brackets.Sexp ∷ []) t.1).0)
-layer_kept n h (Payload-F.Fields ms) small t =
-    kepts.kept_fields ms (fields_kept n h ms (omega (arith, small)) (kept_split (flat_map field_events ms) (closes brackets.Fields ∷ []) t.1).0)
-
-each_kept : (n : ℕ) → Kept n
-each_kept zero = record { value = λ v small k. absurd (omega (arith, small)) }
-each_kept (suc n) = record {
-  value = λ v small k.
-      let d = views.out-Payload v.payload in
-      let s = kept_split (map annotation v.annotations) (layer_events d) (subst AreKeptEvents (events_out v) k) in
-      kepts.kept v.annotations v.payload (notes_kept v.annotations s.0)
-      (subst KeptPayload (views.roll-out-Payload v.payload) (layer_kept n (each_kept n) d (omega (arith, small, depth-out v)) s.1));
-}
-
-value_kept : (v : Value) → AreKeptEvents (events_of v) → IsKept v
-value_kept v = (each_kept (suc (depth v))).value v (omega arith)
-
 -- a value that was told is written behind what was, and is kept
 pub value_told : (v : Value) (a b : Written) → Led Writes (events_of v) a b → (b ≡ with_item a (value_text v)) × IsKept v
-value_told v a b h = (led_wrote (events_of v) a b h ∙ value_wrote v a, value_kept v (led_kept (events_of v) a b h))
+value_told v a b h = (led_wrote (events_of v) a b h ∙ value_wrote v a, kept_events.value_kept v (led_kept (events_of v) a b h))
 
--- 4. Values of the top level.
+-- 3. Values of the top level.
 
 -- lines, and nothing behind them
 abbrev of_lines : List ℕ → Written
@@ -235,12 +174,6 @@ values_wrote (v ∷ s) w =
     ∙ ap of_lines (ap (λ x. (x ++ value_text v) ++ codes "\n") (append-nil w) ∙ append_assoc w (value_text v) (codes "\n")))
     ∙ values_wrote s (w ++ adds v) ∙ ap of_lines (append_assoc w (adds v) (text_of s))
 
-values_kept : (s : List Value) → AreKeptEvents (stream_events s) → AreKept s
-values_kept [] h = tt
-values_kept (v ∷ s) h =
-    let k = kept_split (events_of v ++ ended ∷ []) (stream_events s) h in
-    (value_kept v (kept_split (events_of v) (ended ∷ []) k.0).0, values_kept s k.1)
-
 -- values that were told and ended are written as their document, of whole lines, and are kept
 pub values_told : (s : List Value) (b : Written) → Led Writes (stream_events s) no_text b
     → (b.octets ≡ text_of s) × (lines b ≡ text_of s) × AreKept s
@@ -248,10 +181,10 @@ values_told s b h =
     let end : b ≡ of_lines (text_of s) = led_wrote (stream_events s) no_text b h ∙ values_wrote s [] in (
       ap (λ (x : Written). x.octets) end,
       ap lines end ∙ take_all (length (text_of s)) (text_of s) (omega arith),
-      values_kept s (led_kept (stream_events s) no_text b h),
+      kept_events.values_kept s (led_kept (stream_events s) no_text b h),
     )
 
--- 5. What is begun behind them.
+-- 4. What is begun behind them.
 
 -- none of these ends a value
 abbrev AreInside : List Event → Type 0
@@ -302,3 +235,10 @@ begun_told s v es fs b is h =
     let inside = awaited_inside es fs fresh whole (subst (λ x. Led Awaits x fresh whole) is (value_awaited v (places.Top None) [] refl)) in
     let end = led_wrote (stream_events s ++ es) no_text b h ∙ wrote_both (stream_events s) es no_text ∙ ap (wrote_all es) (values_wrote s []) in
     lines_stay (text_of s) b (subst (GoesOn (of_lines (text_of s))) (sym end) (events_go es (of_lines (text_of s)) inside))
+
+-- 6. What is written behind other octets.
+pub value_behind : (v : Value) (front : List ℕ) (b : Written) → Led Writes (events_of v) (record no_text { octets = front }) b
+    → (b.octets ≡ front ++ value_text v) × IsKept v
+value_behind v front b h =
+    let k = value_told v (record no_text { octets = front }) b h in
+    (ap (λ (x : Written). x.octets) k.0 ∙ ap (λ w. w ++ value_text v) (append-nil front), k.1)

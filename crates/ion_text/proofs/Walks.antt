@@ -1,69 +1,15 @@
--- Values that are gone over and not built.
-use Rattle.std.proofs.Common.{◌≡◌, ◌≢◌, ℕ, Bool, true, false, List, [], ◌∷◌, get_or, Option, Some, Ok, refl, ap, arith, ◌∙◌}
+-- What a word is as a value.
+use Rattle.std.proofs.Common.{◌≡◌, ◌≢◌, ℕ, Bool, true, false, List, [], ◌∷◌, get_or, Some, Ok, refl, ap, arith, ◌∙◌}
 use Rattle.std.specs.Prelude.{if◌then◌else◌, ◌==◌, ◌&&◌, ◌||◌, codes}
 use Rattle.std.specs.Str.{bytes_eq}
 use Rattle.std.proofs.lemmas.Bool.{cond-true, cond-false}
 use Rattle.std.proofs.lemmas.Bool.Decides.{nat_tests}
-use Rattle.ion_atoms.specs.declared.kind.Kind.{Kind}
 use Rattle.ion_atoms.specs.declared.kind.Kind.TheVariants as sorts
-use Rattle.ion_model.specs.declared.value.Payload.{Payload}
 use Rattle.ion_model.specs.declared.value.Payload.TheVariants as payloads
-use Rattle.ion_model.specs.declared.value.Payload.TheViews as views
-use Rattle.ion_model.specs.Kinds.{layer_kind}
-use Rattle.ion_model.specs.Measures.{Layer, bare}
-use Rattle.ion_model.specs.laws.Measures.{depth-out, nodes-bare, layer_depth, layer_nodes}
-use Rattle.ion_scalar.specs.declared.number.Number.{Number}
-use Rattle.ion_scalar.specs.declared.number.Number.TheVariants as numbers
 use Rattle.ion_text.specs.Grammar.{behind_front, is_keyword, is_version, the_marker, version_parts}
 use Rattle.ion_text.specs.declared.state.Held.TheVariants as helds
 use Rattle.ion_text.specs.machine.EachToken.{held_word, held_payload}
 use Rattle.ion_text.specs.machine.FrontTokens.{is_marker}
-use Rattle.ion_visiting.specs.Parts.{number_payload}
-use Rattle.ion_text.specs.machine.Walked.{IsFlat}
-
--- values without others in them
-
-flat : (p : Payload) (d : Layer) (k : Kind) → views.out-Payload p ≡ d → layer_depth d ≡ 0 → layer_nodes d ≡ 1 → layer_kind d ≡ k → IsFlat p k
-flat p d k e deep one kind = record {
-  sort = ap layer_kind e ∙ kind;
-  deep = depth-out (bare p) ∙ (ap layer_depth e ∙ deep);
-  counted = nodes-bare p d e ∙ one;
-}
-
--- a null of any kind has no values in it
-pub flat_null : (k : Kind) → IsFlat (payloads.Null k) k
-flat_null k = flat (payloads.Null k) _ k (views.outs-Null k) refl refl refl
-
--- a boolean has no values in it
-pub flat_truth : (b : Bool) → IsFlat (payloads.Truth b) sorts.Bool
-flat_truth b = flat (payloads.Truth b) _ sorts.Bool (views.outs-Truth b) refl refl refl
-
--- a symbol has no values in it
-pub flat_symbol : (s : Option (List ℕ)) → IsFlat (payloads.Symbol s) sorts.Symbol
-flat_symbol s = flat (payloads.Symbol s) _ sorts.Symbol (views.outs-Symbol s) refl refl refl
-
--- a string has no values in it
-pub flat_text : (w : List ℕ) → IsFlat (payloads.Str w) sorts.Str
-flat_text w = flat (payloads.Str w) _ sorts.Str (views.outs-Str w) refl refl refl
-
--- a clob has no values in it
-pub flat_clob : (w : List ℕ) → IsFlat (payloads.Clob w) sorts.Clob
-flat_clob w = flat (payloads.Clob w) _ sorts.Clob (views.outs-Clob w) refl refl refl
-
--- a blob has no values in it
-pub flat_blob : (w : List ℕ) → IsFlat (payloads.Blob w) sorts.Blob
-flat_blob w = flat (payloads.Blob w) _ sorts.Blob (views.outs-Blob w) refl refl refl
-
-abbrev pub number_sort : Number → Kind
-number_sort (numbers.Int z) = sorts.Int
-number_sort (numbers.Decimal d) = sorts.Decimal
-number_sort (numbers.Timestamp t) = sorts.Timestamp
-
--- a number is an int, a decimal or a timestamp, and has no values in it
-pub flat_number : (n : Number) → IsFlat (number_payload n) (number_sort n)
-flat_number (numbers.Int z) = flat (payloads.Int z) _ sorts.Int (views.outs-Int z) refl refl refl
-flat_number (numbers.Decimal d) = flat (payloads.Decimal d) _ sorts.Decimal (views.outs-Decimal d) refl refl refl
-flat_number (numbers.Timestamp t) = flat (payloads.Timestamp t) _ sorts.Timestamp (views.outs-Timestamp t) refl refl refl
 
 -- words
 

@@ -3,7 +3,6 @@ pub mod Deciding
 pub mod Output
 pub mod Calls
 pub mod Writing
-pub mod Carrying
 pub mod machine
 pub mod walk
 pub mod visiting

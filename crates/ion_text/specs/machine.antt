@@ -9,8 +9,6 @@ pub mod Progress
 pub mod AtOnce
 pub mod Nested
 pub mod Walked
-pub mod Alike
-pub mod Reordered
 pub mod FrontTokens
 pub mod LongStrings
 pub mod Places

@@ -1,7 +1,4 @@
--- What visitors take of values that are gone over, and what they make of them.
-pub mod Parts
+-- What is found of octets in memory, and what visitors make of what they are told.
 pub mod Walks
-pub mod Transcribing
+pub mod Brackets
 pub mod TextOut
-pub mod Building
-pub mod Telling

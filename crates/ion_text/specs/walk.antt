@@ -7,3 +7,4 @@ pub mod Fronts
 pub mod Advances
 pub mod Rare
 pub mod Runs
+pub mod Builds

@@ -1,18 +1,17 @@
 //! Documents of Ion text (Ion 1.0, "Ion Text Encoding"): their reader and their writer.
 #![tactic(auto)]
 
-mod building;
+mod brackets;
 mod display;
 mod escape;
 pub mod laws;
 mod reader;
+mod reasons;
 mod scalar;
 mod spelled;
-mod spelling;
 mod state;
 mod text_out;
-mod transcription;
-mod visitor;
+mod tokens;
 mod walk;
 mod words;
 mod writer;

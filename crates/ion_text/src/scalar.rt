@@ -4,16 +4,20 @@ ghost use Rattle.std.specs.Prelude.{◌≡◌, ◌++◌, OnOk, IsOkUnless, IsUtf
 ghost use Rattle.std.specs.List.{list_all};
 ghost use Rattle.ion_atoms.specs.declared.refusal.Reason.TheVariants as reasons;
 ghost use Rattle.ion_scalar.specs.text.Texts.{number_text};
+ghost use Rattle.ion_model.specs.Kept.{KeptPayload};
+ghost use Rattle.ion_model.specs.declared.value.Payload.TheViews.{out-Payload};
 ghost use Rattle.ion_symtab.specs.declared.fault.Fault.TheVariants as faults;
+ghost use Rattle.ion_visiting.specs.Parts.{payload_of};
 ghost use Rattle.ion_tokens.specs.Octets.{is_word_octet};
-ghost use Rattle.ion_text.specs.Output.{begins_identifier, is_identifier, is_unquoted, known_text, symbol_text, null_text, truth_text, blob_text, clob_text};
+ghost use Rattle.ion_text.specs.Output.{begins_identifier, is_identifier, is_unquoted, known_text, symbol_text, null_text, truth_text, blob_text, clob_text, layer_text};
 
-use crate::escape::{OF_CLOB, OF_SYMBOL, put_quoted};
+use crate::escape::{OF_CLOB, OF_STRING, OF_SYMBOL, put_quoted};
 use crate::words::is_keyword;
 use base64::engine::general_purpose::STANDARD;
 use ion_model::{Kind, Reason, Symbol};
 use ion_scalar::{Number, put_number};
 use ion_symtab::Fault;
+use ion_visiting::{Part, part_kept};
 use std::alloc::Global;
 
 /// A letter or `_`.
@@ -157,4 +161,22 @@ pub fn put_blob(alloc: Global, octets: &[u8], out: &mut Vec<u8>) -> Result<(), F
     out.extend_from_slice(text.as_bytes())?;
     out.extend_from_slice(b"}}")?;
     Ok(())
+}
+
+/// Appends a value of one token, which is no number.
+pub(crate) fn put_part(alloc: Global, said: &Part<'_>, out: &mut Vec<u8>) -> Result<(), Fault>
+    ensures ok { let level = out-Payload (payload_of said.now) in
+        OnOk result (out.new.items ≡ out.old.items ++ layer_text level) }
+    ensures kept { KeptPayload (payload_of said.now) }
+    ensures memory { IsOkUnless result faults.Memory }
+{
+    part_kept(said);
+    match said {
+        Part::Null(kind) => put_null(*kind, out),
+        Part::Truth(truth) => put_truth(*truth, out),
+        Part::Symbol(text) => put_known(text, out),
+        Part::Str(text) => put_quoted(OF_STRING, text.as_bytes(), out),
+        Part::Clob(octets) => put_clob(octets, out),
+        Part::Blob(octets) => put_blob(alloc, octets, out),
+    }
 }

@@ -5,8 +5,8 @@ ghost use Rattle.ion_symtab.specs.declared.fault.Fault.TheVariants as faults;
 ghost use Rattle.ion_text.specs.Output.{symbol_text};
 ghost use Rattle.ion_text.specs.visiting.TextOut.{between, front, lines, no_text, with_begun, without_begun, without_lines};
 
-use crate::scalar::{put_known, put_numeral};
-use crate::transcription::{bracket_close, octet_between, open_octet, put_part};
+use crate::brackets::{bracket_close, octet_between, open_octet};
+use crate::scalar::{put_known, put_numeral, put_part};
 use ion_scalar::Number;
 use ion_symtab::Fault;
 use ion_visiting::{Bracket, Part, Visitor, number_kept, text_kept};
@@ -58,6 +58,28 @@ impl TextOut {
             around: Vec::new(alloc),
             before: None,
         }
+    }
+
+    /// Nothing yet, behind these octets, which are no line.
+    pub(crate) fn behind(alloc: Global, octets: Vec<u8>) -> TextOut
+        ensures { result ≡ record no_text { octets = octets.items } }
+    {
+        TextOut {
+            alloc,
+            octets,
+            whole: 0,
+            around: Vec::new(alloc),
+            before: None,
+        }
+    }
+
+    /// All that is written.
+    pub(crate) fn into_octets(self) -> Vec<u8>
+        ensures { result.items ≡ self.octets }
+    {
+        let TextOut { octets, around, .. } = self;
+        drop(around);
+        octets
     }
 
     /// The lines of the values that ended, each with its LF, which `forget_lines` lets go.

@@ -1,18 +1,20 @@
 //! The reader of text documents that holds no values: what it holds, and what ends a value.
-ghost use Rattle.std.specs.Prelude.{◌≡◌, ◌++◌, [], List, nat_lt, length, true, false, Ok, Err, OnOk, IfErr, ◌⊎◌};
+ghost use Rattle.std.specs.Prelude.{◌≡◌, ◌++◌, ◌∷◌, [], List, nat_lt, length, true, false, Ok, Err, OnOk, IfErr, ◌⊎◌};
 ghost use Rattle.ion_atoms.specs.declared.refusal.Reason.TheVariants.{Memory};
 ghost use Rattle.ion_model.specs.Kinds.{is_table};
 ghost use Rattle.ion_model.specs.Measures.{annotated};
 ghost use Rattle.ion_symtab.specs.Next.{next};
+ghost use Rattle.ion_model.specs.declared.value.Payload.{Payload};
 ghost use Rattle.ion_model.specs.declared.value.Payload.TheVariants as payloads;
+ghost use Rattle.ion_model.specs.declared.value.Payload.TheViews.{out-Payload};
 ghost use Rattle.ion_model.specs.declared.value.Value.{Value as AnyValue};
-ghost use Rattle.ion_visiting.specs.Events.{events_of};
+ghost use Rattle.ion_visiting.specs.Events.{events_of, layer_events, part};
 ghost use Rattle.ion_visiting.specs.Parts.{number_payload, payload_of};
 ghost use Rattle.ion_text.specs.declared.state.Frame.{Frame};
 ghost use Rattle.ion_text.specs.declared.state.Now.TheVariants as nows;
 ghost use Rattle.ion_text.specs.machine.EachToken.{Symbols, place, begun_at, ended};
 ghost use Rattle.ion_text.specs.machine.Run.{is_top};
-ghost use Rattle.ion_visiting.specs.Tables.{WasTold};
+ghost use Rattle.ion_visiting.specs.Tables.{WasTold, is_of_table};
 ghost use Rattle.ion_text.specs.walk.Holds.{AreAround, Does, DoesAlone, Holds, SameSetting, behind_value, brackets_of, calm, is_inside, open_brackets, reading_of, setting_of, spot_of, told, told_in};
 
 use crate::state::{Effect, Now};
@@ -34,10 +36,12 @@ mod long_strings;
 mod octets;
 mod on_token;
 mod rare_tokens;
+mod running_out;
 mod settling;
 mod stride;
 mod symbol_ids;
 mod to_next_token;
+mod untold;
 
 /// A reader of a text document that comes in pieces (Ion 1.0, "Ion Text Encoding"). It tells a
 /// visitor the values event by event, and holds none of them.
@@ -169,10 +173,15 @@ impl TextWalk<'_> {
     }
 
     /// From now on this may come next.
+    #[inline(always)]
     fn set_stage(&mut self, stage: Now)
         ensures { self.new ≡ record self.old { stage = stage } }
     {
-        drop(mem::replace(&mut self.stage, stage));
+        // Most often nothing waits that is let go.
+        match mem::replace(&mut self.stage, stage) {
+            Now::Ready | Now::After | Now::Name => {}
+            waiting => drop(waiting),
+        }
     }
 
     /// What may come, or waits; from now on nothing waits.
@@ -185,7 +194,30 @@ impl TextWalk<'_> {
     }
 
     /// Tells a part, which with the annotations before it is a whole value that ended at `end`.
+    #[inline(always)]
     fn whole<V: Visitor>(
+        &mut self,
+        said: &Part<'_>,
+        end: u64,
+        visitor: &mut V,
+    ) -> Result<Effect, Reason>
+        requires { self.old.stage ≡ nows.Ready }
+        ensures does { (fs : List Frame) (ss : Symbols) → Holds self.old fs ss →
+            Does V.takes (told fs ss)
+            (ended (setting_of self.old) (spot_of self.old end) fs
+            (annotated ss (payload_of said.now)))
+            result self.new visitor.old visitor.new }
+        ensures setting { SameSetting self.old self.new }
+    {
+        if self.needs_telling(visitor) {
+            return self.whole_told(said, end, visitor);
+        }
+        self.whole_untold(end, visitor)
+    }
+
+    /// The same where it has to be told.
+    #[inline(never)]
+    fn whole_told<V: Visitor>(
         &mut self,
         said: &Part<'_>,
         end: u64,
@@ -243,7 +275,36 @@ impl TextWalk<'_> {
         self.ended(end)
     }
 
+    /// Whether a part has to be told: the visitor heeds it, or it may be one of a local symbol table.
+    #[inline(always)]
+    fn needs_telling<V: Visitor>(&self, visitor: &V) -> bool
+        ensures plain { result ≡ false → is_of_table self.now.filter.table true ≡ false }
+        ensures unheeded { result ≡ false → (payload : Payload) →
+            V.takes visitor.now (part payload) visitor.now }
+    {
+        !visitor.heeds_nothing() || self.filter.may_be_table()
+    }
+
+    /// A part that needn't be told ended at `end`, and with it a value.
+    #[inline(always)]
+    fn whole_untold<V: Visitor>(&mut self, end: u64, visitor: &V) -> Result<Effect, Reason>
+        requires now { self.old.stage ≡ nows.Ready }
+        requires plain { is_of_table self.old.filter.table true ≡ false }
+        requires unheeded { (payload : Payload) → V.takes visitor.now (part payload) visitor.now }
+        ensures does { (payload : Payload) →
+            layer_events (out-Payload payload) ≡ part payload ∷ [] →
+            (fs : List Frame) (ss : Symbols) → Holds self.old fs ss →
+            Does V.takes (told fs ss)
+            (ended (setting_of self.old) (spot_of self.old end) fs (annotated ss payload))
+            result self.new visitor.now visitor.now }
+        ensures setting { SameSetting self.old self.new }
+    {
+        let _passes = self.filter.lets_pass();
+        self.ended(end)
+    }
+
     /// A value that was told ended at `end`.
+    #[inline(always)]
     fn ended(&mut self, end: u64) -> Result<Effect, Reason>
         ensures does { (fs : List Frame) (v : AnyValue) →
             open_brackets self.old ≡ brackets_of fs → AreAround fs →

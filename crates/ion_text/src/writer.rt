@@ -1,20 +1,15 @@
 //! The writer of text documents.
-ghost use Rattle.std.specs.Prelude.{◌≡◌, ◌+◌, ◌<◌, ◌^◌, ◌++◌, Some, None, Err, true, false, [], codes, length, OnOk, OnErr, IfErr, IfOk, IfSome, IsNone};
+ghost use Rattle.std.specs.Prelude.{◌≡◌, ◌+◌, ◌<◌, ◌++◌, Some, None, Err, true, false, [], codes, OnOk, OnErr, IfErr};
 ghost use Rattle.ion_model.specs.Kept.{IsKept};
-ghost use Rattle.ion_model.specs.Kinds.{is_table};
 ghost use Rattle.ion_symtab.specs.declared.fault.Fault.{Fault as AnyFault};
 ghost use Rattle.ion_symtab.specs.declared.fault.Fault.TheVariants as faults;
 ghost use Rattle.ion_symtab.specs.Took.{Took, TookFront};
 ghost use Rattle.ion_text.specs.Output.{adds};
 ghost use Rattle.ion_text.specs.Writing.{IsWritingFault};
-ghost use Rattle.ion_text.specs.Carrying.{WritesValue};
-ghost use Rattle.ion_model.specs.declared.value.Value.{Value as AnyValue};
 
-use crate::spelling::put_value;
-use crate::transcription::transcribe_visited;
+use crate::spelled::put_value;
 use ion_model::Value;
 use ion_symtab::{Fault, Outlet, flushed, write_whole};
-use ion_visiting::{Visitable, is_tried};
 use std::alloc::Global;
 use std::fmt::{self, Debug, Formatter};
 use std::marker::Model;
@@ -26,8 +21,6 @@ pub struct TextWriter {
     alloc: Global,
     /// The line that was written last; the next one takes its memory.
     line: Vec<u8>,
-    /// How many values in a row weren't carried.
-    misses: u32,
     /// The fault that each call answers from now on.
     failed: Option<Fault>,
 }
@@ -55,7 +48,6 @@ impl TextWriter {
         TextWriter {
             alloc,
             line: Vec::new(alloc),
-            misses: 0,
             failed: None,
         }
     }
@@ -82,36 +74,6 @@ impl TextWriter {
         }
         let answer = self.put_next(out, value);
         self.note_fault(answer)
-    }
-
-    /// Takes up the value at the front of a piece of what can be gone over, and writes it as `put`
-    /// does, but without building it: how many octets were taken up, and the answer of `put`.
-    ///
-    /// `None`, with nothing taken up and nothing written, where no value is gone over there, where
-    /// memory runs out before one is, and where the writer has answered a fault. Where that was so
-    /// of several in a row, few are tried.
-    pub fn put_visited<V: Visitable, W: Outlet>(
-        &mut self,
-        out: &mut W,
-        items: &mut V,
-        piece: &[u8],
-    ) -> Option<(usize, Result<(), Fault>)>
-        requires room { V.taken items.old + length piece.now < 2 ^ 63 }
-        ensures writes { IfSome result (λ put. (v : AnyValue) × (is_table v ≡ false) × IsKept v
-            × V.took_up items.old items.new piece.now put.0 v
-            × WritesValue W.Outlet self.old self.new out.old out.new v put.1) }
-        ensures stays { IsNone result →
-            (items.new ≡ items.old) × (self.new ≡ self.old) × (out.new ≡ out.old) }
-    {
-        self.misses = self.misses.wrapping_add(1);
-        if self.failed.is_some() || !is_tried(self.misses) {
-            return None;
-        }
-        self.line.clear();
-        let used = transcribe_visited(self.alloc, items, piece, &mut self.line)?;
-        self.misses = 0;
-        let answer = write_line(out, &mut self.line);
-        Some((used, self.note_fault(answer)))
     }
 
     /// Ends the document behind the last line, and makes the device pass on all that it took.

@@ -1,12 +1,11 @@
 -- Tokens at the front of octets where a container is open: as values, and as names of fields.
 use Rattle.std.specs.Prelude.{◌≡◌, ℕ, ◌==◌, ◌&&◌, ◌||◌, Bool, true, false, not, nat_lt, List, Option, Some, None, Ok}
 use Rattle.ion_model.specs.declared.value.Payload.{Payload}
-use Rattle.ion_model.specs.declared.value.Payload.TheVariants as payloads
 use Rattle.ion_model.specs.Measures.{annotated}
 use Rattle.ion_tokens.specs.declared.token_reader.FoundToken.{FoundToken}
 use Rattle.ion_tokens.specs.declared.mode.Place.{Place}
 use Rattle.ion_tokens.specs.declared.plain_tokens.Rest.{Rest}
-use Rattle.ion_tokens.specs.Bodies.{Content, Word, Quoted, Short, TypedNull, Operator, Clob, Blob}
+use Rattle.ion_tokens.specs.Bodies.{Content, Word, Quoted, Short, TypedNull}
 use Rattle.ion_tokens.specs.machine.Rests.{IsFound}
 use Rattle.ion_tokens.specs.machine.Said.{said}
 use Rattle.ion_text.specs.Grammar.{is_keyword}
@@ -25,14 +24,6 @@ held_of (Word w) = Some (held_word w)
 held_of (Quoted w) = Some (helds.Symbol (Some w))
 held_of (TypedNull k) = Some (helds.Null k)
 held_of _ = None
-
--- what is a value at once
-abbrev pub value_of : Content → Option Payload
-value_of (Short w) = Some (payloads.Str w)
-value_of (Operator w) = Some (payloads.Symbol (Some w))
-value_of (Clob w) = Some (payloads.Clob w)
-value_of (Blob w) = Some (payloads.Blob w)
-value_of _ = None
 
 -- a word of the form of a version marker
 abbrev pub is_marker : Held → Bool

@@ -1,10 +1,5 @@
 -- The marks that open a container and those that close one, and where they stand at the front of octets.
-use Rattle.std.specs.Prelude.{◌≡◌, ◌≢◌, ◌<◌, ℕ, Bool, true, false, List, [], ◌∷◌, length, slice_index}
-use Rattle.ion_tokens.specs.declared.plain_tokens.Rest.{Rest}
-use Rattle.ion_tokens.specs.machine.Rests.{resting}
-use Rattle.ion_tokens.specs.machine.Views.{scanned}
-use Rattle.ion_text.specs.declared.reader.TextReader.{TextReader}
-use Rattle.ion_text.specs.machine.Views.{open_frames, IsFine}
+use Rattle.std.specs.Prelude.{◌≡◌, ◌≢◌, ℕ, Bool, true, false, List, ◌∷◌, slice_index}
 use Rattle.ion_tokens.specs.declared.mode.Mark.{Mark}
 use Rattle.ion_tokens.specs.declared.mode.Mark.TheVariants as marks
 use Rattle.ion_visiting.specs.declared.bracket.Bracket.{Bracket}
@@ -15,7 +10,6 @@ use Rattle.ion_text.specs.declared.state.Listing.{Listing}
 use Rattle.ion_text.specs.declared.state.Listing.TheVariants as listings
 use Rattle.ion_text.specs.declared.state.Now.{Now}
 use Rattle.ion_text.specs.declared.state.Now.TheVariants as nows
-use Rattle.ion_text.specs.machine.EachToken.{Reading}
 
 -- what stands around items
 abbrev pub bracket_in : Listing → Bracket
@@ -40,16 +34,6 @@ OpensAt octets brackets.List = slice_index octets 0 ≡ 91
 OpensAt octets brackets.Sexp = slice_index octets 0 ≡ 40
 OpensAt octets brackets.Fields = (slice_index octets 0 ≡ 123) × (slice_index octets 1 ≢ 123)
 
--- no item is open, the scanner rests there, and the octets begin with the open of a struct
-pub record OpensStruct (r : TextReader) (octets : List ℕ) (rest : Rest) : Type 0 where
-  pub rests : scanned r.scanner ≡ resting rest
-  pub fine : IsFine r
-  pub top : open_frames r ≡ []
-  pub bare : r.notes ≡ []
-  pub ready : r.stage ≡ nows.Ready
-  pub more : 1 < length octets
-  pub opens : OpensAt octets brackets.Fields
-
 -- the octet of a close
 abbrev pub close_octet : Bracket → ℕ
 close_octet brackets.List = 93
@@ -64,10 +48,3 @@ closes brackets.Sexp (frames.Items listings.Sexp ss vs ∷ fs) nows.Ready = true
 closes brackets.Fields (frames.Fields ss ms ∷ fs) nows.Name = true
 closes brackets.Fields (frames.Fields ss ms ∷ fs) nows.After = true
 closes _ _ _ = false
-
--- so the octet does, and another container stands around that
-pub record ClosesAt (r : Reading) (o : ℕ) (bracket : Bracket) : Type 0 where
-  pub octet : o ≡ close_octet bracket
-  pub fits : closes bracket r.frames r.now ≡ true
-  pub bare : r.notes ≡ []
-  pub nested : 1 < length r.frames

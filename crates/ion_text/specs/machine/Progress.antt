@@ -1,4 +1,4 @@
--- Runs over pieces, and what a reader stands for between two of them.
+-- Runs over pieces: what a walk over one does, and what is so behind it.
 use Rattle.std.specs.Prelude.{◌≡◌, ◌≢◌, ◌<◌, ◌≤◌, ℕ, ◌+◌, Bool, true, false, List, [], ◌∷◌, ◌++◌, length, take, drop, get_or, Option, Some, None, Result, Ok, Err, IfSome}
 use Rattle.ion_model.specs.declared.value.Value.{Value}
 use Rattle.ion_atoms.specs.declared.refusal.Reason.{Reason}
@@ -9,16 +9,11 @@ use Rattle.ion_symtab.specs.declared.limits.Limits.{Limits}
 use Rattle.ion_symtab.specs.declared.catalog.Catalog.{Catalog}
 use Rattle.ion_tokens.specs.declared.mode.Mode.{Mode}
 use Rattle.ion_tokens.specs.declared.mode.Mode.TheVariants as modes
-use Rattle.ion_tokens.specs.machine.Bounds.{IsSteady}
-use Rattle.ion_tokens.specs.machine.Views.{scanned, looks, failure, held_in, open_in_reader}
 use Rattle.ion_text.specs.declared.state.Now.{Now}
 use Rattle.ion_text.specs.declared.state.Now.TheVariants as nows
-use Rattle.ion_text.specs.declared.state.Taken.{Taken}
-use Rattle.ion_text.specs.declared.state.Taken.TheVariants as taken
-use Rattle.ion_text.specs.declared.reader.TextReader.{TextReader}
 use Rattle.ion_text.specs.machine.Run.{State, leaves, Run, run, eats, once_more, begun}
 use Rattle.ion_text.specs.machine.Pieces.{led}
-use Rattle.ion_text.specs.machine.Views.{state_of, IsFine, Told}
+use Rattle.ion_text.specs.machine.Views.{Told}
 
 -- a run over octets gave nothing more than the value that is held, with their last
 abbrev pub GaveLast : Run → ℕ → Option Value → State → Type 0
@@ -32,16 +27,6 @@ module _ (g : Catalog) (l : Limits) (to : ℕ) (m : State) (piece : List ℕ) wh
     pub before : State
     pub ran : run g l to m (take k piece) ≡ led before
     pub left : Told (eats g l before (get_or piece k 0)) leaves given now
-
-  -- over octets at the front of a piece a method did what a run over them does, unless memory ran out
-  abbrev pub Took : Result (ℕ × Taken) Refusal → TextReader → Type 0
-  Took (Ok took) r = Reached took.1
-    where
-      Reached : Taken → Type 0
-      Reached taken.Uses = (0 < took.0) × (took.0 ≤ length piece) × (run g l to m (take took.0 piece) ≡ led (state_of r))
-      Reached taken.Tells = (0 < took.0) × (took.0 ≤ length piece) × GaveLast (run g l to m (take took.0 piece)) (to + took.0) r.given (state_of r)
-      Reached taken.Leaves = LedLeaving took.0 r.given (state_of r)
-  Took (Err refusal) r = refusal.reason ≢ Memory → run g l to m piece ≡ record { given = []; now = Err refusal }
 
 -- What a run does from here over octets; behind a value whose end the first of them showed, which comes again, that shows the end of no
 -- second one.
@@ -75,28 +60,10 @@ module _ (g : Catalog) (l : Limits) (again : Bool) (to : ℕ) (m : State) (piece
   Advances (Ok step) awaited now = (step.used ≤ length piece) × StepStops step.used step.value awaited now
   Advances (Err refusal) awaited now = refusal.reason ≢ Memory → resumed g l again to m piece ≡ record { given = []; now = Err refusal }
 
--- what no step changes
-pub record SameSettings (old new : TextReader) : Type 0 where
-  pub catalog : new.catalog ≡ old.catalog
-  pub limits : new.limits ≡ old.limits
-  pub failed : new.failed ≡ old.failed
-
 -- the refusal that each call answers, if one came: by the reader or by its scanner
 abbrev pub or_first : Option Refusal → Option Refusal → Option Refusal
 or_first None later = later
 or_first (Some refusal) later = Some refusal
-
--- the refusal that each call of a reader answers, if one came
-abbrev pub failed : TextReader → Option Refusal
-failed r = or_first r.failed (failure r.scanner)
-
--- how many octets a reader has used
-abbrev pub octets_used : TextReader → ℕ
-octets_used r = (scanned r.scanner).used
-
--- how many octets of the open token are kept: by the scanner, and by the reader of tokens beside it
-abbrev pub octets_kept : TextReader → ℕ
-octets_kept r = held_in (scanned r.scanner) + length (open_in_reader r.beside)
 
 -- no value and no token has begun, so that no octet shows the end of one
 abbrev pub is_quiet : Now → Mode → Bool
@@ -108,10 +75,6 @@ abbrev pub pending_by : Bool → Option ℕ → ℕ
 pending_by quiet (Some o) = 0
 pending_by true None = 0
 pending_by false None = 1
-
--- how many values may come before another octet is used: none where the next octet can't show the end of one, or showed it already
-abbrev pub pending : TextReader → ℕ
-pending r = pending_by (is_quiet r.stage (scanned r.scanner).mode) r.awaited
 
 -- The run over these octets gave these values and ended in what the reader holds. Where an octet is awaited, it shows the end of the last
 -- of them, which came before it.
@@ -126,18 +89,6 @@ Ran g l u s m (Some o) =
       left : eats g l before o ≡ leaves value m;
       all : s ≡ given ++ (value, length u) ∷ [];
     }
-
--- a reader in memory stands for these octets, of which these values came
-pub record Stands (r : TextReader) (u : List ℕ) (s : List (Value × ℕ)) : Type 0 where
-  pub fine : r.failed ≡ None
-  pub scanner_fine : IsFine r
-  pub counted : octets_used r ≡ length u
-  pub steady : IsSteady (scanned r.scanner) (looks r.scanner)
-  pub ran : Ran r.catalog.now r.limits u s (state_of r) r.awaited
-
--- what the scanner always knows, it knows behind a step too
-abbrev pub StaysSteady : TextReader → TextReader → Type 0
-StaysSteady old new = IsSteady (scanned old.scanner) (looks old.scanner) → IsSteady (scanned new.scanner) (looks new.scanner)
 
 -- the end of octets was answered so, unless memory ran out
 abbrev pub DidEnd : ℕ → Result (Option Value) Refusal → Result (Option Value) Reason → Type 0

@@ -1,97 +1,29 @@
--- What a reader in memory stands for.
-use Rattle.std.specs.Prelude.{◌≡◌, ◌≢◌, ◌+◌, ◌≤◌, ◌||◌, ℕ, List, [], ◌∷◌, reverse, Option, Some, None, Result, Ok, Err, IsNone, Bool, true, false}
+-- What methods of a reader do of the machine's work, each said of the part of its state that it sees.
+use Rattle.std.specs.Prelude.{◌≡◌, ◌+◌, ◌≤◌, ◌||◌, ℕ, List, [], Option, Some, None, Result, Ok, Err, Bool, true, false}
 use Rattle.ion_model.specs.declared.value.Value.{Value}
 use Rattle.ion_atoms.specs.declared.refusal.Reason.{Reason}
-use Rattle.ion_atoms.specs.declared.refusal.Refusal.{Refusal}
-use Rattle.ion_atoms.specs.declared.refusal.Reason.TheVariants.{Memory}
 use Rattle.ion_text.specs.declared.state.Frame.{Frame}
-use Rattle.ion_text.specs.declared.state.Frame.TheVariants as frames
 use Rattle.ion_text.specs.declared.state.Now.{Now}
 use Rattle.ion_text.specs.declared.state.Now.TheVariants as nows
-use Rattle.ion_text.specs.declared.state.Effect.{Effect as Turned}
-use Rattle.ion_text.specs.declared.state.Effect.TheVariants.{Goes, Gives, Late}
 use Rattle.ion_text.specs.declared.state.Taken.{Taken}
-use Rattle.ion_text.specs.declared.state.Taken.TheVariants.{Uses, Tells, Leaves}
+use Rattle.ion_text.specs.declared.state.Taken.TheVariants.{Leaves}
 use Rattle.ion_text.specs.declared.state.Met.{Met}
 use Rattle.ion_text.specs.declared.state.Met.TheVariants as met
-use Rattle.ion_tokens.specs.declared.token_reader.TokenReader.{TokenReader}
 use Rattle.ion_tokens.specs.declared.token.Foresight.{Foresight}
 use Rattle.ion_tokens.specs.declared.token.Foresight.TheVariants as foresights
 use Rattle.ion_tokens.specs.declared.mode.Mode.{Mode}
 use Rattle.ion_tokens.specs.machine.Ahead.{is_quoting}
 use Rattle.ion_tokens.specs.machine.Bounds.{is_idle}
-use Rattle.ion_tokens.specs.machine.Views.{scanned, failure}
 use Rattle.ion_tokens.specs.machine.Scanning.{Known, Outcome, Next, Given, Left, Refused, start_of}
 use Rattle.ion_symtab.specs.declared.limits.Limits.{Limits}
-use Rattle.ion_symtab.specs.declared.catalog.Catalog.{Catalog}
-use Rattle.ion_text.specs.machine.Run.{State, Effect, uses, tells, leaves, fails, lesser, or_worse, on_scan}
-use Rattle.ion_text.specs.declared.reader.TextReader.{TextReader}
+use Rattle.ion_text.specs.machine.Run.{State, Effect, uses, fails, lesser}
 use Rattle.ion_tokens.specs.declared.token.Token.{Token as Found}
 use Rattle.ion_tokens.specs.Bodies.{content}
-use Rattle.ion_text.specs.machine.EachToken.{Setting, Spot, under, spot_at, Reading, Symbols, Turn, Token, goes, gives, refuses, late, at, ended}
-
--- in memory the innermost of the open containers is the last
-abbrev pub open_frames : TextReader → List Frame
-open_frames r = reverse r.frames.items
-
--- what stays of a reader
-abbrev pub setting_of : TextReader → Setting
-setting_of r = under r.catalog.now r.limits
-
--- a token of the open item of a reader ends at `end`
-abbrev pub spot_of : TextReader → ℕ → Spot
-spot_of r end = spot_at end r.start r.context
-
--- what a reader in memory holds, as the machine has it
-abbrev pub reading_of : TextReader → Reading
-reading_of r = record { start = r.start; context = r.context; frames = open_frames r; notes = r.notes; now = r.stage }
+use Rattle.ion_text.specs.machine.EachToken.{Reading, Symbols, Token, ended}
 
 -- a token of the scanner, as the machine takes it
 abbrev pub token_in : Found → Token
 token_in t = record { start = t.start; end = t.end; said = content t.body }
-
--- the turn gave the value that is held
-abbrev pub Gave : Turn → Option Value → Reading → Type 0
-Gave turn (Some v) r = turn ≡ gives v r
-Gave turn None r = ⊥
-
--- a method did what the machine does, unless memory ran out
-abbrev pub Does : Turn → Result Turned Reason → TextReader → Type 0
-Does turn (Ok Goes) r = turn ≡ goes (reading_of r)
-Does turn (Ok Gives) r = Gave turn r.given (reading_of r)
-Does turn (Ok (Late e)) r = turn ≡ late e (reading_of r)
-Does turn (Err reason) r = reason ≢ Memory → turn ≡ refuses reason
-
--- The innermost of these containers took up a value; those are open then, and so may come next. Unless memory ran out.
-abbrev pub Puts : List Frame → Value → Result Now Reason → List Frame → Type 0
-Puts fs v (Ok now) those = (setting : Setting) (spot : Spot) → ended setting spot fs v ≡ goes (at spot.start spot.context those [] now)
-Puts fs v (Err reason) those = reason ≢ Memory → (setting : Setting) (spot : Spot) → ended setting spot fs v ≡ refuses reason
-
--- a struct, a value of whose fields is open
-abbrev pub is_named : Frame → Bool
-is_named (frames.Named ss ms name) = true
-is_named _ = false
-
--- the innermost container is such a one
-abbrev pub has_field : List Frame → Bool
-has_field [] = false
-has_field (f ∷ fs) = is_named f
-
--- what no token changes
-pub record SameSetting (old new : TextReader) : Type 0 where
-  pub catalog : new.catalog ≡ old.catalog
-  pub limits : new.limits ≡ old.limits
-  pub scanner : new.scanner ≡ old.scanner
-  pub awaited : new.awaited ≡ old.awaited
-  pub failed : new.failed ≡ old.failed
-
--- between two octets a reader in memory is in this state
-abbrev pub state_of : TextReader → State
-state_of r = record { scan = scanned r.scanner; reading = reading_of r }
-
--- so far the scanner refused nothing
-abbrev pub IsFine : TextReader → Type 0
-IsFine r = IsNone (failure r.scanner)
 
 -- where nothing is refused, nothing comes of it
 abbrev pub Notices : Effect → Result (Unit {0}) Reason → State → Type 0
@@ -102,29 +34,6 @@ Notices e (Err reason) m = e ≡ fails reason
 abbrev pub Told : Effect → (Value → State → Effect) → Option Value → State → Type 0
 Told e with_it (Some v) m = e ≡ with_it v m
 Told e with_it None m = ⊥
-
--- a method did what an octet does, unless memory ran out
-abbrev pub DidTake : Effect → Result Taken Reason → TextReader → Type 0
-DidTake e (Ok Uses) r = e ≡ uses (state_of r)
-DidTake e (Ok Tells) r = Told e tells r.given (state_of r)
-DidTake e (Ok Leaves) r = Told e leaves r.given (state_of r)
-DidTake e (Err reason) r = reason ≢ Memory → e ≡ fails reason
-
--- the same where the octet may come again
-abbrev pub DidMeet : ((State → Effect) → Effect) → Result Met Reason → TextReader → Type 0
-DidMeet e (Ok met.Uses) r = (again : State → Effect) → e again ≡ uses (state_of r)
-DidMeet e (Ok met.Tells) r = (again : State → Effect) → Told (e again) tells r.given (state_of r)
-DidMeet e (Ok met.Leaves) r = (again : State → Effect) → Told (e again) leaves r.given (state_of r)
-DidMeet e (Ok met.Again) r = (again : State → Effect) → e again ≡ again (state_of r)
-DidMeet e (Ok (met.Late reason)) r = (again : State → Effect) → e again ≡ or_worse reason (again (state_of r))
-DidMeet e (Err reason) r = reason ≢ Memory → (again : State → Effect) → e again ≡ fails reason
-
--- what no octet changes
-pub record SameReader (old new : TextReader) : Type 0 where
-  pub catalog : new.catalog ≡ old.catalog
-  pub limits : new.limits ≡ old.limits
-  pub awaited : new.awaited ≡ old.awaited
-  pub failed : new.failed ≡ old.failed
 
 -- what is seen of an octet may go on a symbol
 abbrev pub goes_on_symbol : Foresight → Bool
@@ -169,18 +78,6 @@ abbrev pub count_of : Taken → ℕ
 count_of Leaves = 0
 count_of _ = 1
 
--- from what came of octets at the scanner, a method did what comes of them
-pub record DidWhatCame (g : Catalog) (l : Limits) (r : Reading) (x : Outcome) (m : Met) (new : TextReader) : Type 0 where
-  pub did : DidMeet (λ again. on_scan g l again r x) (Ok m) new
-  pub behind : IsBehind x (scanned new.scanner)
-  pub left : is_left x ≡ comes_again m
-
--- unless memory ran out
-abbrev pub MeetsWith : Catalog → Limits → Reading → Outcome → Result (ℕ × Met) Refusal → TextReader → Type 0
-MeetsWith g l r x (Ok m) new = DidWhatCame g l r x m.1 new
-MeetsWith g l r x (Err refusal) new = refusal.reason ≢ Memory → (refusal.offset ≡ decided x)
-    × ((again : State → Effect) → on_scan g l again r x ≡ fails refusal.reason)
-
 -- the reason for which an octet is refused that was refused already, and comes again
 abbrev pub worse : Reason → Result Taken Reason → Reason
 worse reason (Ok taken) = reason
@@ -222,23 +119,3 @@ pub record IsLull (l : Limits) (r : Reading) (s : Known) (count : ℕ) : Type 0 
   pub waits : lulls r.now s.mode ≡ true
   pub ended : ended_so_far r.now ≤ r.start + l.item
   pub room : s.used + count ≤ r.start + l.item
-
--- beside the scanner nothing counts
-abbrev pub with_beside : TextReader → TokenReader → TextReader
-with_beside r b = record {
-  alloc = r.alloc;
-  catalog = r.catalog;
-  limits = r.limits;
-  scanner = r.scanner;
-  beside = b;
-  recent = r.recent;
-  start = r.start;
-  context =
-      r.context;
-  frames = r.frames;
-  notes = r.notes;
-  stage = r.stage;
-  given = r.given;
-  awaited = r.awaited;
-  failed = r.failed;
-}

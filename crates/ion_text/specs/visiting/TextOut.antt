@@ -1,11 +1,11 @@
 -- The visitor that writes values as text as it is told them, in the writer's spelling.
-use Rattle.std.specs.Prelude.{◌≡◌, ℕ, List, [], ◌∷◌, ◌++◌, length, take, drop, Option, None, Some, codes, option_to_list, ⊤}
+use Rattle.std.specs.Prelude.{◌≡◌, ℕ, List, [], ◌∷◌, ◌++◌, length, take, drop, Option, None, Some, codes, option_to_list}
 use Rattle.ion_model.specs.declared.value.Payload.TheViews.{out-Payload}
-use Rattle.ion_model.specs.Kept.{IsText, KeptPayload}
 use Rattle.ion_visiting.specs.declared.bracket.Bracket.{Bracket}
 use Rattle.ion_visiting.specs.Events.{Event, part, annotation, name, opens, closes, ended}
+use Rattle.ion_visiting.specs.KeptEvents.{KeptEvent}
 use Rattle.ion_text.specs.Output.{symbol_text, layer_text}
-use Rattle.ion_text.specs.visiting.Transcribing.{open_octet, bracket_close, octet_between}
+use Rattle.ion_text.specs.visiting.Brackets.{open_octet, bracket_close, octet_between}
 
 -- what is written so far: the lines of the values that ended, and behind them what came of the one that is open; how many octets the lines
 -- are; what is open, the innermost first; and the octet that stands before the next item, if one does
@@ -69,13 +69,6 @@ wrote a (name s) = with_begun a (symbol_text s ++ codes ":")
 wrote a (opens x) = with_open a x
 wrote a (closes x) = with_close a x
 wrote a ended = with_end a
-
--- what is told is such as the types keep
-abbrev pub KeptEvent : Event → Type 0
-KeptEvent (part p) = KeptPayload p
-KeptEvent (annotation s) = IsText s
-KeptEvent (name s) = IsText s
-KeptEvent _ = ⊤
 
 -- an event that the types keep is written
 pub record Writes (a : Written) (e : Event) (b : Written) : Type 0 where

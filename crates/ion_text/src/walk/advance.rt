@@ -20,7 +20,7 @@ ghost use Rattle.ion_text.specs.walk.Runs.{Told, pending};
 ghost use Rattle.ion_text.specs.walk.Takes.{IsFine, SameReader, StaysSteady};
 
 use super::TextWalk;
-use crate::reader::advance::with_memory_at;
+use crate::reasons::with_memory_at;
 use crate::state::{Now, Taken};
 use ion_model::{Reason, Refusal};
 use ion_symtab::Walked;

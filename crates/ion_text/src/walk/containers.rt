@@ -76,6 +76,7 @@ impl TextWalk<'_> {
     }
 
     // What may come behind a comma, where one may stand behind a value.
+    #[inline(always)]
     fn behind_comma(&self) -> Option<Now>
         ensures { result ≡ behind_comma (open_brackets self.now) }
     {
@@ -109,6 +110,7 @@ impl TextWalk<'_> {
     }
 
     /// Behind a comma.
+    #[inline(always)]
     pub(super) fn on_comma(&mut self) -> Result<Effect, Reason>
         requires { self.old.stage ≡ nows.After }
         ensures does { (fs : List Frame) → Holds self.old fs [] →

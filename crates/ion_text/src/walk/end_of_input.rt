@@ -18,7 +18,7 @@ ghost use Rattle.ion_text.specs.walk.Runs.{Begins, Told, octets_kept};
 ghost use Rattle.ion_text.specs.walk.Takes.{IsFine};
 
 use super::TextWalk;
-use crate::reader::end_of_input::end_late;
+use crate::reasons::end_late;
 use crate::state::{Effect, Now};
 use ion_model::{Reason, Refusal};
 use ion_symtab::{Catalog, Context, Limits};

@@ -1,5 +1,5 @@
-//! Tokens that lie whole in a piece and end a value of the top level: the close of a container, or a
-//! value without others in it. Local symbol tables are left to the octets.
+//! Tokens that lie whole in a piece where no container is open, or that close the last one. The ends of
+//! local symbol tables are left to the octets.
 //!
 //! What else might come of such a token couldn't come, and is told as memory that ran out, which
 //! says nothing of the octets.
@@ -22,46 +22,71 @@ ghost use Rattle.ion_text.specs.walk.Strides.{EndsBy};
 
 use super::TextWalk;
 use super::rare_tokens::{rare_at, value_part};
-use crate::reader::escaped_tokens::may_be_rare;
-use crate::reader::finders::{
-    Scalar, begins_number, begins_symbol, number_at, string_at, symbol_at,
-};
-use crate::reader::nested_containers::close_mark;
-use crate::reader::symbols::behind_symbol;
+use super::untold::untold_number;
 use crate::state::{Effect, Now, Taken};
-use ion_model::{Kind, Reason};
+use crate::tokens::finders::{
+    Scalar, begins_number, begins_symbol, may_be_rare, number_at, string_at, symbol_at,
+};
+use crate::tokens::long_strings::begins_long;
+use crate::tokens::marks::{bracket_at, close_mark};
+use crate::tokens::symbols::behind_symbol;
+use ion_model::Reason;
 use ion_tokens::{Body, FoundToken, Place, Rest, TokenKind};
 use ion_visiting::{Part, Visitor};
 
 impl TextWalk<'_> {
-    /// Takes up a token that ends a value of the top level, with what has to be seen behind it: how
-    /// many octets that is, and what they did.
+    /// A token where no container is open: a value without others in it, which ends there, an open or
+    /// an annotation.
     #[inline(always)]
-    pub(super) fn take_last<V: Visitor>(
+    pub(super) fn take_top<V: Visitor>(
         &mut self,
         rest: &mut Rest,
         octets: &[u8],
         visitor: &mut V,
     ) -> Result<(usize, Taken), Reason>
+        requires top { (fs : List Frame) (ss : Symbols) → Holds self.old fs ss →
+            is_top fs ≡ true }
+        requires more { 1 < length octets.now }
         requires room { rest.old.used + length octets.now < 2 ^ 63 }
         ensures { EndsBy V.takes self.old self.new rest.old rest.new octets.now result
             visitor.old visitor.new }
     {
-        if octets.len() < 2 || self.filter.may_be_table() || self.frames.len() > 1 {
-            return Ok((0, Taken::Uses));
-        }
-        if !self.is_top() {
-            return self.end_container(rest, octets, visitor);
-        }
         match &self.stage {
-            Now::Ready => self.end_scalar(rest, octets, visitor),
+            Now::Ready => self.take_item(rest, octets, visitor),
             _ => Ok((0, Taken::Uses)),
         }
     }
 
-    /// The close of the only container that is open.
+    /// The same where a value may come.
     #[inline(always)]
-    fn end_container<V: Visitor>(
+    fn take_item<V: Visitor>(
+        &mut self,
+        rest: &mut Rest,
+        octets: &[u8],
+        visitor: &mut V,
+    ) -> Result<(usize, Taken), Reason>
+        requires now { self.old.stage ≡ nows.Ready }
+        requires top { (fs : List Frame) (ss : Symbols) → Holds self.old fs ss →
+            is_top fs ≡ true }
+        requires more { 1 < length octets.now }
+        requires room { rest.old.used + length octets.now < 2 ^ 63 }
+        ensures { EndsBy V.takes self.old self.new rest.old rest.new octets.now result
+            visitor.old visitor.new }
+    {
+        if let Some(bracket) = bracket_at(octets) {
+            let count = self.take_open(bracket, rest, octets, visitor)?;
+            return Ok((count, Taken::Uses));
+        }
+        if self.filter.may_be_table() {
+            let count = self.take_note(rest, octets, visitor)?;
+            return Ok((count, Taken::Uses));
+        }
+        self.end_scalar(rest, octets, visitor)
+    }
+
+    /// The close of the only container that is open, but not that of a local symbol table.
+    #[inline(always)]
+    pub(super) fn end_container<V: Visitor>(
         &mut self,
         rest: &mut Rest,
         octets: &[u8],
@@ -72,6 +97,9 @@ impl TextWalk<'_> {
         ensures { EndsBy V.takes self.old self.new rest.old rest.new octets.now result
             visitor.old visitor.new }
     {
+        if self.frames.len() > 1 || self.filter.may_be_table() {
+            return Ok((0, Taken::Uses));
+        }
         let Some(bracket) = self.closing(octets[0]) else {
             return Ok((0, Taken::Uses));
         };
@@ -85,7 +113,7 @@ impl TextWalk<'_> {
         }
     }
 
-    /// A value without others in it.
+    /// A value without others in it, or an annotation.
     #[inline(always)]
     fn end_scalar<V: Visitor>(
         &mut self,
@@ -101,11 +129,11 @@ impl TextWalk<'_> {
         ensures { EndsBy V.takes self.old self.new rest.old rest.new octets.now result
             visitor.old visitor.new }
     {
-        if begins_number(octets) {
-            return self.end_number(rest, octets, visitor);
-        }
         if begins_symbol(octets) {
             return self.end_symbol(rest, octets, visitor);
+        }
+        if begins_number(octets) {
+            return self.end_number(rest, octets, visitor);
         }
         match string_at(octets) {
             None => self.end_rare(rest, octets, visitor),
@@ -116,6 +144,39 @@ impl TextWalk<'_> {
     /// A number, whose end the octet behind it shows.
     #[inline(always)]
     fn end_number<V: Visitor>(
+        &mut self,
+        rest: &mut Rest,
+        octets: &[u8],
+        visitor: &mut V,
+    ) -> Result<(usize, Taken), Reason>
+        requires now { self.old.stage ≡ nows.Ready }
+        requires top { (fs : List Frame) (ss : Symbols) → Holds self.old fs ss →
+            is_top fs ≡ true }
+        requires more { 1 < length octets.now }
+        requires room { rest.old.used + length octets.now < 2 ^ 63 }
+        ensures { EndsBy V.takes self.old self.new rest.old rest.new octets.now result
+            visitor.old visitor.new }
+    {
+        if self.needs_telling(visitor) {
+            return self.tell_last_number(rest, octets, visitor);
+        }
+        let Some(token) = untold_number(octets) else {
+            return self.tell_last_number(rest, octets, visitor);
+        };
+        self.start = self.begun_at(rest.used);
+        let end = rest.used + token.count as u64;
+        match self.whole_untold(end, visitor) {
+            Ok(Effect::Gives) => {
+                *rest = rest.past_token(Place::Top, token.kind, token.count);
+                Ok((token.count, Taken::Leaves))
+            }
+            _ => Err(Reason::Memory),
+        }
+    }
+
+    /// A number, which is told.
+    #[inline(never)]
+    fn tell_last_number<V: Visitor>(
         &mut self,
         rest: &mut Rest,
         octets: &[u8],
@@ -199,7 +260,10 @@ impl TextWalk<'_> {
             return self.end_rare(rest, octets, visitor);
         };
         match behind_symbol(octets, scalar.token.count) {
-            None => Ok((0, Taken::Uses)),
+            None => {
+                let count = self.take_note(rest, octets, visitor)?;
+                Ok((count, Taken::Uses))
+            }
             Some(0) => Ok((0, Taken::Uses)),
             Some(between) => self.end_word(scalar, &said, between, rest, octets, visitor),
         }
@@ -241,7 +305,8 @@ impl TextWalk<'_> {
             _ => Err(Reason::Memory),
         }
     }
-    /// A text with escapes, a clob or a blob.
+
+    /// A long string, a text with escapes, a clob or a blob.
     #[inline(never)]
     fn end_rare<V: Visitor>(
         &mut self,
@@ -256,6 +321,9 @@ impl TextWalk<'_> {
         ensures { EndsBy V.takes self.old self.new rest.old rest.new octets.now result
             visitor.old visitor.new }
     {
+        if begins_long(octets) {
+            return self.end_long(rest, octets, visitor);
+        }
         if !may_be_rare(octets) {
             return Ok((0, Taken::Uses));
         }
@@ -289,13 +357,13 @@ impl TextWalk<'_> {
         if let Body::Quoted(text) = body {
             return self.end_quoted(token, text.as_str(), rest, octets, visitor);
         }
-        let Some((kind, waits, said)) = value_part(body) else {
+        let Some((waits, said)) = value_part(body) else {
             return Ok((0, Taken::Uses));
         };
         if waits || token.left {
             return Ok((0, Taken::Uses));
         }
-        let scalar = Scalar { token, kind, waits };
+        let scalar = Scalar { token, waits };
         self.end_string(scalar, &said, rest, octets, visitor)
     }
 
@@ -316,11 +384,7 @@ impl TextWalk<'_> {
         ensures { EndsBy V.takes self.old self.new rest.old rest.new octets.now result
             visitor.old visitor.new }
     {
-        let scalar = Scalar {
-            token,
-            kind: Kind::Symbol,
-            waits: true,
-        };
+        let scalar = Scalar { token, waits: true };
         match behind_symbol(octets, token.count) {
             None => Ok((0, Taken::Uses)),
             Some(0) => Ok((0, Taken::Uses)),

@@ -1,19 +1,20 @@
-//! Long strings that lie whole in a piece, where a container is open, with all their segments and the
-//! octet behind these, which shows that no other follows.
+//! Long strings that lie whole in a piece, with all their segments and the octet behind these, which
+//! shows that no other follows.
 #![tactic(auto)]
 
-ghost use Rattle.std.specs.Prelude.{◌≡◌, ◌+◌, ◌<◌, ◌^◌, List, length, false};
+ghost use Rattle.std.specs.Prelude.{◌≡◌, ◌+◌, ◌<◌, ◌^◌, List, length, false, true};
+ghost use Rattle.ion_tokens.specs.declared.mode.Place.TheVariants as places;
 ghost use Rattle.ion_text.specs.declared.state.Frame.{Frame};
 ghost use Rattle.ion_text.specs.declared.state.Now.TheVariants as nows;
 ghost use Rattle.ion_text.specs.machine.EachToken.{Symbols, place};
 ghost use Rattle.ion_text.specs.machine.LongStrings.{LongThere};
 ghost use Rattle.ion_text.specs.machine.Run.{is_top};
 ghost use Rattle.ion_text.specs.walk.Holds.{Holds, reading_of};
-ghost use Rattle.ion_text.specs.walk.Strides.{StridesBy};
+ghost use Rattle.ion_text.specs.walk.Strides.{EndsBy, StridesBy};
 
 use super::TextWalk;
-use crate::reader::long_strings::{begins_long, join_segments, one_segment};
-use crate::state::Effect;
+use crate::state::{Effect, Taken};
+use crate::tokens::long_strings::{begins_long, join_segments, one_segment};
 use ion_model::Reason;
 use ion_tokens::{Place, Rest};
 use ion_visiting::{Part, Visitor};
@@ -99,6 +100,80 @@ impl TextWalk<'_> {
             Ok(Effect::Goes) => {
                 *rest = behind;
                 Ok(count)
+            }
+            _ => Err(Reason::Memory),
+        }
+    }
+
+    /// A long string where no container is open.
+    #[inline(never)]
+    pub(super) fn end_long<V: Visitor>(
+        &mut self,
+        rest: &mut Rest,
+        octets: &[u8],
+        visitor: &mut V,
+    ) -> Result<(usize, Taken), Reason>
+        requires now { self.old.stage ≡ nows.Ready }
+        requires top { (fs : List Frame) (ss : Symbols) → Holds self.old fs ss →
+            is_top fs ≡ true }
+        requires room { rest.old.used + length octets.now < 2 ^ 63 }
+        ensures { EndsBy V.takes self.old self.new rest.old rest.new octets.now result
+            visitor.old visitor.new }
+    {
+        match one_segment(Place::Top, *rest, octets) {
+            None => self.end_segments(rest, octets, visitor),
+            Some((count, behind, text)) => {
+                self.end_text(count, behind, text, rest, octets, visitor)
+            }
+        }
+    }
+
+    /// The same of several segments, or of one that isn't plain.
+    fn end_segments<V: Visitor>(
+        &mut self,
+        rest: &mut Rest,
+        octets: &[u8],
+        visitor: &mut V,
+    ) -> Result<(usize, Taken), Reason>
+        requires now { self.old.stage ≡ nows.Ready }
+        requires top { (fs : List Frame) (ss : Symbols) → Holds self.old fs ss →
+            is_top fs ≡ true }
+        requires room { rest.old.used + length octets.now < 2 ^ 63 }
+        ensures { EndsBy V.takes self.old self.new rest.old rest.new octets.now result
+            visitor.old visitor.new }
+    {
+        let mut text = String::new(self.alloc);
+        match join_segments(&mut self.beside, Place::Top, *rest, octets, true, &mut text) {
+            None => Ok((0, Taken::Uses)),
+            Some((count, behind)) => {
+                self.end_text(count, behind, text.as_str(), rest, octets, visitor)
+            }
+        }
+    }
+
+    /// This long string where no container is open.
+    #[inline(always)]
+    fn end_text<V: Visitor>(
+        &mut self,
+        count: usize,
+        behind: Rest,
+        said: &str,
+        rest: &mut Rest,
+        octets: &[u8],
+        visitor: &mut V,
+    ) -> Result<(usize, Taken), Reason>
+        requires now { self.old.stage ≡ nows.Ready }
+        requires top { (fs : List Frame) (ss : Symbols) → Holds self.old fs ss →
+            is_top fs ≡ true }
+        requires long { LongThere places.Top rest.old octets.now count behind said.now }
+        ensures { EndsBy V.takes self.old self.new rest.old rest.new octets.now result
+            visitor.old visitor.new }
+    {
+        self.start = self.begun_at(rest.used);
+        match self.whole(&Part::Str(said), behind.used, visitor) {
+            Ok(Effect::Gives) => {
+                *rest = behind;
+                Ok((count, Taken::Leaves))
             }
             _ => Err(Reason::Memory),
         }

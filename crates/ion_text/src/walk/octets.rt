@@ -10,8 +10,9 @@ ghost use Rattle.ion_text.specs.walk.Holds.{Holds, SameSetting, reading_of, stat
 ghost use Rattle.ion_text.specs.walk.Takes.{DidMeet, DidTake, IsFine, IsMet, MeetsWith, SameReader, StaysSteady};
 
 use super::TextWalk;
-use crate::reader::octets::{goes_on_long, goes_on_symbol, lesser, worse};
+use crate::reasons::{lesser, worse};
 use crate::state::{Effect, Met, Now, Taken};
+use crate::tokens::foresight::{goes_on_long, goes_on_symbol};
 use ion_model::{Reason, Refusal};
 use ion_tokens::{Form, Place, Scan, Token};
 use ion_visiting::Visitor;

@@ -9,8 +9,8 @@ ghost use Rattle.ion_text.specs.machine.Views.{token_in};
 ghost use Rattle.ion_text.specs.walk.Holds.{Does, DoesAlone, Holds, SameSetting, reading_of, setting_of, spot_of, told};
 
 use super::{TextWalk, heard};
-use crate::reader::on_token::joined;
 use crate::state::{Effect, Held, Now};
+use crate::tokens::long_strings::joined;
 use crate::words::{held_word, is_keyword};
 use ion_model::{Reason, Symbol, Text};
 use ion_tokens::{Body, Mark, Token};

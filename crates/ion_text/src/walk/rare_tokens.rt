@@ -11,16 +11,15 @@ ghost use Rattle.ion_text.specs.declared.state.Now.TheVariants as nows;
 ghost use Rattle.ion_text.specs.machine.EachToken.{Symbols, place};
 ghost use Rattle.ion_text.specs.machine.FrontTokens.{BeginsValue, IsValue, Names};
 ghost use Rattle.ion_text.specs.machine.Run.{is_top};
-ghost use Rattle.ion_text.specs.machine.Walked.{IsFlat};
 ghost use Rattle.ion_text.specs.walk.Holds.{Holds, reading_of};
 ghost use Rattle.ion_text.specs.walk.Rare.{SaysThere};
 ghost use Rattle.ion_text.specs.walk.Strides.{StridesBy};
 
 use super::TextWalk;
-use crate::reader::finders::{Scalar, rare_part, word_part};
-use crate::reader::symbols::behind_waiting;
+use crate::tokens::finders::{Scalar, rare_part, word_part};
+use crate::tokens::symbols::behind_waiting;
 use crate::words::is_keyword;
-use ion_model::{Kind, Reason};
+use ion_model::Reason;
 use ion_tokens::{Body, FoundToken, Place, Rest, TokenReader};
 use ion_visiting::{Part, Visitor};
 
@@ -44,23 +43,20 @@ pub(super) fn rare_at<'p>(
 }
 
 // What a word is as a value.
-fn word_value(word: &str) -> Option<(Kind, bool, Part<'_>)>
-    ensures { IfSome result (λ found. IsValue found.1 (Word word.now) (payload_of found.2)
-        × IsFlat (payload_of found.2) found.0) }
+fn word_value(word: &str) -> Option<(bool, Part<'_>)>
+    ensures { IfSome result (λ found. IsValue found.0 (Word word.now) (payload_of found.1)) }
 {
-    let (kind, said) = word_part(word)?;
-    Some((kind, true, said))
+    Some((true, word_part(word)?))
 }
 
-// What such a token is as a value: its kind, and whether it would be an annotation if `::`
-// followed.
-pub(super) fn value_part<'b>(body: &'b Body<'_>) -> Option<(Kind, bool, Part<'b>)>
-    ensures { IfSome result (λ found. IsValue found.1 (content body.now) (payload_of found.2)
-        × IsFlat (payload_of found.2) found.0) }
+// What such a token is as a value, and whether it would be an annotation if `::` followed.
+pub(super) fn value_part<'b>(body: &'b Body<'_>) -> Option<(bool, Part<'b>)>
+    ensures { IfSome result (λ found.
+        IsValue found.0 (content body.now) (payload_of found.1)) }
 {
     match body {
-        Body::Clob(octets) => Some((Kind::Clob, false, Part::Clob(octets.as_slice()))),
-        Body::Blob(octets) => Some((Kind::Blob, false, Part::Blob(octets.as_slice()))),
+        Body::Clob(octets) => Some((false, Part::Clob(octets.as_slice()))),
+        Body::Blob(octets) => Some((false, Part::Blob(octets.as_slice()))),
         Body::Word(word) => word_value(word.as_str()),
         _ => rare_part(body),
     }
@@ -125,10 +121,10 @@ impl TextWalk<'_> {
         ensures { StridesBy V.takes self.old self.new rest.old rest.new octets.now result
             visitor.old visitor.new }
     {
-        let Some((kind, waits, said)) = value_part(body) else {
+        let Some((waits, said)) = value_part(body) else {
             return Ok(0);
         };
-        let scalar = Scalar { token, kind, waits };
+        let scalar = Scalar { token, waits };
         if !waits {
             return self.take_whole(here, scalar, &said, rest, octets, visitor);
         }

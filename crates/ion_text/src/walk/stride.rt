@@ -12,7 +12,7 @@ ghost use Rattle.ion_scalar.specs.declared.number.Number.{Number as AnyNumber};
 ghost use Rattle.ion_model.specs.Kinds.{names_table};
 ghost use Rattle.ion_tokens.specs.declared.mode.Place.{Place as AnyPlace};
 ghost use Rattle.ion_tokens.specs.declared.mode.Place.TheVariants as places;
-ghost use Rattle.ion_tokens.specs.machine.Rests.{RestsBehind, past_token, resting};
+ghost use Rattle.ion_tokens.specs.machine.Rests.{RestsBehind, past_blank, past_token, resting};
 ghost use Rattle.ion_tokens.specs.machine.Views.{scanned};
 ghost use Rattle.ion_visiting.specs.Parts.{payload_of};
 ghost use Rattle.ion_text.specs.declared.state.Frame.{Frame};
@@ -24,21 +24,52 @@ ghost use Rattle.ion_text.specs.machine.Nested.{OpensAt, close_octet, closes};
 ghost use Rattle.ion_text.specs.machine.Run.{is_top};
 ghost use Rattle.ion_text.specs.visiting.Walks.{FoundPart, NoteThere};
 ghost use Rattle.ion_text.specs.walk.Holds.{Does, Holds, calm, MayClose, SamePlace, SameSetting, WentOn, reading_of, told};
-ghost use Rattle.ion_text.specs.walk.Strides.{StridesBy, TookSo};
+ghost use Rattle.ion_text.specs.walk.Strides.{EndsBy, StridesBy, TookSo};
 ghost use Rattle.ion_text.specs.walk.Takes.{IsFine, SameReader, StaysSteady};
 
+use super::untold::untold_number;
 use super::{TextWalk, heard};
-use crate::reader::annotations::{Note, note_at};
-use crate::reader::escaped_tokens::may_be_rare;
-use crate::reader::finders::{
-    Scalar, begins_number, begins_symbol, number_at, operator_at, plain_name, string_at, symbol_at,
-};
-use crate::reader::nested_containers::{bracket_at, close_mark, open_mark};
-use crate::reader::symbols::{behind_name, behind_waiting};
 use crate::state::{Effect, Now, Taken};
+use crate::tokens::annotations::{Note, note_at};
+use crate::tokens::finders::{
+    Scalar, begins_number, begins_symbol, may_be_rare, number_at, operator_at, plain_name,
+    string_at, symbol_at,
+};
+use crate::tokens::marks::{bracket_at, close_mark, open_mark};
+use crate::tokens::symbols::{behind_name, behind_waiting};
 use ion_model::Reason;
-use ion_tokens::{FoundToken, Mark, Place, Rest, TokenKind, blank_with_comments};
+use ion_tokens::{FoundToken, Mark, Place, Rest, TokenKind, blank_with_comments, blanks};
 use ion_visiting::{Bracket, Part, Visitor};
+
+// Goes behind so many octets of a blank.
+#[inline(always)]
+fn go_past_blank(rest: &mut Rest, count: usize)
+    requires { rest.old.used + count < 2 ^ 63 }
+    ensures { rest.new ≡ past_blank rest.old count }
+{
+    if count > 0 {
+        let used = rest.used + count as u64;
+        rest.start = used - 1;
+        rest.used = used;
+    }
+}
+
+// Goes behind the blank at the front, with the comments in it that end there: how many octets it has.
+// Where all are of it, it goes nowhere.
+#[inline(never)]
+fn past_comments(rest: &mut Rest, octets: &[u8]) -> usize
+    requires some { 0 < length octets.now }
+    requires room { rest.old.used + length octets.now < 2 ^ 63 }
+    ensures rests { RestsBehind octets.now result rest.old rest.new }
+    ensures within { result < length octets.now }
+{
+    let (blank, behind) = blank_with_comments(octets, *rest);
+    if blank >= octets.len() {
+        return 0;
+    }
+    *rest = behind;
+    blank
+}
 
 impl TextWalk<'_> {
     /// Takes up the tokens at the front of a piece that lie whole there, up to the end of a value of
@@ -72,10 +103,9 @@ impl TextWalk<'_> {
             return Ok((0, Taken::Uses));
         }
         let mut rest = first;
-        let at = self.take_each(&mut rest, octets, visitor)?;
-        let (count, taken) = self.take_last(&mut rest, &octets[at..], visitor)?;
+        let (count, taken) = self.take_each(&mut rest, octets, visitor)?;
         self.scanner.move_to(rest);
-        Ok((at + count, taken))
+        Ok((count, taken))
     }
 
     /// Where the scanner rests, if tokens may be taken up at once: none has begun, and nothing
@@ -117,20 +147,24 @@ impl TextWalk<'_> {
         rest: &mut Rest,
         octets: &[u8],
         visitor: &mut V,
-    ) -> Result<usize, Reason>
+    ) -> Result<(usize, Taken), Reason>
         requires room { rest.old.used + length octets.now < 2 ^ 63 }
-        ensures { StridesBy V.takes self.old self.new rest.old rest.new octets.now result
+        ensures { EndsBy V.takes self.old self.new rest.old rest.new octets.now result
             visitor.old visitor.new }
     {
         let mut at = 0;
         for _ in 0..octets.len() {
-            let count = self.take_next(rest, &octets[at..], visitor)?;
+            let (count, taken) = self.take_next(rest, &octets[at..], visitor)?;
             at += count;
             if count == 0 {
-                break;
+                return Ok((at, taken));
+            }
+            match taken {
+                Taken::Uses => {}
+                _ => return Ok((at, taken)),
             }
         }
-        Ok(at)
+        Ok((at, Taken::Uses))
     }
 
     /// A blank, and the token behind it.
@@ -140,18 +174,21 @@ impl TextWalk<'_> {
         rest: &mut Rest,
         octets: &[u8],
         visitor: &mut V,
-    ) -> Result<usize, Reason>
+    ) -> Result<(usize, Taken), Reason>
         requires room { rest.old.used + length octets.now < 2 ^ 63 }
-        ensures { StridesBy V.takes self.old self.new rest.old rest.new octets.now result
+        ensures { EndsBy V.takes self.old self.new rest.old rest.new octets.now result
             visitor.old visitor.new }
     {
-        let (blank, behind) = blank_with_comments(octets, *rest);
+        let blank = blanks(octets);
         if blank >= octets.len() {
-            return Ok(0);
+            return Ok((0, Taken::Uses));
         }
-        *rest = behind;
-        let count = self.take_token(rest, &octets[blank..], visitor)?;
-        Ok(blank + count)
+        if octets[blank] == b'/' {
+            return Ok((past_comments(rest, octets), Taken::Uses));
+        }
+        go_past_blank(rest, blank);
+        let (count, taken) = self.take_token(rest, &octets[blank..], visitor)?;
+        Ok((blank + count, taken))
     }
 
     /// A token, with what has to be seen behind it.
@@ -161,14 +198,39 @@ impl TextWalk<'_> {
         rest: &mut Rest,
         octets: &[u8],
         visitor: &mut V,
+    ) -> Result<(usize, Taken), Reason>
+        requires room { rest.old.used + length octets.now < 2 ^ 63 }
+        ensures { EndsBy V.takes self.old self.new rest.old rest.new octets.now result
+            visitor.old visitor.new }
+    {
+        if octets.len() < 2 {
+            return Ok((0, Taken::Uses));
+        }
+        if self.is_top() {
+            return self.take_top(rest, octets, visitor);
+        }
+        let count = self.take_inner(rest, octets, visitor)?;
+        if count > 0 {
+            return Ok((count, Taken::Uses));
+        }
+        self.end_container(rest, octets, visitor)
+    }
+
+    /// A token in a container, but for the close of that of the top level.
+    #[inline(always)]
+    fn take_inner<V: Visitor>(
+        &mut self,
+        rest: &mut Rest,
+        octets: &[u8],
+        visitor: &mut V,
     ) -> Result<usize, Reason>
+        requires inner { (fs : List Frame) (ss : Symbols) → Holds self.old fs ss →
+            is_top fs ≡ false }
+        requires more { 1 < length octets.now }
         requires room { rest.old.used + length octets.now < 2 ^ 63 }
         ensures { StridesBy V.takes self.old self.new rest.old rest.new octets.now result
             visitor.old visitor.new }
     {
-        if octets.len() < 2 {
-            return Ok(0);
-        }
         match &self.stage {
             Now::Ready => self.take_value(rest, octets, visitor),
             Now::Name => self.take_field(rest, octets, visitor),
@@ -287,13 +349,16 @@ impl TextWalk<'_> {
         if octets[0] == b'}' {
             return self.take_close(rest, octets, visitor);
         }
+        if octets[0] == b'$' {
+            return self.take_dollar_name(rest, octets, visitor);
+        }
         match plain_name(octets) {
             None => self.take_odd_name(rest, octets, visitor),
             Some((token, text)) => self.take_key(token, text, rest, octets, visitor),
         }
     }
 
-    /// The name of a field that isn't plain, with its colon.
+    /// The name of a field that isn't plain and no symbol's id, with its colon.
     #[inline(always)]
     fn take_odd_name<V: Visitor>(
         &mut self,
@@ -307,9 +372,6 @@ impl TextWalk<'_> {
         ensures { StridesBy V.takes self.old self.new rest.old rest.new octets.now result
             visitor.old visitor.new }
     {
-        if octets[0] == b'$' {
-            return self.take_dollar_name(rest, octets, visitor);
-        }
         if may_be_rare(octets) {
             return self.take_rare_name(rest, octets, visitor);
         }
@@ -358,12 +420,11 @@ impl TextWalk<'_> {
         ensures setting { SameSetting self.old self.new }
     {
         heard(self.filter.text_name(text, visitor))?;
-        self.stage = Now::Ready;
+        self.set_stage(Now::Ready);
         Ok(Effect::Goes)
     }
 
-    /// What stands where a value may come. Of the top level it is an open or an annotation: a value
-    /// without others in it ends there.
+    /// What stands in a container where a value may come.
     #[inline(always)]
     fn take_value<V: Visitor>(
         &mut self,
@@ -372,6 +433,8 @@ impl TextWalk<'_> {
         visitor: &mut V,
     ) -> Result<usize, Reason>
         requires now { self.old.stage ≡ nows.Ready }
+        requires inner { (fs : List Frame) (ss : Symbols) → Holds self.old fs ss →
+            is_top fs ≡ false }
         requires more { 1 < length octets.now }
         requires room { rest.old.used + length octets.now < 2 ^ 63 }
         ensures { StridesBy V.takes self.old self.new rest.old rest.new octets.now result
@@ -383,9 +446,6 @@ impl TextWalk<'_> {
         if begins_symbol(octets) {
             return self.take_symbol(rest, octets, visitor);
         }
-        if self.is_top() {
-            return Ok(0);
-        }
         if begins_number(octets) {
             return self.take_number(rest, octets, visitor);
         }
@@ -394,7 +454,7 @@ impl TextWalk<'_> {
 
     /// The open of a container.
     #[inline(always)]
-    fn take_open<V: Visitor>(
+    pub(super) fn take_open<V: Visitor>(
         &mut self,
         bracket: Bracket,
         rest: &mut Rest,
@@ -425,6 +485,39 @@ impl TextWalk<'_> {
     /// A number in a container.
     #[inline(always)]
     fn take_number<V: Visitor>(
+        &mut self,
+        rest: &mut Rest,
+        octets: &[u8],
+        visitor: &mut V,
+    ) -> Result<usize, Reason>
+        requires now { self.old.stage ≡ nows.Ready }
+        requires inner { (fs : List Frame) (ss : Symbols) → Holds self.old fs ss →
+            is_top fs ≡ false }
+        requires more { 1 < length octets.now }
+        requires room { rest.old.used + length octets.now < 2 ^ 63 }
+        ensures { StridesBy V.takes self.old self.new rest.old rest.new octets.now result
+            visitor.old visitor.new }
+    {
+        if self.needs_telling(visitor) {
+            return self.tell_number(rest, octets, visitor);
+        }
+        let Some(token) = untold_number(octets) else {
+            return self.tell_number(rest, octets, visitor);
+        };
+        let here = self.place();
+        let end = rest.used + token.count as u64;
+        match self.whole_untold(end, visitor) {
+            Ok(Effect::Goes) => {
+                *rest = rest.past_token(here, token.kind, token.count);
+                Ok(token.count)
+            }
+            _ => Err(Reason::Memory),
+        }
+    }
+
+    /// A number in a container, which is told.
+    #[inline(never)]
+    fn tell_number<V: Visitor>(
         &mut self,
         rest: &mut Rest,
         octets: &[u8],
@@ -469,14 +562,16 @@ impl TextWalk<'_> {
             visitor.old visitor.new }
     {
         let here = self.place();
+        if octets[0] == b'$' {
+            return self.take_dollar(here, rest, octets, visitor);
+        }
         if let Some((scalar, said)) = string_at(octets) {
             return self.take_whole(here, scalar, &said, rest, octets, visitor);
         }
-        if let Some((scalar, said)) = operator_at(here, octets) {
-            return self.take_whole(here, scalar, &said, rest, octets, visitor);
-        }
-        if octets[0] == b'$' {
-            return self.take_dollar(here, rest, octets, visitor);
+        if matches!(here, Place::Sexp) {
+            if let Some((scalar, said)) = operator_at(here, octets) {
+                return self.take_whole(here, scalar, &said, rest, octets, visitor);
+            }
         }
         if may_be_rare(octets) {
             return self.take_rare(here, rest, octets, visitor);
@@ -530,6 +625,8 @@ impl TextWalk<'_> {
         visitor: &mut V,
     ) -> Result<usize, Reason>
         requires now { self.old.stage ≡ nows.Ready }
+        requires inner { (fs : List Frame) (ss : Symbols) → Holds self.old fs ss →
+            is_top fs ≡ false }
         requires more { 1 < length octets.now }
         requires room { rest.old.used + length octets.now < 2 ^ 63 }
         ensures { StridesBy V.takes self.old self.new rest.old rest.new octets.now result
@@ -542,9 +639,6 @@ impl TextWalk<'_> {
         let Some((between, behind)) = behind_waiting(here, *rest, scalar.token, octets) else {
             return self.take_note(rest, octets, visitor);
         };
-        if self.is_top() {
-            return Ok(0);
-        }
         self.take_word(here, scalar, &said, between, behind, rest, octets, visitor)
     }
 
@@ -589,7 +683,7 @@ impl TextWalk<'_> {
 
     /// An annotation with its `::`.
     #[inline(always)]
-    fn take_note<V: Visitor>(
+    pub(super) fn take_note<V: Visitor>(
         &mut self,
         rest: &mut Rest,
         octets: &[u8],

@@ -16,8 +16,8 @@ ghost use Rattle.ion_text.specs.walk.Rare.{NameThere, SaysThere, SymbolThere};
 ghost use Rattle.ion_text.specs.walk.Strides.{StridesBy};
 
 use super::TextWalk;
-use crate::reader::symbols::{behind_annotation, behind_name, behind_waiting};
 use crate::state::Effect;
+use crate::tokens::symbols::{behind_annotation, behind_name, behind_waiting};
 use crate::words::symbol_id;
 use ion_model::{Reason, Symbol};
 use ion_tokens::{FoundToken, Mark, Place, Rest, TokenKind, word};

@@ -10,7 +10,7 @@ ghost use Rattle.ion_text.specs.walk.Holds.{Holds, state_of, told};
 ghost use Rattle.ion_text.specs.walk.Takes.{IsFine, SameReader, StaysSteady};
 
 use super::TextWalk;
-use crate::reader::octets::worse;
+use crate::reasons::worse;
 use crate::state::{Met, Now, Taken};
 use ion_model::Refusal;
 use ion_visiting::Visitor;

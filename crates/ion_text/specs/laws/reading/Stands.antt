@@ -6,12 +6,9 @@ use Rattle.ion_model.specs.declared.value.Value.{Value}
 use Rattle.ion_symtab.specs.declared.limits.Limits.{Limits}
 use Rattle.ion_symtab.specs.declared.catalog.Catalog.{Catalog}
 use Rattle.ion_symtab.specs.Trace.{IsFront}
-use Rattle.ion_tokens.specs.machine.Views.{failure}
-use Rattle.ion_text.specs.declared.reader.TextReader.{TextReader}
 use Rattle.ion_text.specs.machine.Run.{State, Run, run, run_on, eats, ends, begun, trace, trace_of}
 use Rattle.ion_text.specs.machine.Pieces.{then_run, run-append}
-use Rattle.ion_text.specs.machine.Views.{state_of}
-use Rattle.ion_text.specs.machine.Progress.{Ran, Stands, failed, or_first, BeginsWith, resumed, octets_used}
+use Rattle.ion_text.specs.machine.Progress.{Ran, BeginsWith, resumed}
 
 -- the values in front of what a run gives
 abbrev pub behind : List (Value × ℕ) → Run → Run
@@ -39,10 +36,6 @@ pub none_is : {X : Type 0} (o : Option X) → IsNone o → o ≡ None
 none_is None h = refl
 none_is (Some x) h = absurd cc
 
--- It refused nothing.
-pub not_failed : (r : TextReader) (u : List ℕ) (s : List (Value × ℕ)) → Stands r u s → failed r ≡ None
-not_failed r u s h = ap (λ o. or_first o (failure r.scanner)) h.fine ∙ none_is (failure r.scanner) h.scanner_fine
-
 module _ (g : Catalog) (l : Limits) (u : List ℕ) (s : List (Value × ℕ)) (m : State) where
   pub ran_unrefused : (awaited : Option ℕ) → Ran g l u s m awaited → (trace g l u).refused ≡ None
   ran_unrefused None h = ap (λ (x : Run). (trace_of g l x).refused) h
@@ -61,16 +54,3 @@ module _ (g : Catalog) (l : Limits) (u : List ℕ) (s : List (Value × ℕ)) (m 
   ran_front to None e h = tt
   ran_front to (Some o) e h =
       ((resumed g l true to m (o ∷ [])).given, ap (λ (x : Run). (trace_of g l x).given) (further g l to u (o ∷ []) s m (Some o) e h ([], refl)))
-
--- No octet was refused.
-pub not_refused : (r : TextReader) (u : List ℕ) (s : List (Value × ℕ)) → Stands r u s → (trace r.catalog.now r.limits u).refused ≡ None
-not_refused r u s h = ran_unrefused r.catalog.now r.limits u s (state_of r) r.awaited h.ran
-
--- Unless it awaits an octet, it gave all values.
-pub given_so_far : (r : TextReader) (u : List ℕ) (s : List (Value × ℕ)) → Stands r u s → IsNone r.awaited → (trace r.catalog.now r.limits u).given ≡ s
-given_so_far r u s h none = ran_given r.catalog.now r.limits u s (state_of r) r.awaited none h.ran
-
--- The values that it gave are the first of those that come once the octet that it awaits is there.
-pub given_with_next : (r : TextReader) (u : List ℕ) (s : List (Value × ℕ)) → Stands r u s
-    → IfSome r.awaited (λ octet. IsFront s (trace r.catalog.now r.limits (u ++ octet ∷ [])).given)
-given_with_next r u s h = ran_front r.catalog.now r.limits u s (state_of r) (octets_used r) r.awaited h.counted h.ran

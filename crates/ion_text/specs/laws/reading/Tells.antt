@@ -1,35 +1,28 @@
--- What is known of a reader that told what it did: of one that holds values, and of one that holds none.
-use Rattle.std.proofs.Common.{ℕ, ◌≤◌, List, length, ap, arith}
+-- What is known of a reader that told what it did, and of one that built what it was told.
+use Rattle.std.proofs.Common.{◌≡◌, ℕ, ◌≤◌, List, [], ◌∷◌, ◌++◌, length, Option, Some, None, Result, Ok, Err, ap, arith, refl, subst}
 use Rattle.ion_model.specs.declared.value.Value.{Value}
+use Rattle.ion_atoms.specs.declared.refusal.Refusal.{Refusal}
+use Rattle.ion_symtab.specs.declared.catalog.Catalog.{Catalog}
+use Rattle.ion_symtab.specs.declared.limits.Limits.{Limits}
 use Rattle.ion_symtab.specs.Walks.{HasTold}
 use Rattle.ion_tokens.specs.machine.Views.{looks}
-use Rattle.ion_visiting.specs.Events.{Event}
+use Rattle.ion_visiting.specs.Building.{Built, built, builds, fresh}
+use Rattle.ion_visiting.specs.Events.{Event, Led}
+use Rattle.ion_visiting.specs.Tables.{heard}
 use Rattle.ion_text.specs.declared.reader.TextReader.{TextReader}
 use Rattle.ion_text.specs.declared.walk.TextWalk.{TextWalk}
-use Rattle.ion_text.specs.laws.reading.Stands.{given_so_far, given_with_next, not_failed, not_refused, ran_front, ran_given, ran_unrefused}
-use Rattle.ion_text.specs.laws.reading.small.Bounded.{bounded, ran_kept}
-use Rattle.ion_text.specs.machine.Progress as reader
-use Rattle.ion_text.specs.machine.Progress.{Stands}
-use Rattle.ion_text.specs.machine.Run.{trace}
-use Rattle.ion_text.specs.walk.Ends as walk
-use Rattle.ion_text.specs.walk.Holds.{state_of}
+use Rattle.ion_text.specs.laws.reading.Stands.{ran_front, ran_given, ran_unrefused}
+use Rattle.ion_text.specs.laws.reading.small.Bounded.{ran_kept}
+use Rattle.ion_text.specs.machine.Progress.{Ran}
+use Rattle.ion_text.specs.machine.Run.{Run, State, trace}
+use Rattle.ion_text.specs.walk.Builds.{HasBuilt}
+use Rattle.ion_text.specs.walk.Ends.{failed, octets_used}
+use Rattle.ion_text.specs.walk.Holds.{state_of, told}
 use Rattle.ion_text.specs.walk.Runs.{Told, octets_kept}
 
--- what is so of one that holds values
-pub reader_told : (r : TextReader) (u : List ℕ) (s : List (Value × ℕ)) → Stands r u s
-    → HasTold reader.octets_used reader.octets_kept reader.failed (λ q. q.awaited) (trace r.catalog.now r.limits) r.limits.item r u s
-reader_told r u s h = record {
-  counted = h.counted;
-  not_failed = not_failed r u s h;
-  not_refused = not_refused r u s h;
-  given_so_far = given_so_far r u s h;
-  given_with_next = given_with_next r u s h;
-  bounded = bounded r u s h;
-}
-
--- and of one that holds none
+-- 1. What a walk told is so.
 pub walk_told : (r : TextWalk) (u : List ℕ) (s : List (Value × ℕ)) (es : List Event) → Told r u s es
-    → HasTold walk.octets_used octets_kept walk.failed (λ q. q.awaited) (trace r.catalog.now r.limits) r.limits.item r u s
+    → HasTold octets_used octets_kept failed (λ q. q.awaited) (trace r.catalog.now r.limits) r.limits.item r u s
 walk_told r u s es t =
     let h = t.2 in
     let m = state_of r t.0 t.1 in
@@ -41,6 +34,53 @@ walk_told r u s es t =
       not_failed = h.fine;
       not_refused = ran_unrefused r.catalog.now r.limits u s m r.awaited h.ran;
       given_so_far = λ none. ran_given r.catalog.now r.limits u s m r.awaited none h.ran;
-      given_with_next = ran_front r.catalog.now r.limits u s m (walk.octets_used r) r.awaited h.counted h.ran;
+      given_with_next = ran_front r.catalog.now r.limits u s m (octets_used r) r.awaited h.counted h.ran;
       bounded = kept;
     }
+
+-- and what a reader told is what its walk told
+pub reader_told : (r : TextReader) (u : List ℕ) (s : List (Value × ℕ)) (es : List Event) → Told r.walk u s es
+    → HasTold (λ q. octets_used q.walk) (λ q. octets_kept q.walk) (λ q. failed q.walk) (λ q. q.walk.awaited)
+    (trace r.walk.catalog.now r.walk.limits) r.walk.limits.item r u s
+reader_told r u s es t =
+    let k = walk_told r.walk u s es t in
+    record {
+      counted = k.counted;
+      not_failed = k.not_failed;
+      not_refused = k.not_refused;
+      given_so_far = k.given_so_far;
+      given_with_next = k.given_with_next;
+      bounded = k.bounded;
+    }
+
+-- 2. Of no octets nothing was told.
+none_and_one : {X : Type 0} (xs : List X) (x : X) → [] ≡ xs ++ x ∷ [] → ⊥
+none_and_one [] x e = absurd cc
+none_and_one (y ∷ ys) x e = absurd cc
+
+-- in this state there is nothing to tell
+abbrev TellsNone : Result State Refusal → Type 0
+TellsNone (Ok m) = [] ≡ heard (told m.reading.frames m.reading.notes)
+TellsNone (Err refusal) = Unit {0}
+
+ran_none : (g : Catalog) (l : Limits) (m : State) (awaited : Option ℕ) → Ran g l [] [] m awaited → [] ≡ heard (told m.reading.frames m.reading.notes)
+ran_none g l m None h = subst TellsNone (ap (λ (x : Run). x.now) h) refl
+ran_none g l m (Some o) h = absurd (none_and_one h.given (h.value, 0) h.all)
+
+pub nothing_told : (r : TextReader) → HasBuilt r [] [] → Told r.walk [] [] []
+nothing_told r h =
+    let t = h.1 in
+    (t.0, t.1, t.2, ran_none r.walk.catalog.now r.walk.limits (state_of r.walk t.0 t.1) r.walk.awaited t.2.ran)
+
+-- 3. One that built what was told stands for the octets.
+abbrev built_by : List Event → Built → Built
+built_by [] b = b
+built_by (e ∷ es) b = built_by es (built b e)
+
+led_by : (es : List Event) (b : Built) → Led builds es b (built_by es b)
+led_by [] b = refl
+led_by (e ∷ es) b = (built b e, refl, led_by es (built b e))
+
+pub one_stands : (r : TextReader) (u : List ℕ) (s : List (Value × ℕ)) (es : List Event) → Told r.walk u s es
+    → (q : TextReader) × HasBuilt q u s × (q.walk.catalog.now ≡ r.walk.catalog.now) × (q.walk.limits ≡ r.walk.limits)
+one_stands r u s es h = (record r { build = built_by es fresh }, (es, h, led_by es fresh), refl, refl)

@@ -18,8 +18,7 @@ end_string-requires-clause-found g c = record {
     payload = payload_of c.in-Some.said;
     found = c.requires.says.found;
     says = c.requires.says.says;
-    is = c.in-Some.ensures.0;
-    flat = c.in-Some.ensures.1;
+    is = c.in-Some.ensures;
   };
   is = refl;
 }

@@ -9,6 +9,7 @@ use Rattle.ion_text.specs.declared.state.Taken.TheVariants as taken
 use Rattle.ion_text.specs.machine.EachToken.{ended, spot_at}
 use Rattle.ion_text.specs.walk.Holds.{Does, SameSetting, setting_of, told}
 use Rattle.ion_text.specs.walk.Strides.{EndsBy}
+use Rattle.ion_text.proofs.Holding.{number_layer}
 use Rattle.ion_text.proofs.LastTokens.{leaves_answer}
 use Rattle.ion_text.proofs.SaidThere.{number_begins}
 use Rattle.ion_text.proofs.walk.TextWalk.end_number.Goals as goal
@@ -16,19 +17,20 @@ use Rattle.ion_text.proofs.walk.TextWalk.end_number.Goals as goal
 pub returns-in-Ok-Gives : goal.returns-in-Ok-Gives
 returns-in-Ok-Gives g c =
     let old = c.args.self.now in
-    let new = c.whole_number.new.self in
+    let new = c.whole_untold.new.self in
     let rest = c.args.rest.now in
     let octets = c.args.octets.now in
-    let b = c.whole_number.new.visitor in
+    let v = c.args.visitor.now in
     let token = c.in-Some.token in
-    let payload = number_payload c.in-Some.number in
+    let number = c.in-Some.ensures.found.0 in
+    let payload = number_payload number in
     let s = c.in-Ok-Gives.ensures.setting in
     let same : SameSetting old new =
     record { catalog = s.catalog; limits = s.limits; scanner = s.scanner; awaited = s.awaited; failed = s.failed } in
-    subst (λ (r : Rest). EndsBy g.V.Visitor.takes old new rest r octets (Ok (token.count, taken.Leaves)) c.args.visitor.now b) (sym c.past_token.ensures)
-    (leaves_answer g.V.Visitor.takes old new rest octets c.args.visitor.now b same token payload c.in-Some.ensures.left c.in-Some.ensures.within
-    c.requires.now c.requires.top (number_begins places.Top rest octets token c.in-Some.number (c.in-Some.ensures.found places.Top rest refl))
+    subst (λ (r : Rest). EndsBy g.V.Visitor.takes old new rest r octets (Ok (token.count, taken.Leaves)) v v) (sym c.past_token.ensures)
+    (leaves_answer g.V.Visitor.takes old new rest octets v v same token payload c.in-Some.ensures.left c.in-Some.ensures.within
+    c.requires.now c.requires.top (number_begins places.Top rest octets token number (c.in-Some.ensures.found.1 places.Top rest refl))
     (λ fs ss h. subst (λ k. Does g.V.Visitor.takes (told fs ss) (ended (setting_of old) (spot_at (rest.used + token.count) k old.context) fs
-    (annotated ss payload)) (Ok Gives) new c.args.visitor.now b) (c.begun_at-self.ensures fs ss h)
+    (annotated ss payload)) (Ok Gives) new v v) (c.begun_at-self.ensures fs ss h)
     (subst (λ (e : Effect). Does g.V.Visitor.takes (told fs ss) (ended (setting_of old) (spot_at (rest.used + token.count) c.begun_at-self.result old.context) fs
-    (annotated ss payload)) (Ok e) new c.args.visitor.now b) c.in-Ok-Gives.field-0-is (c.in-Ok-Gives.ensures.does fs ss h))))
+    (annotated ss payload)) (Ok e) new v v) c.in-Ok-Gives.field-0-is (c.in-Ok-Gives.ensures.does payload (number_layer number) fs ss h))))

@@ -4,7 +4,6 @@ use Rattle.ion_model.specs.declared.value.Payload.TheVariants as payloads
 use Rattle.ion_tokens.specs.Bodies.{Quoted}
 use Rattle.ion_text.specs.declared.state.Held.{Held}
 use Rattle.ion_text.specs.machine.FrontTokens.{is_marker}
-use Rattle.ion_text.proofs.Walks.{flat_symbol}
 use Rattle.ion_text.proofs.walk.TextWalk.end_quoted.Goals as goal
 
 pub end_word-requires-clause-found : goal.end_word-requires-clause-found
@@ -19,7 +18,6 @@ end_word-requires-clause-found g c =
           found = c.requires.says.found;
           says = c.requires.says.says;
           is = refl;
-          flat = flat_symbol (Some w);
         };
         is = refl;
       };

@@ -11,8 +11,7 @@ take_whole-requires-clause-found g c = record {
     payload = payload_of c.in-Some.said;
     found = c.requires.says.found;
     says = c.requires.says.says;
-    is = c.in-Some.ensures.0;
-    flat = c.in-Some.ensures.1;
+    is = c.in-Some.ensures;
   };
   is = refl;
 }
@@ -25,8 +24,7 @@ take_word-requires-clause-found g c = record {
     payload = payload_of c.in-Some.said;
     found = c.requires.says.found;
     says = c.requires.says.says;
-    is = c.in-Some.ensures.0;
-    flat = c.in-Some.ensures.1;
+    is = c.in-Some.ensures;
   };
   is = refl;
 }

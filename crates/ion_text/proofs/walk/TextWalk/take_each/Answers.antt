@@ -1,6 +1,7 @@
 use Rattle.std.proofs.Common.{◌≡◌, ◌+◌, ◌-◌, List, ℕ, length, take, drop, arith, ap, ◌∙◌, length-drop}
 use Rattle.std.proofs.lemmas.List.{take_rest}
 use Rattle.ion_text.proofs.Strides.{settings_none, settings_on, strides_ok, strode_none, strode_on}
+use Rattle.ion_text.proofs.LastTokens.{ends_on, ends_strode, strides_ends}
 use Rattle.ion_text.proofs.walk.TextWalk.take_each.Goals as goal
 
 pub loop-init : goal.loop-init
@@ -24,7 +25,9 @@ loop-preserved g c =
     let two = c.in_ok-count.ensures in (
       strode_on g.V.Visitor.takes c.args.self.now c.loop.self c.take_next.new.self c.args.rest.now c.loop.rest c.take_next.new.rest octets
           (take (length octets - at) (drop at octets)) at c.in_ok-count.count c.args.visitor.now c.loop.visitor c.take_next.new.visitor (take_rest octets at)
-          c.loop.invariant.1 c.loop.invariant.0 two.strode,
+          c.loop.invariant.1 c.loop.invariant.0
+          (ends_strode g.V.Visitor.takes c.loop.self c.take_next.new.self c.loop.rest c.take_next.new.rest (take (length octets - at) (drop at octets))
+          c.in_ok-count.count c.in_ok-count.taken c.loop.visitor c.take_next.new.visitor c.in-Uses.is two),
       settings_on c.args.self.now c.loop.self c.take_next.new.self c.loop.invariant.1 two.same,
     )
 
@@ -32,14 +35,20 @@ pub returns-then-count-eq0 : goal.returns-then-count-eq0
 returns-then-count-eq0 g c =
     let octets = c.args.octets.now in
     let at = c.loop.at in
-    let two = c.in_ok-count.ensures in
-    strides_ok g.V.Visitor.takes c.args.self.now c.take_next.new.self c.args.rest.now c.take_next.new.rest octets (at + c.in_ok-count.count)
-    c.args.visitor.now c.take_next.new.visitor
-    (strode_on g.V.Visitor.takes c.args.self.now c.loop.self c.take_next.new.self c.args.rest.now c.loop.rest c.take_next.new.rest octets
+    ends_on g.V.Visitor.takes c.args.self.now c.loop.self c.take_next.new.self c.args.rest.now c.loop.rest c.take_next.new.rest octets
     (take (length octets - at) (drop at octets)) at c.in_ok-count.count c.args.visitor.now c.loop.visitor c.take_next.new.visitor (take_rest octets at)
-    c.loop.invariant.1 c.loop.invariant.0 two.strode) (settings_on c.args.self.now c.loop.self c.take_next.new.self c.loop.invariant.1 two.same)
+    c.loop.invariant.1 c.loop.invariant.0 c.in_ok-count.taken c.in_ok-count.ensures
 
-pub returns-after-loop : goal.returns-after-loop
-returns-after-loop g c =
-    strides_ok g.V.Visitor.takes c.args.self.now c.loop.self c.args.rest.now c.loop.rest c.args.octets.now c.loop.at c.args.visitor.now c.loop.visitor
-    c.loop.invariant.0 c.loop.invariant.1
+pub returns-in_default : goal.returns-in_default
+returns-in_default g c =
+    let octets = c.args.octets.now in
+    let at = c.loop.at in
+    ends_on g.V.Visitor.takes c.args.self.now c.loop.self c.take_next.new.self c.args.rest.now c.loop.rest c.take_next.new.rest octets
+    (take (length octets - at) (drop at octets)) at c.in_ok-count.count c.args.visitor.now c.loop.visitor c.take_next.new.visitor (take_rest octets at)
+    c.loop.invariant.1 c.loop.invariant.0 c.in_ok-count.taken c.in_ok-count.ensures
+
+pub returns : goal.returns
+returns g c =
+    strides_ends g.V.Visitor.takes c.args.self.now c.loop.self c.args.rest.now c.loop.rest c.args.octets.now c.loop.at c.args.visitor.now c.loop.visitor
+    (strides_ok g.V.Visitor.takes c.args.self.now c.loop.self c.args.rest.now c.loop.rest c.args.octets.now c.loop.at c.args.visitor.now c.loop.visitor
+    c.loop.invariant.0 c.loop.invariant.1)

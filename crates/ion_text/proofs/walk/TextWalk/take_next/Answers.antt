@@ -1,21 +1,36 @@
-use Rattle.std.proofs.Common.{◌+◌, ◌-◌, ◌<◌, length, take, drop, arith}
+use Rattle.std.proofs.Common.{◌-◌, ◌<◌, length, take, drop, arith, sym, subst}
 use Rattle.std.proofs.lemmas.List.{take_rest}
-use Rattle.ion_text.proofs.Strides.{blank_strode, settings_none, strides_none, strides_ok, strode_on}
+use Rattle.ion_tokens.specs.machine.Rests.{RestsBehind}
+use Rattle.ion_tokens.proofs.runs.WholeComments.{white_rests}
+use Rattle.ion_text.proofs.Strides.{blank_strode, settings_none, strides_ok}
+use Rattle.ion_text.proofs.LastTokens.{ends_none, ends_on, strides_ends}
 use Rattle.ion_text.proofs.walk.TextWalk.take_next.Goals as goal
 
 pub returns-then-blank-octets : goal.returns-then-blank-octets
-returns-then-blank-octets g c = strides_none g.V.Visitor.takes c.args.self.now c.args.rest.now c.args.octets.now c.args.visitor.now
+returns-then-blank-octets g c = ends_none g.V.Visitor.takes c.args.self.now c.args.rest.now c.args.octets.now c.args.visitor.now
+
+pub returns-then-octets-blank-eq47 : goal.returns-then-octets-blank-eq47
+returns-then-octets-blank-eq47 g c =
+    let r = c.args.self.now in
+    let octets = c.args.octets.now in
+    let v = c.args.visitor.now in
+    let n = c.past_comments.result in
+    strides_ends g.V.Visitor.takes r r c.args.rest.now c.past_comments.new.rest octets n v v
+    (strides_ok g.V.Visitor.takes r r c.args.rest.now c.past_comments.new.rest octets n v v
+    (blank_strode g.V.Visitor.takes r c.args.rest.now c.past_comments.new.rest octets n v c.past_comments.ensures.rests c.past_comments.ensures.within)
+    (settings_none r))
 
 pub returns : goal.returns
 returns g c =
-    let old = c.args.self.now in
+    let r = c.args.self.now in
     let octets = c.args.octets.now in
     let v = c.args.visitor.now in
-    let n = c.blank_with_comments-blank.result.0 in
-    let mid = c.blank_with_comments-blank.result.1 in
+    let n = c.blanks-blank.result in
+    let mid = c.go_past_blank.new.rest in
     let more : n < length octets = omega (arith, c.if-blank-octets.false) in
-    let two = c.in_ok-count.ensures in
-    strides_ok g.V.Visitor.takes old c.take_token.new.self c.args.rest.now c.take_token.new.rest octets (n + c.in_ok-count.count) v c.take_token.new.visitor
-    (strode_on g.V.Visitor.takes old old c.take_token.new.self c.args.rest.now mid c.take_token.new.rest octets (take (length octets - n) (drop n octets)) n
-    c.in_ok-count.count v v c.take_token.new.visitor (take_rest octets n) (settings_none old)
-    (blank_strode g.V.Visitor.takes old c.args.rest.now mid octets n v c.blank_with_comments-blank.ensures.rests more) two.strode) two.same
+    ends_on g.V.Visitor.takes r r c.take_token.new.self c.args.rest.now mid c.take_token.new.rest octets (take (length octets - n) (drop n octets)) n
+    c.in_ok-count.count v v c.take_token.new.visitor (take_rest octets n) (settings_none r)
+    (blank_strode g.V.Visitor.takes r c.args.rest.now mid octets n v
+    (subst (λ r. RestsBehind octets n c.args.rest.now r) (sym c.go_past_blank.ensures)
+    (white_rests octets n c.blanks-blank.ensures.within c.blanks-blank.ensures.passed c.args.rest.now)) more)
+    c.in_ok-count.taken c.in_ok-count.ensures

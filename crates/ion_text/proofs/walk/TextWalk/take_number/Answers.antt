@@ -8,6 +8,7 @@ use Rattle.ion_text.specs.declared.state.Frame.{Frame}
 use Rattle.ion_text.specs.machine.EachToken.{Symbols, ended}
 use Rattle.ion_text.specs.walk.Holds.{Does, Holds, setting_of, spot_of, told}
 use Rattle.ion_text.specs.walk.Strides.{StridesBy}
+use Rattle.ion_text.proofs.Holding.{number_layer}
 use Rattle.ion_text.proofs.SaidThere.{number_begins}
 use Rattle.ion_text.proofs.Strides.{value_answer, value_place}
 use Rattle.ion_text.proofs.walk.TextWalk.take_number.Goals as goal
@@ -15,18 +16,19 @@ use Rattle.ion_text.proofs.walk.TextWalk.take_number.Goals as goal
 pub returns-in-Ok-Goes : goal.returns-in-Ok-Goes
 returns-in-Ok-Goes g c =
     let old = c.args.self.now in
-    let new = c.whole_number.new.self in
+    let new = c.whole_untold.new.self in
     let rest = c.args.rest.now in
     let octets = c.args.octets.now in
     let here = c.place-here.result in
     let token = c.in-Some.token in
-    let number = c.in-Some.number in
-    subst (λ (r : Rest). StridesBy g.V.Visitor.takes old new rest r octets (Ok token.count) c.args.visitor.now c.whole_number.new.visitor)
+    let number = c.in-Some.ensures.found.0 in
+    let v = c.args.visitor.now in
+    subst (λ (r : Rest). StridesBy g.V.Visitor.takes old new rest r octets (Ok token.count) v v)
     (sym c.past_token.ensures)
-    (value_answer g.V.Visitor.takes old new rest octets c.args.visitor.now c.whole_number.new.visitor c.in-Ok-Goes.ensures.setting here token
+    (value_answer g.V.Visitor.takes old new rest octets v v c.in-Ok-Goes.ensures.setting here token
     (number_payload number) c.in-Some.ensures.within c.requires.now c.requires.inner c.place-here.ensures
     (λ fs ss h. number_begins here rest octets token number
-    (c.in-Some.ensures.found here rest (ap is_name (c.place-here.ensures fs ss h) ∙ value_place old fs ss c.requires.now h)))
+    (c.in-Some.ensures.found.1 here rest (ap is_name (c.place-here.ensures fs ss h) ∙ value_place old fs ss c.requires.now h)))
     (subst (λ (e : Effect). (fs : List Frame) (ss : Symbols) → Holds old fs ss → Does g.V.Visitor.takes (told fs ss)
-    (ended (setting_of old) (spot_of old (rest.used + token.count)) fs (annotated ss (number_payload number))) (Ok e) new c.args.visitor.now c.whole_number.new.visitor)
-    c.in-Ok-Goes.field-0-is c.in-Ok-Goes.ensures.does))
+    (ended (setting_of old) (spot_of old (rest.used + token.count)) fs (annotated ss (number_payload number))) (Ok e) new v v)
+    c.in-Ok-Goes.field-0-is (c.in-Ok-Goes.ensures.does (number_payload number) (number_layer number))))

@@ -1,19 +1,16 @@
 use Rattle.std.proofs.Common.{ap, sym, subst, false}
-use Rattle.ion_atoms.specs.declared.kind.Kind.TheVariants as kinds
 use Rattle.ion_model.specs.declared.value.Payload.TheVariants as payloads
 use Rattle.ion_tokens.specs.Bodies.{content}
 use Rattle.ion_text.specs.machine.FrontTokens.{IsValue}
 use Rattle.ion_text.specs.machine.EachToken.{on_ready}
-use Rattle.ion_text.specs.machine.Walked.{IsFlat}
-use Rattle.ion_text.proofs.Walks.{flat_clob, flat_blob}
 use Rattle.ion_text.proofs.walk.rare_tokens.value_part.Goals as goal
 
 pub returns-in-Clob : goal.returns-in-Clob
 returns-in-Clob c =
-    subst (λ w. IsValue false (content c.args.body.now) (payloads.Clob w) × IsFlat (payloads.Clob w) kinds.Clob) (sym c.as_slice.ensures)
-    (λ setting spot fs ss. ap (λ b. on_ready setting spot fs ss (content b)) c.in-Clob.is, flat_clob c.in-Clob.octets)
+    subst (λ w. IsValue false (content c.args.body.now) (payloads.Clob w)) (sym c.as_slice.ensures)
+    (λ setting spot fs ss. ap (λ b. on_ready setting spot fs ss (content b)) c.in-Clob.is)
 
 pub returns-in-Blob : goal.returns-in-Blob
 returns-in-Blob c =
-    subst (λ w. IsValue false (content c.args.body.now) (payloads.Blob w) × IsFlat (payloads.Blob w) kinds.Blob) (sym c.as_slice-in-Blob.ensures)
-    (λ setting spot fs ss. ap (λ b. on_ready setting spot fs ss (content b)) c.in-Blob.is, flat_blob c.in-Blob.octets)
+    subst (λ w. IsValue false (content c.args.body.now) (payloads.Blob w)) (sym c.as_slice-in-Blob.ensures)
+    (λ setting spot fs ss. ap (λ b. on_ready setting spot fs ss (content b)) c.in-Blob.is)

@@ -189,9 +189,6 @@ module _ (g : Catalog) (l : Limits) where
   DirectAt r x = (waits r x ≡ true) ⊎ (settle g l r ≡ goes r)
 
   module _ (s : Known) (o : ℕ) where
-    again : State → Effect
-    again = λ k. takes g l 2 k o
-
     -- it is taken up at once
     pub eats_direct : (r : Reading) (x : Outcome) → feed (place r) s o ≡ x → DirectAt r x → eats g l (with_scan s r) o ≡ on_scan g l (λ k. takes g l 2 k o) r x
     eats_direct r x e w = subst (λ y. eats g l (with_scan s r) o ≡ on_scan g l (λ k. takes g l 2 k o) r y) e

@@ -325,11 +325,6 @@ module _ (g : Catalog) (l : Limits) where
   scalar_read c p start fs ss t _ _ here h (is_clob w) v = at_once (first_token g l p (at start c fs ss nows.Ready) t _ [] h here (inr refl))
   scalar_read c p start fs ss t _ _ here h (is_blob w) v = at_once (first_token g l p (at start c fs ss nows.Ready) t _ [] h here (inr refl))
 
-  ends_long_front : (ts us : List Placed) (t : Placed) → ends_long (ts ++ t ∷ us) ≡ ends_long (t ∷ us)
-  ends_long_front [] us t = refl
-  ends_long_front (x ∷ []) us t = refl
-  ends_long_front (x ∷ y ∷ ts) us t = ends_long_front (y ∷ ts) us t
-
   end_of_front : (ts us : List Placed) (t : Placed) (d : ℕ) → end_of d (ts ++ t ∷ us) ≡ end_of 0 (t ∷ us)
   end_of_front [] us t d = refl
   end_of_front (x ∷ ts) us t d = end_of_front ts us t x.lexeme.end
@@ -555,12 +550,6 @@ module _ (g : Catalog) (l : Limits) where
   leads_as c fs r n ts us t e (at_once h) = at_once (e ∙ h)
   leads_as c fs r n ts us t e (by_held start ss h end i j) = by_held start ss h end (e ∙ i) j
   leads_as c fs r n ts us t e (by_long' start ss w end i j k) = by_long' start ss w end (e ∙ i) j (ends_behind ts us k)
-
-  plain_cut : (c : List Slot) (p : Place) (ts : List Placed) (q : Payload) → Plain c p ts q → (t : Placed) × (us : List Placed) × (ts ≡ t ∷ us)
-  plain_cut c p ts q d = let b = plain_begins c p ts q d in (b.first, b.later, b.cut)
-
-  lift : (P : List Placed → Type 0) (ts : List Placed) (b : (t : Placed) × (us : List Placed) × (ts ≡ t ∷ us)) → P (b.0 ∷ b.1) → P ts
-  lift P ts b h = subst P (sym b.2) h
 
   -- without annotations the payload's tokens are the value's
   unnoted : (c : List Slot) (p : Place) (notes ts : List Placed) (ss : Symbols) (fs : List Frame) → Annotations c p notes ss

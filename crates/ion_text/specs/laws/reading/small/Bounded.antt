@@ -25,10 +25,9 @@ use Rattle.ion_tokens.specs.Places.{is_sexp}
 use Rattle.ion_tokens.specs.machine.Said.{said}
 use Rattle.ion_tokens.specs.machine.Scanning.{Known, Outcome, Next, Given, Left, Refused, feed}
 use Rattle.ion_tokens.specs.Lexemes.{Lexeme}
-use Rattle.ion_tokens.specs.machine.Views.{looks, behind, form_of, begun_in, held_in}
+use Rattle.ion_tokens.specs.machine.Views.{behind, form_of, begun_in, held_in}
 use Rattle.ion_tokens.proofs.sound.Holds.{InMode}
 use Rattle.ion_tokens.proofs.foreseen.Reaches.{begun_stays}
-use Rattle.ion_text.specs.declared.reader.TextReader.{TextReader}
 use Rattle.ion_text.specs.declared.state.Held.{Held}
 use Rattle.ion_text.specs.declared.state.Now.{Now}
 use Rattle.ion_text.specs.declared.state.Now.TheVariants as nows
@@ -38,13 +37,12 @@ use Rattle.ion_text.specs.laws.reading.sound.Held.{IsFirst, none_open}
 use Rattle.ion_text.specs.machine.EachToken.{Spot, under, spot_at, token_at, Reading, Turn, goes, gives, refuses, late, Symbols, at, place, place_in, settle, settled, turn, turn_now, ended, paid, released, held_payload}
 use Rattle.ion_text.specs.machine.Passed.{said_body}
 use Rattle.ion_text.specs.machine.Places.{Leading, settle_same}
-use Rattle.ion_text.specs.machine.Progress.{Ran, Stands, octets_kept}
+use Rattle.ion_text.specs.machine.Progress.{Ran}
 use Rattle.ion_text.specs.laws.reading.complete.Quiet.{CalmNow}
 use Rattle.ion_text.specs.laws.reading.sound.Quotes.{Fine, Finely, feed_fine}
 use Rattle.ion_text.specs.machine.Run.{State, Effect, uses, tells, leaves, fails, begun, run, takes, unsettled, noticed, on_octet, on_scan, on_settled, on_said, behind_given, behind_left, or_worse, with_scan, token_of, shut, is_top, reaches, longest_top, is_long_begun, Run}
 use Rattle.ion_text.specs.laws.reading.sound.StandsOpen.{NowStands}
 use Rattle.ion_text.specs.laws.reading.sound.Steps.{Stood, run_ran, begun_stood, StoodBehind}
-use Rattle.ion_text.specs.machine.Views.{state_of}
 use Rattle.ion_text.specs.laws.showing.tokens.Cuts.{OpenBehind, behind_tokens}
 use Rattle.ion_text.specs.laws.showing.shown.OpenRests.{start_before}
 use Rattle.ion_text.specs.laws.showing.shown.Within.{Within, EndsWithin, begun_within}
@@ -362,10 +360,3 @@ module _ (g : Catalog) (l : Limits) where
       by : (held_in m.scan ≡ 0) ⊎ (m.scan ≡ h.before.scan) → held_in m.scan ≤ l.item
       by (inl e) = omega (arith, e)
       by (inr e) = subst (λ k. held_in k ≤ l.item) (sym e) (led_kept u h.given h.before looked h.ran (subst (λ k. IsSteady k looked) e steady))
-
--- The octets kept are of the open item, and within the limit on items.
-pub bounded : (r : TextReader) (u : List ℕ) (s : List (Value × ℕ)) → Stands r u s → octets_kept r ≤ r.limits.item
-bounded r u s h =
-    let held = ran_kept r.catalog.now r.limits u s (state_of r) r.awaited (looks r.scanner) h.ran h.steady in
-    let beside = ap length r.beside.none_open in
-    omega arith

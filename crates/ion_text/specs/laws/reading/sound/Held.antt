@@ -279,9 +279,6 @@ module _ (g : Catalog) (l : Limits) where
   span_fits [] start end f e h = omega arith
   span_fits (t ∷ ts) start end f e h = omega arith
 
-  long_now : (r : Reading) (c : List Slot) → r ≡ fresh c → IsLongNow r.now → ⊥
-  long_now r c e h = subst (λ (x : Reading). IsLongNow x.now) e h
-
   -- What a turn leads to stands for the octets, where the tokens of the open item led to it.
   pub sounds_read : (S : Scans) (u : List ℕ) (vs : List Value) (s : Known) (ahead : List ℕ) (A : Reading → Type 0) (c : List Slot) (front item : List Placed)
       (start end : ℕ) (t : Turn)
@@ -341,9 +338,6 @@ module _ (g : Catalog) (l : Limits) where
 
   module _ (S : Scans) (u : List ℕ) (vs : List Value) (s : Known) (r : Reading) (ahead : List ℕ) (A : Type 0) (b : Behind S u vs s r ahead A) (x : Lexeme)
       (alone : A → NotLong (is_top r.frames) x) where
-    is_top_none : (fs : List Frame) → fs ≡ [] → is_top fs ≡ true
-    is_top_none fs e = ap is_top e
-
     not_segment : ends_long (b.front ++ b.item) ≡ true → IsLongNow r.now ⊎ NotLong (is_top r.frames) x
     not_segment e = go (b.apart e)
       where
@@ -446,9 +440,6 @@ module _ (g : Catalog) (l : Limits) where
     same_apart : (n : Reading) (p : Place) (top : Bool) (y : Outcome) → place n ≡ p → is_top n.frames ≡ top → feed p s o ≡ y → NoSegment top y → ApartAt o s n
     same_apart n p top y e f k h = subst (λ q. NoSegment (is_top n.frames) (feed q s o)) (sym e)
         (subst (λ b. NoSegment b (feed p s o)) (sym f) (subst (NoSegment top) (sym k) h))
-
-    weaker : (r : Reading) → Behind S u vs s r ahead (ApartAt o s r) → Reads S u vs s ahead (λ n. ApartAt o s n) (goes r)
-    weaker r b = b
 
     -- What waited is settled before the octet, with which it doesn't go on.
     pub settled_read : (start : ℕ) (c : List Slot) (fs : List Frame) (ss : Symbols) (now : Now)

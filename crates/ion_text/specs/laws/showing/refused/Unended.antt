@@ -3,10 +3,9 @@ use Rattle.std.proofs.Common.{◌≡◌, ℕ, ◌≤◌, Bool, true, false, ◌|
 use Rattle.ion_model.specs.declared.value.Value.{Value}
 use Rattle.ion_symtab.specs.declared.limits.Limits.{Limits}
 use Rattle.ion_symtab.specs.declared.catalog.Catalog.{Catalog}
-use Rattle.ion_tokens.specs.declared.mode.Mark.TheVariants as marks
 use Rattle.ion_tokens.specs.declared.mode.Mode.TheVariants as modes
 use Rattle.ion_tokens.specs.declared.mode.Place.{Place}
-use Rattle.ion_tokens.specs.Bodies.{Content, Long, Mark'}
+use Rattle.ion_tokens.specs.Bodies.{Content}
 use Rattle.ion_tokens.specs.machine.Said.{said}
 use Rattle.ion_tokens.specs.machine.Scanning.{Known, Next, Left, feed, follow, run}
 use Rattle.ion_tokens.specs.Lexemes.{takes_colon}
@@ -44,7 +43,7 @@ use Rattle.ion_text.specs.laws.showing.tokens.Exacts.{behind_used, exact_at, top
 use Rattle.ion_text.specs.laws.showing.tokens.Inside.{closes_past, never_past}
 use Rattle.ion_text.specs.laws.showing.refused.Halting.{follows}
 use Rattle.ion_text.specs.laws.showing.refused.Halts.{Halted, TurnRefuses, ScanRefused, StopsAt}
-use Rattle.ion_text.specs.laws.showing.refused.Stuck.{ends_goes, left_plain}
+use Rattle.ion_text.specs.laws.showing.refused.Stuck.{ends_goes}
 
 module _ (g : Catalog) (l : Limits) (u : List ℕ) (o : ℕ) (vs : List Value) (h : Halted g l u o vs) (x : Placed) (xs : List Placed)
     (some : h.b.item ≡ x ∷ xs) where
@@ -122,9 +121,6 @@ module _ (g : Catalog) (l : Limits) (u : List ℕ) (o : ℕ) (vs : List Value) (
 
       abbrev d : Content
       d = says.1
-
-      plain : (d ≡ Mark' marks.Colons → ⊥) × ((w : List ℕ) → d ≡ Long w → ⊥)
-      plain = left_plain g l u o vs h z n d left says.2
 
       fine : Finely s.mode (Left z.lexeme n)
       fine = finely_as p s o (Left z.lexeme n) h.b.fine left

@@ -1,0 +1,28 @@
+-- Values of which a visitor heeds nothing, and that needn't be told it.
+use Rattle.std.proofs.Common.{◌≡◌, List, Bool, true, false, refl, sym, ◌∙◌}
+use Rattle.std.proofs.lemmas.Bool.{false≢true}
+use Rattle.ion_model.specs.declared.value.Payload.{Payload}
+use Rattle.ion_visiting.specs.declared.table_filter.Table.{Table}
+use Rattle.ion_visiting.specs.declared.table_filter.Table.TheVariants as tables
+use Rattle.ion_visiting.specs.declared.table_filter.TableFilter.{TableFilter}
+use Rattle.ion_visiting.specs.Events.{Event, part}
+use Rattle.ion_visiting.specs.Tables.{LetsPass, Tells, WasTold, begins_struct, heard, is_of_table}
+use Rattle.ion_visiting.specs.laws.Filters.{hears_none, visitor_tells}
+
+plain_of : (t : Table) (b : Bool) → is_of_table t true ≡ false → is_of_table t b ≡ false
+plain_of tables.Unknown b h = refl
+plain_of tables.No b h = refl
+plain_of tables.Noted b h = absurd (false≢true (sym h))
+plain_of tables.Yes b h = absurd (false≢true (sym h))
+
+-- what answers false only there answers true elsewhere
+pub let_by : (b x : Bool) → (b ≡ false → x ≡ true) → x ≡ false → b ≡ true
+let_by true x k h = refl
+let_by false x k h = absurd (false≢true (sym h ∙ k refl))
+
+-- a part is as told to a visitor that stays as it is, where it is part of no table
+pub untold_tells : {V : Type 0} (takes : V → Event → V → Type 0) (f g : TableFilter) (a : V) (p : Payload) → is_of_table f.table true ≡ false
+    → ((es : List Event) → WasTold f es → LetsPass g × (heard es ≡ es)) → takes a (part p) a → Tells takes (part p) f g a a
+untold_tells takes f g a p plain passes still =
+    visitor_tells takes (part p) f g a a a tt (plain_of f.table (begins_struct (part p)) plain)
+    (λ es h. let i = passes es h in (i.0, hears_none takes (heard es) es a (sym i.1))) still

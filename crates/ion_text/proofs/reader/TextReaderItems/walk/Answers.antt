@@ -1,0 +1,8 @@
+use Rattle.ion_text.specs.walk.Runs.{Told}
+use Rattle.ion_text.proofs.Builds.{tells_held}
+use Rattle.ion_text.proofs.reader.TextReaderItems.walk.Goals as goal
+
+pub returns-clause-tells : goal.returns-clause-tells
+returns-clause-tells g c =
+    tells_held g.V.Visitor.takes (λ r. r.walk) Told (record c.args.self.now { walk = c.walk.new.self }) (Told c.args.self.now.walk) c.args.piece.now
+    c.walk.result c.args.visitor.now c.walk.new.visitor c.walk.ensures.tells

@@ -1,0 +1,28 @@
+use Rattle.std.proofs.Common.{ap, sym, subst, Some, true, false, refl}
+use Rattle.std.specs.Cow.{cow_str_bytes}
+use Rattle.ion_model.specs.declared.value.Payload.TheVariants as payloads
+use Rattle.ion_tokens.specs.Bodies.{content}
+use Rattle.ion_text.specs.machine.FrontTokens.{held_of, Pays, IsValue}
+use Rattle.ion_text.specs.machine.EachToken.{on_ready}
+use Rattle.ion_text.proofs.tokens.finders.rare_part.Goals as goal
+
+pub returns-in-Quoted : goal.returns-in-Quoted
+returns-in-Quoted c =
+    let w = c.in-Quoted.text in
+    subst (λ w. IsValue true (content c.args.body.now) (payloads.Symbol (Some w))) (sym c.as_str.ensures)
+    (subst (λ b. Pays (held_of (content b)) (payloads.Symbol (Some w))) (sym c.in-Quoted.is) refl)
+
+pub returns-in-TypedNull : goal.returns-in-TypedNull
+returns-in-TypedNull c = subst (λ b. Pays (held_of (content b)) (payloads.Null c.in-TypedNull.kind)) (sym c.in-TypedNull.is) refl
+
+pub returns-in-Short : goal.returns-in-Short
+returns-in-Short c =
+    subst (λ w. IsValue false (content c.args.body.now) (payloads.Str w)) (sym c.as_str-in-Short.ensures)
+    (λ setting spot fs ss. ap (λ b. on_ready setting spot fs ss (content b)) c.in-Short.is)
+
+pub returns-in-Operator : goal.returns-in-Operator
+returns-in-Operator c =
+    let w = cow_str_bytes c.in-Operator.word in
+    subst (λ w. IsValue false (content c.args.body.now) (payloads.Symbol (Some w)))
+    (sym c.as_str-in-Operator.ensures.value)
+    (λ setting spot fs ss. ap (λ b. on_ready setting spot fs ss (content b)) c.in-Operator.is)

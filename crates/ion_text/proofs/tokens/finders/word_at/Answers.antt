@@ -1,0 +1,37 @@
+use Rattle.std.proofs.Common.{◌≡◌, ◌≢◌, ◌∙◌, Option, Ok, false, ap, sym, subst, arith, take, get_or, refl}
+use Rattle.std.specs.Prelude.{IfSome}
+use Rattle.ion_tokens.specs.Bodies.{Word}
+use Rattle.ion_text.specs.machine.EachToken.{held_payload, held_word}
+use Rattle.ion_visiting.specs.Parts.{payload_of}
+use Rattle.ion_text.specs.declared.state.Held.{Held}
+use Rattle.ion_text.specs.machine.FrontTokens.{is_marker}
+use Rattle.ion_text.proofs.Arms.{first_of}
+use Rattle.ion_text.proofs.Symbols.{word_said}
+use Rattle.ion_text.proofs.Walks.{word_unmarked}
+use Rattle.ion_text.proofs.tokens.finders.word_at.Goals as goal
+
+pub returns : goal.returns
+returns c = λ here rest.
+    let octets = c.args.octets.now in
+    let n = c.in_ok-count.count in
+    let kept = take n octets in
+    let is = c.in_ok-said.ensures in
+    let first : get_or octets 0 0 ≢ 36 = λ e. omega (arith, e, c.if-octets-eq36.false) in
+    let pays : held_payload (held_word kept) ≡ Ok (payload_of c.in_ok-said.said) = ap (λ w. held_payload (held_word w)) (sym c.from_utf8_unchecked.ensures)
+    ∙ is in
+    record {
+      part = record {
+        token = record {
+          kept = kept;
+          content = Word kept;
+          payload = payload_of c.in_ok-said.said;
+          found = c.in_ok-count.ensures.found here rest;
+          says = word_said here rest octets n (c.in_ok-count.ensures.found here rest) c.in_ok-count.ensures.text first;
+          is = pays;
+        };
+        is = refl;
+      };
+      waits = refl;
+      free = λ h e. subst (λ (o : Option Held). IfSome o (λ h. is_marker h ≡ false)) e
+          (word_unmarked kept (λ d. first (sym (first_of n octets (c.in_ok-count.ensures.found here rest).some) ∙ d)));
+    }

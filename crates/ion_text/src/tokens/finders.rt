@@ -1,0 +1,283 @@
+//! Tokens at the front of octets that are a value or a field's name, with what they say. Of a token
+//! that isn't whole, isn't plain or may be a symbol's id nothing is found.
+ghost use Rattle.std.specs.Prelude.{◌≡◌, ◌<◌, false, true, length, take, IfSome, Ok, Some};
+ghost use Rattle.ion_tokens.specs.Bodies.{content, Number'};
+ghost use Rattle.ion_tokens.specs.machine.Said.{said};
+ghost use Rattle.ion_tokens.specs.Places.{is_name};
+ghost use Rattle.ion_tokens.specs.declared.plain_tokens.Rest.{Rest};
+ghost use Rattle.ion_text.specs.machine.FrontTokens.{BeginsName, IsValue};
+ghost use Rattle.ion_text.specs.machine.EachToken.{held_word, held_payload};
+ghost use Rattle.ion_visiting.specs.Parts.{payload_of};
+ghost use Rattle.ion_text.specs.visiting.Walks.{FoundPart, FoundNumber, FoundSymbol};
+
+use super::symbols::plain_text;
+use crate::words::{is_keyword, may_be_keyword};
+use ion_model::Kind;
+use ion_scalar::{Number, number_of};
+use ion_tokens::{
+    Body, FoundToken, Place, TokenKind, number, operator, quoted_symbol, short_string, typed_null,
+    word,
+};
+use ion_visiting::Part;
+
+/// A token that is a value without others in it.
+#[derive(Clone, Copy)]
+pub(crate) struct Scalar {
+    pub token: FoundToken,
+    /// Whether it would be an annotation if `::` followed.
+    pub waits: bool,
+}
+
+// The value that a word is, but for `nan`.
+pub(crate) fn word_part(word: &str) -> Option<Part<'_>>
+    ensures { IfSome result (λ said. held_payload (held_word word.now) ≡ Ok (payload_of said)) }
+{
+    if !may_be_keyword(word) {
+        return Some(Part::Symbol(word));
+    }
+    if word == "null" {
+        return Some(Part::Null(Kind::Null));
+    }
+    if word == "true" {
+        return Some(Part::Truth(true));
+    }
+    if word == "false" {
+        return Some(Part::Truth(false));
+    }
+    if word == "nan" {
+        return None;
+    }
+    Some(Part::Symbol(word))
+}
+
+// The word at the front of octets, as a value.
+fn word_at(octets: &[u8]) -> Option<(Scalar, Part<'_>)>
+    ensures { IfSome result (λ found. (here : Place) (rest : Rest) →
+        FoundSymbol here rest octets.now found.0 (payload_of found.1)) }
+{
+    let count = word(octets)?;
+    if count >= octets.len() || octets[0] == b'$' {
+        return None;
+    }
+    let said = word_part(unsafe { str::from_utf8_unchecked(&octets[..count]) })?;
+    let token = FoundToken {
+        kind: TokenKind::Word,
+        count,
+        left: true,
+    };
+    let scalar = Scalar { token, waits: true };
+    Some((scalar, said))
+}
+
+// The quoted symbol there.
+fn quoted_at(octets: &[u8]) -> Option<(Scalar, Part<'_>)>
+    ensures { IfSome result (λ found. (here : Place) (rest : Rest) →
+        FoundSymbol here rest octets.now found.0 (payload_of found.1)) }
+{
+    let count = quoted_symbol(octets)?;
+    if count >= octets.len() || count < 2 {
+        return None;
+    }
+    let content = &octets[1..][..count - 2];
+    let token = FoundToken {
+        kind: TokenKind::QuotedSymbol,
+        count,
+        left: false,
+    };
+    let scalar = Scalar { token, waits: true };
+    Some((
+        scalar,
+        Part::Symbol(unsafe { str::from_utf8_unchecked(content) }),
+    ))
+}
+
+// The typed null there.
+#[inline(never)]
+fn null_at(octets: &[u8]) -> Option<(Scalar, Part<'_>)>
+    ensures { IfSome result (λ found. (here : Place) (rest : Rest) →
+        FoundSymbol here rest octets.now found.0 (payload_of found.1)) }
+{
+    let (count, kind) = typed_null(octets)?;
+    let token = FoundToken {
+        kind: TokenKind::KindName,
+        count,
+        left: true,
+    };
+    let scalar = Scalar { token, waits: true };
+    Some((scalar, Part::Null(kind)))
+}
+
+/// The short string there.
+pub(crate) fn string_at(octets: &[u8]) -> Option<(Scalar, Part<'_>)>
+    ensures found { IfSome result (λ found. (here : Place) (rest : Rest) →
+        FoundPart here rest octets.now found.0 (payload_of found.1)) }
+    ensures waits { IfSome result (λ found. found.0.waits ≡ false) }
+    ensures given { IfSome result (λ found. found.0.token.left ≡ false) }
+{
+    let count = short_string(octets)?;
+    if count > octets.len() || count < 2 {
+        return None;
+    }
+    let content = &octets[1..][..count - 2];
+    let token = FoundToken {
+        kind: TokenKind::ShortString,
+        count,
+        left: false,
+    };
+    let scalar = Scalar {
+        token,
+        waits: false,
+    };
+    Some((
+        scalar,
+        Part::Str(unsafe { str::from_utf8_unchecked(content) }),
+    ))
+}
+
+/// The number there, whose end the octet behind it shows.
+#[inline(always)]
+pub(crate) fn number_at(octets: &[u8]) -> Option<(FoundToken, Number)>
+    ensures found { IfSome result (λ found. (here : Place) (rest : Rest) → is_name here ≡ false →
+        FoundNumber here rest octets.now found.0 found.1) }
+    ensures says { IfSome result (λ found. said TokenKind.Number (take found.0.count octets.now)
+        ≡ Ok (Number' found.1)) }
+    ensures left { IfSome result (λ found. found.0.left ≡ true) }
+    ensures within { IfSome result (λ found. found.0.count < length octets.now) }
+{
+    let count = number(octets)?;
+    if count >= octets.len() {
+        return None;
+    }
+    let Ok(read) = number_of(&octets[..count]) else {
+        return None;
+    };
+    let token = FoundToken {
+        kind: TokenKind::Number,
+        count,
+        left: true,
+    };
+    Some((token, read))
+}
+
+/// What a token that isn't plain, and is no clob or blob, is as a value, and whether it would be an
+/// annotation if `::` followed.
+pub(crate) fn rare_part<'b>(body: &'b Body<'_>) -> Option<(bool, Part<'b>)>
+    ensures { IfSome result (λ found.
+        IsValue found.0 (content body.now) (payload_of found.1)) }
+{
+    match body {
+        Body::Quoted(text) => Some((true, Part::Symbol(text.as_str()))),
+        Body::TypedNull(kind) => Some((true, Part::Null(*kind))),
+        Body::Short(text) => Some((false, Part::Str(text.as_str()))),
+        Body::Operator(word) => Some((false, Part::Symbol(word.as_str()))),
+        _ => None,
+    }
+}
+
+/// The operator there, where an s-expression is open.
+pub(crate) fn operator_at(here: Place, octets: &[u8]) -> Option<(Scalar, Part<'_>)>
+    ensures found { IfSome result (λ found. (rest : Rest) →
+        FoundPart here rest octets.now found.0 (payload_of found.1)) }
+    ensures waits { IfSome result (λ found. found.0.waits ≡ false) }
+{
+    if !matches!(here, Place::Sexp) {
+        return None;
+    }
+    let count = operator(octets)?;
+    if count >= octets.len() {
+        return None;
+    }
+    let token = FoundToken {
+        kind: TokenKind::Operator,
+        count,
+        left: true,
+    };
+    let scalar = Scalar {
+        token,
+        waits: false,
+    };
+    Some((
+        scalar,
+        Part::Symbol(unsafe { str::from_utf8_unchecked(&octets[..count]) }),
+    ))
+}
+
+/// The word, the quoted symbol or the typed null there, as a value.
+pub(crate) fn symbol_at(octets: &[u8]) -> Option<(Scalar, Part<'_>)>
+    ensures { IfSome result (λ found. (here : Place) (rest : Rest) →
+        FoundSymbol here rest octets.now found.0 (payload_of found.1)) }
+{
+    match octets.first() {
+        Some(b'\'') => quoted_at(octets),
+        _ => match word_at(octets) {
+            None => null_at(octets),
+            found => found,
+        },
+    }
+}
+
+/// Whether a number may begin there.
+pub(crate) fn begins_number(octets: &[u8]) -> bool {
+    matches!(octets.first(), Some(b'-' | b'0'..=b'9'))
+}
+
+/// Whether a symbol may begin there that is an annotation if `::` follows.
+pub(crate) fn begins_symbol(octets: &[u8]) -> bool {
+    matches!(octets.first(), Some(b'a'..=b'z' | b'A'..=b'Z' | b'_' | b'\''))
+}
+
+// The text in quotes there that is a field's name, if its characters stand as they are.
+fn text_name(octets: &[u8]) -> Option<(FoundToken, &str)>
+    ensures { IfSome result (λ found. (here : Place) (rest : Rest) →
+        BeginsName here rest octets.now found.0 (Some found.1.now)) }
+{
+    let token = plain_text(octets)?;
+    if token.count >= octets.len() || token.count < 2 {
+        return None;
+    }
+    let content = &octets[1..][..token.count - 2];
+    Some((token, unsafe { str::from_utf8_unchecked(content) }))
+}
+
+// A word there that is a field's name.
+fn word_name(octets: &[u8]) -> Option<(FoundToken, &str)>
+    ensures { IfSome result (λ found. (here : Place) (rest : Rest) →
+        BeginsName here rest octets.now found.0 (Some found.1.now)) }
+{
+    let count = word(octets)?;
+    if count >= octets.len() || octets[0] == b'$' {
+        return None;
+    }
+    let text = unsafe { str::from_utf8_unchecked(&octets[..count]) };
+    if is_keyword(text) {
+        return None;
+    }
+    let token = FoundToken {
+        kind: TokenKind::Word,
+        count,
+        left: true,
+    };
+    Some((token, text))
+}
+
+/// The field's name there, if it is a word or its characters stand as they are.
+#[inline(always)]
+pub(crate) fn plain_name(octets: &[u8]) -> Option<(FoundToken, &str)>
+    ensures { IfSome result (λ found. (here : Place) (rest : Rest) →
+        BeginsName here rest octets.now found.0 (Some found.1.now)) }
+{
+    match octets.first() {
+        Some(b'"' | b'\'') => text_name(octets),
+        _ => word_name(octets),
+    }
+}
+
+// Whether a token that isn't plain may stand there: no mark, no comment and no long string.
+pub(crate) fn may_be_rare(octets: &[u8]) -> bool {
+    match octets.first() {
+        Some(b'\'') => octets.strip_prefix(b"'''").is_none(),
+        Some(b'{') => octets.strip_prefix(b"{{").is_some(),
+        Some(b'/' | b',' | b'[' | b']' | b'(' | b')' | b'}' | b'$') => false,
+        _ => true,
+    }
+}
