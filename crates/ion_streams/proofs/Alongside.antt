@@ -1,4 +1,4 @@
--- Two documents that are read side by side.
+-- What holds of a document that went past a value which wasn't built.
 use Rattle.std.proofs.Common.{◌≡◌, ℕ, ◌+◌, ◌-◌, ◌*◌, ◌<◌, ◌≤◌, List, [], ◌∷◌, ◌++◌, length, take, drop, ap, sym, subst, refl, ◌∙◌, arith, Some, length-take, length-drop}
 use Rattle.ion_model.specs.declared.value.Value.{Value}
 use Rattle.ion_symtab.specs.declared.catalog.Catalog.{Catalog}
@@ -7,7 +7,7 @@ use Rattle.ion_symtab.specs.declared.inlet.Inlet.{Ghosts as Inlet}
 use Rattle.ion_symtab.specs.declared.items.Items.{Ghosts as Items}
 use Rattle.ion_streams.specs.reading.Alongside.{WentPast, StandingPast}
 use Rattle.ion_streams.specs.reading.Read.{between, left_of, Begins, IsReady, IsWithin}
-use Rattle.ion_streams.specs.reading.Standing.{IfOpen, IsOpen, IfClosed, work_of, reads_of, Stood}
+use Rattle.ion_streams.specs.reading.Standing.{IfOpen, work_of, reads_of, Stood}
 use Rattle.ion_streams.specs.declared.source.Source.{Source}
 use Rattle.ion_streams.specs.declared.source.Standing.{Standing}
 use Rattle.ion_streams.specs.declared.source.Standing.TheVariants.{Open, Ended, Refused}
@@ -41,6 +41,7 @@ past I counted before after used v ready fits under within taken less next go pi
       ready = record {
         within = omega (arith, inside, at, end, ready.within);
         fits = let long : length after.piece.items ≡ length before.piece.items = ap length piece in omega (arith, end, long, ready.fits);
+        piece = let long : length after.piece.items ≡ length before.piece.items = ap length piece in omega (arith, long, ready.piece);
         room = omega (arith, room, taken, inside, at, end, reads, ready.within);
         begins = subst (λ x. Begins (I.awaits after.items) x) (sym rest)
             (begins_drop (I.awaits after.items) before.piece.items before.at before.end used inside next);
@@ -53,20 +54,6 @@ past I counted before after used v ready fits under within taken less next go pi
 
 -- what holds of a place that went past a value
 module _ {X : Type 0} (I : Items X) where
-  -- behind a value that it went past, a document is still being read
-  pub past_open : (place after : Standing X) (v : Value) → StandingPast I place after v → IsOpen after
-  past_open (Open from) (Open to) v h = tt
-  past_open (Open from) Ended v h = absurd h
-  past_open (Open from) (Refused r) v h = absurd h
-  past_open Ended after v h = absurd h
-  past_open (Refused r) after v h = absurd h
-
-  -- a document that has ended or was refused went past no value
-  pub past_closed : (place after : Standing X) (v : Value) (P : Type 0) → StandingPast I place after v → IfClosed place P
-  past_closed (Open from) after v P h = tt
-  past_closed Ended after v P h = absurd h
-  past_closed (Refused r) after v P h = absurd h
-
   -- behind a value that it went past, a document is ready to be read on
   pub past_ready : (place after : Standing X) (v : Value) → StandingPast I place after v → IfOpen after (IsReady I)
   past_ready (Open from) (Open to) v h = h.ready

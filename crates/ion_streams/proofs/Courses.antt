@@ -12,7 +12,7 @@ use Rattle.ion_streams.specs.Outcomes.{ToldRefused}
 use Rattle.ion_streams.specs.reading.Read.{left_of}
 use Rattle.ion_streams.specs.reading.Standing.{IfOpen, IsOpen, IfClosed, work_of, Stood}
 use Rattle.ion_streams.specs.Compared.{parts, PartAt, IsVerdict, IsCompared}
-use Rattle.ion_streams.specs.reading.Courses.{MetBoth, IsMet, count_of, verdict_on, verdict_of}
+use Rattle.ion_streams.specs.reading.Courses.{IfAlike, MetBoth, IsMet, verdict_on, verdict_of}
 use Rattle.ion_streams.specs.declared.source.Standing.{Standing}
 use Rattle.ion_streams.specs.declared.source.Standing.TheVariants as TheStanding
 use Rattle.ion_streams.specs.declared.comparison.Course.{Course}
@@ -27,10 +27,6 @@ use Rattle.ion_symtab.specs.declared.limits.Limits.{Limits}
 abbrev pub Onward : Course → List Value → List Value → List Value → List Value → Type 0
 Onward (Alike values) s t later_s later_t = parts s t ≡ option_map (λ n. n + values) (parts later_s later_t)
 Onward (Parted index path) s t later_s later_t = PartAt index path s t
-
-abbrev pub IfAlike : Course → (ℕ → Type 0) → Type 0
-IfAlike (Alike values) P = P values
-IfAlike (Parted index path) P = Unit {0}
 
 -- s and t compared so, and nothing follows behind a document that is closed
 pub record Meets {X Y : Type 0} (course : Course) (left : Standing X) (right : Standing Y) (s t : List Value) : Type 0 where
@@ -233,18 +229,6 @@ module _ {S X T Y : Type 0} (L : Inlet S) (I : Items X) (R : Inlet T) (J : Items
         heard_right = heard.2;
         decided = λ more_l more_r none_l none_r. (s, a.refused more_l none_l);
       }
-
-count_both : (n : ℕ) (v w : Value) (after : Course) → MetBoth n v w after → count_of after ≤ n + 1
-count_both n v w (Alike values) met = omega (arith, met.1)
-count_both n v w (Parted index path) met = omega (arith, met.1)
-
--- the next values are counted as one more at most
-pub count_met : (course after : Course) (v w : Option Value) → IsMet course v w after → count_of after ≤ count_of course + 1
-count_met (Parted index path) after v w met = rw met (omega arith)
-count_met (Alike n) after None None met = rw met (omega arith)
-count_met (Alike n) after (Some v) (Some w) met = count_both n v w after met
-count_met (Alike n) after None (Some w) met = rw met (omega arith)
-count_met (Alike n) after (Some v) None met = rw met (omega arith)
 
 work_kept : {X : Type 0} (I : Items X) (before after : Standing X) (P : Type 0) → IfOpen before (λ source. work_of I after < work_of I before)
     → IfClosed before ((after ≡ before) × P) → work_of I after ≤ work_of I before

@@ -27,7 +27,7 @@ pub record Driven {S X : Type 0} (R : Inlet S) (I : Items X) (reads : ℕ) (firs
 pub record IsNew {X : Type 0} (items : X) (reads : ℕ) (source : Source X) : Type 0 where
   pub same : source.items ≡ items
   pub nothing : (source.at ≡ 0) × (source.end ≡ 0) × (source.used ≡ 0)
-  pub piece : length source.piece.items ≡ 8192
+  pub piece : length source.piece.items ≡ 4096
   pub going : source.ended ≡ false
   pub few : source.reads ≡ reads
 

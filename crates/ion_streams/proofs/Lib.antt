@@ -1,5 +1,5 @@
 pub mod Pieces
-pub mod Joined
+pub mod Refilled
 pub mod Unfailed
 pub mod Endings
 pub mod Steps
@@ -9,7 +9,7 @@ pub mod Telling
 pub mod Driven
 pub mod Shown
 pub mod Courses
-pub mod Gathering
+pub mod Taping
 pub mod SideBySide
 pub mod Alongside
 pub mod Fronts

@@ -112,21 +112,6 @@ module _ {S X : Type 0} (R : Inlet S) (I : Items X) (g : Catalog) (l : Limits) w
   not_refused first old now Ended after s found closed gives h = let e = closed.0 in absurd cc
   not_refused first old now (Refused refusal) after s found closed gives h = let e = closed.0 in absurd cc
 
--- a document that is closed stays as it is, and gives nothing
-pub closed_same : {S X : Type 0} (old now : S) (place after : Standing X) (found : Option (Value × ℕ)) (value : Option Value)
-    → value ≡ option_map (λ (x : Value × ℕ). x.0) found →
-    IfClosed place ((◌≡◌ {A = Result (Option (Value × ℕ)) Fault} (Ok found) (Ok None)) × (now ≡ old) × (after ≡ place))
-    → IfClosed place ((after ≡ place) × (value ≡ None))
-closed_same old now (Open source) after found value is h = tt
-closed_same old now Ended after found value is h = let none : found ≡ None = let e = h.0 in cc in (h.2, is ∙ ap (option_map (λ (x : Value × ℕ). x.0)) none)
-closed_same old now (Refused refusal) after found value is h = let none : found ≡ None = let e = h.0 in cc in
-    (h.2, is ∙ ap (option_map (λ (x : Value × ℕ). x.0)) none)
-
--- where what was found has no value, nothing was found
-pub none_of : (found : Option (Value × ℕ)) (value : Option Value) → value ≡ option_map (λ (x : Value × ℕ). x.0) found → value ≡ None → found ≡ None
-none_of None value is none = refl
-none_of (Some x) value is none = let e = sym is ∙ none in absurd cc
-
 -- what follows for an answer that isn't known
 
 -- of an answer `Ok` what follows from what is known of it

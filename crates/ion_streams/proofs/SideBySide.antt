@@ -1,23 +1,120 @@
--- Two documents that are read in turn.
-use Rattle.std.proofs.Common.{◌≡◌, ◌⊎◌, ℕ, ◌+◌, ◌*◌, ◌<◌, ◌≤◌, ◌^◌, List, [], ◌∷◌, ◌++◌, length, Result, Ok, Option, None, IfSome, IsNone, option_map, option_to_list}
+-- Two documents that are read in turn, and the values that are written down of both.
+use Rattle.std.proofs.Common.{◌≡◌, ◌⊎◌, ℕ, ◌+◌, ◌*◌, ◌<◌, ◌≤◌, ◌^◌, List, [], ◌∷◌, ◌++◌, length, refl, sym, subst, ◌∙◌, append-nil, Bool, true, false, Result, Ok, Option, Some, None, IfSome, IsNone, is_some, option_to_list}
 use Rattle.ion_model.specs.declared.value.Value.{Value}
+use Rattle.ion_visiting.specs.Tapes.{Holds}
+use Rattle.ion_visiting.specs.declared.tape.Tape.{Tape}
 use Rattle.ion_symtab.specs.declared.catalog.Catalog.{Catalog}
 use Rattle.ion_symtab.specs.declared.limits.Limits.{Limits}
 use Rattle.ion_symtab.specs.Trace.{IsFront, Grows}
+use Rattle.ion_symtab.specs.Walks.{HasTold}
 use Rattle.ion_symtab.specs.declared.fault.Fault.{Fault}
 use Rattle.ion_symtab.specs.declared.inlet.Inlet.{Ghosts as Inlet}
 use Rattle.ion_symtab.specs.declared.items.Items.{Ghosts as Items}
 use Rattle.ion_streams.specs.Formats.{format_of}
 use Rattle.ion_streams.specs.reading.Read.{IsReady, IsWithin, HandedOn, Sought}
-use Rattle.ion_streams.specs.reading.Standing.{IfOpen, IsOpen, IfClosed, work_of, reads_of, Stood, StoodEach, GaveNext}
-use Rattle.ion_streams.specs.reading.Courses.{count_of}
+use Rattle.ion_streams.specs.reading.Standing.{IfOpen, IsOpen, IfClosed, work_of, reads_of, Stood, StoodEach}
+use Rattle.ion_streams.specs.reading.Courses.{AreHeld, IfAlike, IsMet, count_of}
+use Rattle.ion_streams.specs.reading.Telling.{telling, TapedNext}
 use Rattle.ion_streams.specs.declared.comparison.Course.{Course}
+use Rattle.ion_streams.specs.declared.comparison.Course.TheVariants as courses
 use Rattle.ion_streams.specs.declared.source.Standing.{Standing}
-use Rattle.ion_streams.specs.declared.source.Standing.TheVariants.{Refused}
-use Rattle.ion_streams.proofs.Courses.{Meets}
-use Rattle.ion_streams.proofs.Passes.{stood_next, closed_same, none_of}
+use Rattle.ion_streams.specs.declared.source.Standing.TheVariants.{Open, Ended, Refused}
+use Rattle.ion_streams.proofs.Courses.{Meets, meets_more}
+use Rattle.ion_streams.proofs.Steps.{plain_next, stood_plain}
 use Rattle.ion_streams.proofs.Turns.{WasAsked, Turn, ahead, level_on, left_on, right_on}
 use Rattle.ion_streams.proofs.Unfailed.{StandsHeard, StandsHeardSince}
+
+-- what is answered of a document that is closed: no more, and all is as it was
+abbrev pub Closed : {S X : Type 0} → S → S → Standing X → Standing X → Option ℕ → Type 0
+Closed old now place after found = IfClosed place ((◌≡◌ {A = Result (Option ℕ) Fault} (Ok found) (Ok None)) × (now ≡ old) × (after ≡ place))
+
+-- where no value was told, none was found
+pub none_of : (found : Option ℕ) (v : Option Value) → is_some v ≡ is_some found → v ≡ None → found ≡ None
+none_of None v is none = refl
+none_of (Some n) None is none = absurd cc
+none_of (Some n) (Some v) is none = absurd cc
+
+none_told : (found : Option ℕ) (v : Option Value) → is_some v ≡ is_some found → found ≡ None → v ≡ None
+none_told None None is none = refl
+none_told None (Some v) is none = absurd cc
+none_told (Some n) v is none = absurd cc
+
+-- a document that is closed stays as it is, and tells nothing
+pub closed_same : {S X : Type 0} (old now : S) (place after : Standing X) (found : Option ℕ) (v : Option Value) → is_some v ≡ is_some found
+    → Closed old now place after found → IfClosed place ((after ≡ place) × (v ≡ None))
+closed_same old now (Open source) after found v is h = tt
+closed_same old now Ended after found v is h = let none : found ≡ None = let e = h.0 in cc in (h.2, none_told found v is none)
+closed_same old now (Refused refusal) after found v is h = let none : found ≡ None = let e = h.0 in cc in (h.2, none_told found v is none)
+
+pub closed_kept : {S X : Type 0} (old now : S) (place after : Standing X) (found : Option ℕ) → Closed old now place after found
+    → IfClosed place ((after ≡ place) × (now ≡ old))
+closed_kept old now (Open source) after found h = tt
+closed_kept old now Ended after found h = (h.2, h.1)
+closed_kept old now (Refused refusal) after found h = (h.2, h.1)
+
+-- where two values are told of streams that didn't part, they were to be compared, and the tapes hold them
+pub are_held : {X Y : Type 0} (course : Course) (left left' : Standing X) (right right' : Standing Y) (compared : Bool) (t u : Tape) (v w : Option Value)
+    → (compared ≡ false → IfAlike course (λ n. IfOpen left (λ source. IfOpen right (λ source. ⊥)))) → IfClosed left ((left' ≡ left) × (v ≡ None))
+    → IfClosed right ((right' ≡ right) × (w ≡ None)) → (compared ≡ true → IfSome v (Holds t)) → (compared ≡ true → IfSome w (Holds u))
+    → IfAlike course (λ n. AreHeld t u v w)
+are_held (courses.Parted index path) left left' right right' compared t u v w not a b h k = tt
+are_held (courses.Alike n) left left' right right' compared t u None w not a b h k = tt
+are_held (courses.Alike n) left left' right right' compared t u (Some v) None not a b h k = tt
+are_held (courses.Alike n) left left' right right' true t u (Some v) (Some w) not a b h k = (h refl, k refl)
+are_held (courses.Alike n) (Open source) left' (Open other) right' false t u (Some v) (Some w) not a b h k = absurd (not refl)
+are_held (courses.Alike n) (Open source) left' Ended right' false t u (Some v) (Some w) not a b h k = absurd (let e = b.1 in cc)
+are_held (courses.Alike n) (Open source) left' (Refused r) right' false t u (Some v) (Some w) not a b h k = absurd (let e = b.1 in cc)
+are_held (courses.Alike n) Ended left' right right' false t u (Some v) (Some w) not a b h k = absurd (let e = a.1 in cc)
+are_held (courses.Alike n) (Refused r) left' right right' false t u (Some v) (Some w) not a b h k = absurd (let e = a.1 in cc)
+
+-- a document that can be read on can be walked on
+pub ready_told : {X : Type 0} (I : Items X) (place : Standing X) → IfOpen place (IsReady I) → IfOpen place (IsReady (telling I []))
+ready_told I (Open source) h = record { within = h.within; fits = h.fits; piece = h.piece; room = h.room; begins = h.begins; counted = h.counted }
+ready_told I Ended h = tt
+ready_told I (Refused r) h = tt
+
+module _ {S X : Type 0} (R : Inlet S) (I : Items X) (g : Catalog) (l : Limits) (first : S) where
+  -- Behind s one more was told or none, as was found; the tape holds it where it is to.
+  pub record NextTaped (holds : Bool) (tape : Tape) (found : Option ℕ) (now : S) (after : Standing X) (s : List Value) : Type 0 where
+    pub value : Option Value
+    pub is : is_some value ≡ is_some found
+    pub there : holds ≡ true → IfSome value (Holds tape)
+    pub stood : Stood R (telling I []) g l first now after (s ++ option_to_list value)
+
+  -- a document that was read on
+  pub taped : (old now : S) (place after : Standing X) (s : List Value) (holds : Bool) (tape : Tape) (found : Option ℕ) → Closed old now place after found
+      → ((given : List (Value × ℕ)) → StoodEach R (telling I []) g l first old place given → TapedNext holds R I g l first now after given found tape)
+      → Stood R (telling I []) g l first old place s → NextTaped holds tape found now after s
+  taped old now (Open source) after s holds tape found closed tells h = go found (tells h.given h.each)
+    where
+      go : (found : Option ℕ) → TapedNext holds R I g l first now after h.given found tape → NextTaped holds tape found now after s
+      go None each = record {
+        value = None;
+        is = refl;
+        there = λ yes. tt;
+        stood = subst (λ (x : List Value). Stood R (telling I []) g l first now after x) (h.values ∙ sym (append-nil s))
+            (stood_plain R (telling I []) g l first now after h.given each);
+      }
+      go (Some used) told = record {
+        value = Some told.0;
+        is = refl;
+        there = told.1;
+        stood = subst (λ (x : List Value). Stood R (telling I []) g l first now after x)
+            (plain_next h.given (Some (told.0, used)) (Some told.0) s h.values refl)
+            (stood_plain R (telling I []) g l first now after (h.given ++ (told.0, used) ∷ []) told.2);
+      }
+  taped old now Ended after s holds tape found closed tells h = still closed.0 closed.1 closed.2
+    where
+      still : ◌≡◌ {A = Result (Option ℕ) Fault} (Ok found) (Ok None) → now ≡ old → after ≡ Ended → NextTaped holds tape found now after s
+      still e same kept =
+          let none : found ≡ None = cc in
+          rw none (record { value = None; is = refl; there = λ yes. tt; stood = rw (same, kept, append-nil s) h })
+  taped old now (Refused r) after s holds tape found closed tells h = still closed.0 closed.1 closed.2
+    where
+      still : ◌≡◌ {A = Result (Option ℕ) Fault} (Ok found) (Ok None) → now ≡ old → after ≡ Refused r → NextTaped holds tape found now after s
+      still e same kept =
+          let none : found ≡ None = cc in
+          rw none (record { value = None; is = refl; there = λ yes. tt; stood = rw (same, kept, append-nil s) h })
 
 module _ {S T X Y : Type 0} (L : Inlet S) (R : Inlet T) (I : Items X) (J : Items Y) (first_left : S) (first_right : T) (left_begun : Standing X)
     (right_begun : Standing Y) where
@@ -36,77 +133,108 @@ module _ {S T X Y : Type 0} (L : Inlet S) (R : Inlet T) (I : Items X) (J : Items
     pub bound : count_of course + work_of I left_place + work_of J right_place ≤ 2 * (8193 * 2 ^ 32 + 1)
     pub open_still : IsOpen left_place ⊎ IsOpen right_place
     pub stood : (left_catalog right_catalog : Catalog) (left_limits right_limits : Limits)
-        → Stood L I left_catalog left_limits first_left first_left left_begun [] → Stood R J right_catalog right_limits first_right first_right right_begun []
-        → (s : List Value) × (t : List Value) × Stood L I left_catalog left_limits first_left left left_place s
-        × Stood R J right_catalog right_limits first_right right right_place t × Meets course left_place right_place s t
-        × Turn L R I J left_catalog right_catalog left_limits right_limits first_left first_right left_place left right s t
+        → Stood L (telling I []) left_catalog left_limits first_left first_left left_begun []
+        → Stood R (telling J []) right_catalog right_limits first_right first_right right_begun []
+        → (s : List Value) × (t : List Value) × Stood L (telling I []) left_catalog left_limits first_left left left_place s
+        × Stood R (telling J []) right_catalog right_limits first_right right right_place t × Meets course left_place right_place s t
+        × Turn L R (telling I []) (telling J []) left_catalog right_catalog left_limits right_limits first_left first_right left_place left right s t
 
-  -- both stayed as they were
-  pub both_still : (course course_now : Course) (left : S) (right : T) (left_place left_after : Standing X) (right_place right_after : Standing Y)
-      → (course_now ≡ course) × (left_after ≡ left_place) × (right_after ≡ right_place) → SideBySide course left right left_place right_place
-      → SideBySide course_now left right left_after right_after
-  both_still course course_now left right left_place left_after right_place right_after stays i = rw (stays.0, stays.1, stays.2) i
-
-  -- the left was read on, and gave v or its end
+  -- the left was read on, and told a value or its end
   pub record LeftOn (g h : Catalog) (k l : Limits) (course : Course) (left : S) (right : T) (left_place left_after : Standing X) (right_place : Standing Y)
-      (v : Option Value) : Type 0 where
+      (holds : Bool) (tape : Tape) (found : Option ℕ) : Type 0 where
     pub s : List Value
     pub t : List Value
-    pub left_stood : Stood L I g k first_left left left_after (s ++ option_to_list v)
-    pub right_stood : Stood R J h l first_right right right_place t
+    pub next : NextTaped L I g k first_left holds tape found left left_after s
+    pub right_stood : Stood R (telling J []) h l first_right right right_place t
     pub meets : Meets course left_place right_place s t
-    pub ahead : IfOpen left_after (λ source. length t < length (s ++ option_to_list v))
-    pub asked : WasAsked L R I J g h k l first_left first_right left_after left right
+    pub ahead : IfOpen left_after (λ source. length t < length (s ++ option_to_list next.value))
+    pub asked : WasAsked L R (telling I []) (telling J []) g h k l first_left first_right left_after left right
 
   -- and then the right
-  pub record BothOn (g h : Catalog) (k l : Limits) (left : S) (right : T) (left_after : Standing X) (right_after : Standing Y) (s t : List Value) : Type 0 where
-    pub left_stood : Stood L I g k first_left left left_after s
-    pub right_stood : Stood R J h l first_right right right_after t
-    pub turn : Turn L R I J g h k l first_left first_right left_after left right s t
+  pub record BothOn (g h : Catalog) (k l : Limits) (left : S) (right : T) (left_after : Standing X) (right_after : Standing Y) (holds : Bool) (tape : Tape)
+      (found : Option ℕ) (s t : List Value) : Type 0 where
+    pub next : NextTaped R J h l first_right holds tape found right right_after t
+    pub turn : Turn L R (telling I []) (telling J []) g h k l first_left first_right left_after left right s (t ++ option_to_list next.value)
 
   module _ (settled : (g : Catalog) (k : Limits) (u w : List ℕ) → Grows (I.trace g k u) (I.trace g k (u ++ w))) where
     pub left_goes : (course : Course) (left left_now : S) (right : T) (left_place left_after : Standing X) (right_place : Standing Y)
-        (found : Option (Value × ℕ)) (v : Option Value) → SideBySide course left right left_place right_place → v ≡ option_map (λ (x : Value × ℕ). x.0) found →
-        IfClosed left_place ((◌≡◌ {A = Result (Option (Value × ℕ)) Fault} (Ok found) (Ok None)) × (left_now ≡ left) × (left_after ≡ left_place)) →
-        ((g : Catalog) (k : Limits) (first : S) (given : List (Value × ℕ)) → StoodEach L I g k first left left_place given
-        → GaveNext (λ (v : Value). v) L I g k first left_now left_after given found) →
+        (holds : Bool) (tape : Tape) (found : Option ℕ) → SideBySide course left right left_place right_place
+        → Closed left left_now left_place left_after found →
+        ((g : Catalog) (k : Limits) (first : S) (given : List (Value × ℕ)) → StoodEach L (telling I []) g k first left left_place given
+        → TapedNext holds L I g k first left_now left_after given found tape) →
         (found ≡ None → IfOpen left_after (λ source. ⊥)) → HandedOn L left left_now → (g h : Catalog) (k l : Limits)
-        → Stood L I g k first_left first_left left_begun [] → Stood R J h l first_right first_right right_begun []
-        → LeftOn g h k l course left_now right left_place left_after right_place v
-    left_goes course left left_now right left_place left_after right_place found v i is closed gives ends on g h k l a b =
+        → Stood L (telling I []) g k first_left first_left left_begun [] → Stood R (telling J []) h l first_right first_right right_begun []
+        → LeftOn g h k l course left_now right left_place left_after right_place holds tape found
+    left_goes course left left_now right left_place left_after right_place holds tape found i closed tells ends on g h k l a b =
         let w = i.stood g h k l a b in
+        let next = taped L I g k first_left left left_now left_place left_after w.0 holds tape found closed (tells g k first_left) w.2 in
         record {
           s = w.0;
           t = w.1;
-          left_stood = stood_next L I g k first_left left left_now left_place left_after w.0 found v is closed (gives g k first_left) w.2;
+          next = next;
           right_stood = w.3;
           meets = w.4;
-          ahead = ahead left_place left_after w.0 w.1 v w.5.level (closed_same left left_now left_place left_after found v is closed)
-              (λ none. ends (none_of found v is none));
-          asked = left_on L R I J g h k l first_left first_right (settled g k) left_place left_after left left_now right _ closed on w.5.asked;
+          ahead = ahead left_place left_after w.0 w.1 next.value w.5.level
+              (closed_same left left_now left_place left_after found next.value next.is closed) (λ none. ends (none_of found next.value next.is none));
+          asked = left_on L R (telling I []) (telling J []) g h k l first_left first_right (settled g k) left_place left_after left left_now right _ closed on
+              w.5.asked;
         }
 
-    pub right_goes : ((r : X) (u : List ℕ) (given : List (Value × ℕ)) → I.stands r u given → IsNone (I.awaits r)
+    pub right_goes : ((r : X) (u : List ℕ) (given : List (Value × ℕ)) → I.told r u given [] → IsNone (I.awaits r)
         → (I.trace (I.catalog r) (I.limits r) u).given ≡ given) →
-        ((r : X) (u : List ℕ) (given : List (Value × ℕ)) → I.stands r u given
+        ((r : X) (u : List ℕ) (given : List (Value × ℕ)) → I.told r u given []
         → IfSome (I.awaits r) (λ octet. IsFront given (I.trace (I.catalog r) (I.limits r) (u ++ octet ∷ [])).given)) →
-        (course : Course) (left : S) (right right_now : T) (left_place left_after : Standing X) (right_place right_after : Standing Y) (v : Option Value)
-        (found : Option (Value × ℕ)) (w : Option Value) → IfOpen left_after (IsReady I) → ((refusal : _) → left_after ≡ Refused refusal → ⊥)
-        → w ≡ option_map (λ (x : Value × ℕ). x.0) found →
-        IfClosed right_place ((◌≡◌ {A = Result (Option (Value × ℕ)) Fault} (Ok found) (Ok None)) × (right_now ≡ right) × (right_after ≡ right_place)) →
-        ((h : Catalog) (l : Limits) (first : T) (given : List (Value × ℕ)) → StoodEach R J h l first right right_place given
-        → GaveNext (λ (v : Value). v) R J h l first right_now right_after given found) →
-        ((h : Catalog) (l : Limits) (first : T) (t : List Value) → Stood R J h l first right right_place t
+        (course : Course) (left : S) (right right_now : T) (left_place left_after : Standing X) (right_place right_after : Standing Y)
+        (holds : Bool) (left_tape tape : Tape) (left_found found : Option ℕ) → IfOpen left_after (IsReady I)
+        → ((refusal : _) → left_after ≡ Refused refusal → ⊥) → Closed right right_now right_place right_after found →
+        ((h : Catalog) (l : Limits) (first : T) (given : List (Value × ℕ)) → StoodEach R (telling J []) h l first right right_place given
+        → TapedNext holds R J h l first right_now right_after given found tape) →
+        ((h : Catalog) (l : Limits) (first : T) (t : List Value) → Stood R (telling J []) h l first right right_place t
         → Sought R (format_of J h l) first right right_now (length t)) → (g h : Catalog) (k l : Limits)
-        (on : LeftOn g h k l course left right left_place left_after right_place v)
-        → BothOn g h k l left right_now left_after right_after (on.s ++ option_to_list v) (on.t ++ option_to_list w)
-    right_goes so_far with_next course left right right_now left_place left_after right_place right_after v found w ready kept is closed gives sought g h k l on =
+        (on : LeftOn g h k l course left right left_place left_after right_place holds left_tape left_found)
+        → BothOn g h k l left right_now left_after right_after holds tape found (on.s ++ option_to_list on.next.value) on.t
+    right_goes so_far with_next course left right right_now left_place left_after right_place right_after holds left_tape tape left_found found ready kept
+        closed tells sought g h k l on =
+        let next = taped R J h l first_right right right_now right_place right_after on.t holds tape found closed (tells h l first_right) on.right_stood in
         record {
-          left_stood = on.left_stood;
-          right_stood = stood_next R J h l first_right right right_now right_place right_after on.t found w is closed (gives h l first_right) on.right_stood;
+          next = next;
           turn = record {
-            level = level_on left_after (on.s ++ option_to_list v) on.t w on.ahead;
-            asked = right_on L R I J g h k l first_left first_right (settled g k) so_far with_next left_after left right right_now (on.s ++ option_to_list v) on.t
-                on.left_stood ready kept on.ahead (sought h l first_right on.t on.right_stood) on.asked;
+            level = level_on left_after (on.s ++ option_to_list on.next.value) on.t next.value on.ahead;
+            asked = right_on L R (telling I []) (telling J []) g h k l first_left first_right (settled g k) so_far with_next left_after left right right_now
+                (on.s ++ option_to_list on.next.value) on.t on.next.stood (ready_told I left_after ready) kept on.ahead
+                (sought h l first_right on.t on.right_stood) on.asked;
           };
         }
+
+    -- with the next value of each, or its end, two streams compare as the course behind it says
+    pub both_met : (course after : Course) (left left_now : S) (right right_now : T) (left_place left_after : Standing X) (right_place right_after : Standing Y)
+        (compared : Bool) (t u : Tape) (found other : Option ℕ) (gave other_gave : Bool)
+        → (compared ≡ false → IfAlike course (λ n. IfOpen left_place (λ source. IfOpen right_place (λ source. ⊥)))) →
+        ((v w : Option Value) → is_some v ≡ gave → is_some w ≡ other_gave → IfAlike course (λ n. AreHeld t u v w) → IsMet course v w after) →
+        gave ≡ is_some found → other_gave ≡ is_some other → Closed left left_now left_place left_after found
+        → Closed right right_now right_place right_after other → (found ≡ None → IfOpen left_after (λ source. ⊥))
+        → (other ≡ None → IfOpen right_after (λ source. ⊥)) → (g h : Catalog) (k l : Limits)
+        (on : LeftOn g h k l course left_now right left_place left_after right_place compared t found)
+        (both : BothOn g h k l left_now right_now left_after right_after compared u other (on.s ++ option_to_list on.next.value) on.t)
+        → Meets after left_after right_after (on.s ++ option_to_list on.next.value) (on.t ++ option_to_list both.next.value)
+    both_met course after left left_now right right_now left_place left_after right_place right_after compared t u found other gave other_gave compares met
+        is is_other closed other_closed ends other_ends g h k l on both =
+        let v = on.next.value in
+        let w = both.next.value in
+        let was = closed_same left left_now left_place left_after found v on.next.is closed in
+        let other_was = closed_same right right_now right_place right_after other w both.next.is other_closed in
+        let held = are_held course left_place left_after right_place right_after compared t u v w compares was other_was on.next.there both.next.there in
+        meets_more course after left_place left_after right_place right_after on.s on.t v w
+        (met v w (on.next.is ∙ sym is) (both.next.is ∙ sym is_other) held) on.meets was other_was
+        (λ none. ends (none_of found v on.next.is none)) (λ none. other_ends (none_of other w both.next.is none))
+
+-- what a reader that told what octets are has given
+module _ {X : Type 0} (I : Items X) (has_told : (r : X) (u : List ℕ) (s : List (Value × ℕ)) (es : List _) → I.told r u s es
+    → HasTold I.taken I.kept I.failed I.awaits (I.trace (I.catalog r) (I.limits r)) (I.limits r).item r u s) where
+  pub told_so_far : (r : X) (u : List ℕ) (given : List (Value × ℕ)) → I.told r u given [] → IsNone (I.awaits r)
+      → (I.trace (I.catalog r) (I.limits r) u).given ≡ given
+  told_so_far r u given told = (has_told r u given [] told).given_so_far
+
+  pub told_with_next : (r : X) (u : List ℕ) (given : List (Value × ℕ)) → I.told r u given []
+      → IfSome (I.awaits r) (λ octet. IsFront given (I.trace (I.catalog r) (I.limits r) (u ++ octet ∷ [])).given)
+  told_with_next r u given told = (has_told r u given [] told).given_with_next

@@ -13,7 +13,7 @@ use Rattle.ion_symtab.specs.laws.Heard.{Heard-nil, Heard-trans, Heard-end}
 use Rattle.ion_symtab.specs.laws.Causes.{WereMade-nil}
 use Rattle.ion_streams.specs.Formats.{format_of}
 use Rattle.ion_streams.specs.reading.Read.{left_of, Begins, IsReady, IsWithin, Went, GaveEach, GaveSoFar, Reads, ReadsEach}
-use Rattle.ion_streams.specs.reading.Gathered.{Fills, Refills}
+use Rattle.ion_streams.specs.reading.Refilled.{Fills, Refills}
 use Rattle.ion_streams.specs.Outcomes.{EndsWell, EndsRefused, ToldEach, ToldRefusedEach}
 use Rattle.ion_streams.specs.reading.Standing.{IfRefused, MatchClosed, Stood, StoodEach}
 use Rattle.ion_streams.specs.declared.source.Source.{Source}
@@ -190,13 +190,14 @@ reads_begun R I now source items stood same empty going = record { given = []; e
 
 -- a document of which nothing was read is ready to be read
 pub ready_begun : {X : Type 0} (I : Items X) (source : Source X) (items : X) → I.taken items ≡ 0 → I.awaits items ≡ None → source.items ≡ items
-    → (source.at ≡ 0) × (source.end ≡ 0) × (source.used ≡ 0) → length source.piece.items ≡ 8192 → source.reads ≤ 2 ^ 32 →
+    → (source.at ≡ 0) × (source.end ≡ 0) × (source.used ≡ 0) → length source.piece.items ≡ 4096 → source.reads ≤ 2 ^ 32 →
     IsReady I source
 ready_begun I source items none free same empty piece few =
     let nothing : I.taken source.items ≡ 0 = ap (λ (x : _). I.taken x) same ∙ none in
     record {
       within = omega arith;
       fits = omega arith;
+      piece = omega arith;
       room = omega arith;
       begins = subst (λ (x : Option ℕ). Begins x (left_of source)) (sym (ap (λ (x : _). I.awaits x) same ∙ free)) tt;
       counted = nothing ∙ sym empty.2;

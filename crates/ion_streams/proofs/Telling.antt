@@ -16,7 +16,7 @@ use Rattle.ion_streams.specs.Formats.{Format, format_of}
 use Rattle.ion_streams.specs.InTurn.{LastAskedFor}
 use Rattle.ion_streams.specs.Outcomes.{EndsWell, EndsRefused, ToldRefusedEach, given_last}
 use Rattle.ion_streams.specs.reading.Read.{between, left_of, IsReady, GaveSoFar, ReadsEach}
-use Rattle.ion_streams.specs.reading.Gathered.{Refills}
+use Rattle.ion_streams.specs.reading.Refilled.{Refills}
 use Rattle.ion_streams.specs.reading.Standing.{StoodEach}
 use Rattle.ion_streams.specs.reading.Telling.{telling, WentBy, ReachesBy, ToldNext, EndsBy}
 use Rattle.ion_streams.specs.declared.source.Reached.TheVariants.{Value as AValue, End}
@@ -149,7 +149,7 @@ module _ {S V X : Type 0} (takes : V → Event → V → Type 0) (R : Inlet S) (
     tells_asked first now new source given s es a b values h ready used_up once =
         asked_next (telling I h.0) g l settled (λ r u t told. (has_told r u t h.0 told).given_so_far) R first now new source s
         (record { given = given; each = h.2; values = values })
-        (record { within = ready.within; fits = ready.fits; room = ready.room; begins = ready.begins; counted = ready.counted }) used_up once
+        (record { within = ready.within; fits = ready.fits; piece = ready.piece; room = ready.room; begins = ready.begins; counted = ready.counted }) used_up once
 
 -- a document whose octets were all used ends well, with one value more or none
 ends_well : (F : Format) (u : List ℕ) (given : List (Value × ℕ)) (last : Option Value) (total : ℕ) → length u ≡ total → (F.trace u).given ≡ given

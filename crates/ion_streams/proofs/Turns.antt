@@ -11,7 +11,6 @@ use Rattle.ion_symtab.specs.declared.items.Items.{Ghosts as Items}
 use Rattle.ion_streams.specs.Formats.{Format, format_of}
 use Rattle.ion_streams.specs.InTurn.{LastAskedFor, IsInTurn, unasked, behind_end, behind_values}
 use Rattle.ion_streams.specs.Outcomes.{AtOneEnd}
-use Rattle.ion_streams.specs.reading.Alongside.{StandingPast}
 use Rattle.ion_streams.specs.reading.Read.{left_of, IsReady, GaveSoFar, HandedOn, Sought, Reads}
 use Rattle.ion_streams.specs.reading.Standing.{IfOpen, IfClosed, Stood, StoodEach}
 use Rattle.ion_streams.specs.declared.source.Source.{Source}
@@ -146,22 +145,6 @@ module _ {S T X Y : Type 0} (L : Inlet S) (R : Inlet T) (I : Items X) (J : Items
   turn_begun (Open source) = record { level = omega arith; asked = inl refl }
   turn_begun Ended = record { level = tt; asked = inl refl }
   turn_begun (Refused refusal) = record { level = tt; asked = inl refl }
-
-  -- both went past a value, and no device was asked
-  pub turn_past : (place after : Standing X) (left : S) (right : T) (s t : List Value) (v w : Value) → StandingPast I place after v
-      → Turn place left right s t → Turn after left right (s ++ v ∷ []) (t ++ w ∷ [])
-  turn_past (Open before) (Open after) left right s t v w past turn =
-      let level = turn.level in
-      record { level = omega (arith, level, length-append s (v ∷ []), length-append t (w ∷ [])); asked = go turn.asked }
-    where
-      go : WasAsked (Open before) left right → WasAsked (Open after) left right
-      go (inl same) = inl same
-      go (inr (inl ended)) = absurd cc
-      go (inr (inr by)) = inr (inr by)
-  turn_past (Open before) Ended left right s t v w past turn = absurd past
-  turn_past (Open before) (Refused refusal) left right s t v w past turn = absurd past
-  turn_past Ended after left right s t v w past turn = absurd past
-  turn_past (Refused refusal) after left right s t v w past turn = absurd past
 
   module _ (settled : (u w : List ℕ) → Grows (I.trace g k u) (I.trace g k (u ++ w))) where
     -- the left handed over more

@@ -1,7 +1,7 @@
 -- How far documents were read.
 pub mod Read
 pub mod Standing
-pub mod Gathered
+pub mod Refilled
 pub mod Reached
 pub mod Courses
 pub mod Alongside

@@ -1,21 +1,27 @@
 //! Whether two documents have equivalent streams.
-ghost use Rattle.std.specs.Prelude.{◌≡◌, ℕ, ◌+◌, ◌*◌, ◌^◌, ◌<◌, ◌≤◌, ◌⊎◌, [], true, false, IfOk, IfErr, OnOk, MatchResult, length, option_map};
+ghost use Rattle.std.specs.Prelude.{◌≡◌, ℕ, ◌+◌, ◌*◌, ◌^◌, ◌<◌, ◌≤◌, ◌⊎◌, List, [], true, false, IfOk, IfErr, OnOk, OnErr, IsSome, MatchResult, Option, Result, is_some, length};
+ghost use Rattle.ion_model.specs.declared.value.Value.{Value};
+ghost use Rattle.ion_model.specs.Parting.{IsParting};
+ghost use Rattle.ion_model.specs.Same.{same};
 ghost use Rattle.ion_symtab.specs.declared.catalog.Catalog.{Catalog};
 ghost use Rattle.ion_symtab.specs.declared.limits.Limits.{Limits};
 ghost use Rattle.ion_symtab.specs.Cause.{IsReadCause};
-ghost use Rattle.ion_streams.specs.reading.Alongside.{GoAlike};
+ghost use Rattle.ion_visiting.specs.Building.{fresh};
+ghost use Rattle.ion_visiting.specs.Events.{Event};
+ghost use Rattle.ion_visiting.specs.Tapes.{Holds};
 ghost use Rattle.ion_streams.specs.Formats.{format_of};
-ghost use Rattle.ion_streams.specs.reading.Standing.{IfOpen, IsOpen, StandsUnread, work_of, reads_of, Stood};
-ghost use Rattle.ion_streams.specs.reading.Read.{IsFresh, IsReady, IsWithin};
+ghost use Rattle.ion_streams.specs.reading.Standing.{IfOpen, IfClosed, IsOpen, StandsUnread, work_of, reads_of, Stood, StoodEach};
+ghost use Rattle.ion_streams.specs.reading.Read.{IsFresh, IsReady, IsWithin, NoneFailed, NoReadFailed, GaveSoFar, HandedOn, Sought};
+ghost use Rattle.ion_streams.specs.reading.Telling.{telling, TapedNext};
 ghost use Rattle.ion_streams.specs.Compared.{IsCompared};
 ghost use Rattle.ion_streams.specs.InTurn.{IsInTurn};
 ghost use Rattle.ion_streams.specs.Outcomes.{AtOneEnd};
-ghost use Rattle.ion_streams.specs.reading.Courses.{IsMet, count_of, verdict_of};
+ghost use Rattle.ion_streams.specs.reading.Courses.{AreHeld, IfAlike, IsMet, count_of, verdict_of};
 
-use crate::alike::{Alike, Unseen};
-use crate::source::{Source, Standing, pass_alike};
+use crate::source::{Source, Standing};
 use ion_model::{Path, Refusal, Value, parting};
 use ion_symtab::{Fault, Inlet, Items};
+use ion_visiting::{Building, Count, Following, Frames, Tape};
 use std::alloc::Global;
 use std::mem;
 
@@ -62,21 +68,26 @@ enum Course {
 }
 
 impl Course {
-    /// Goes on behind the next value of each, or the end of one; `Memory` where a growth was
-    /// refused.
+    /// Goes on behind the next value of each, which its tape holds, or the end of one; `Memory`
+    /// where a growth was refused.
+    #[inline(always)]
     fn meet(
         &mut self,
         alloc: Global,
-        left: &Option<Value>,
-        right: &Option<Value>,
+        gave: (bool, bool),
+        left: &Tape,
+        right: &Tape,
+        frames: &mut Frames,
     ) -> Result<(), Fault>
         requires { count_of self.old + 1 < 2 ^ 64 }
-        ensures { MatchResult result (λ _. IsMet self.old left.now right.now self.new)
-            (λ fault. fault ≡ Fault.Memory) }
+        ensures met { OnOk result ((v w : Option Value) → is_some v ≡ gave.0 → is_some w ≡ gave.1 →
+            IfAlike self.old (λ _. AreHeld left.now right.now v w) → IsMet self.old v w self.new) }
+        ensures counted { OnOk result (count_of self.new ≤ count_of self.old + 1) }
+        ensures cause { IfErr result (λ fault. fault ≡ Fault.Memory) }
     {
         match self {
             Course::Alike { values } => {
-                let met = behind(alloc, *values, left, right)?;
+                let met = behind(alloc, *values, gave, left, right, frames)?;
                 drop(mem::replace(self, met));
                 Ok(())
             }
@@ -102,27 +113,31 @@ impl Course {
     }
 }
 
-/// The course behind so many values of each that were the same, and the next of each.
+/// The course behind so many values of each that were the same, and the next of each, which its
+/// tape holds.
+#[inline(always)]
 fn behind(
     alloc: Global,
     values: u64,
-    left: &Option<Value>,
-    right: &Option<Value>,
+    gave: (bool, bool),
+    left: &Tape,
+    right: &Tape,
+    frames: &mut Frames,
 ) -> Result<Course, Fault>
     requires { values + 1 < 2 ^ 64 }
-    ensures { MatchResult result (IsMet (Course.Alike values) left.now right.now)
-        (λ fault. fault ≡ Fault.Memory) }
+    ensures met { IfOk result (λ met. (v w : Option Value) → is_some v ≡ gave.0 →
+        is_some w ≡ gave.1 → AreHeld left.now right.now v w → IsMet (Course.Alike values) v w met) }
+    ensures counted { IfOk result (λ met. count_of met ≤ values + 1) }
+    ensures cause { IfErr result (λ fault. fault ≡ Fault.Memory) }
 {
     let index = values + 1;
-    match (left, right) {
-        (None, None) => Ok(Course::Alike { values }),
-        (Some(left), Some(right)) => match parting(alloc, left, right) {
-            Err(_) => Err(Fault::Memory),
-            Ok(None) => Ok(Course::Alike { values: index }),
-            Ok(Some(path)) => Ok(Course::Parted { index, path }),
+    match gave {
+        (false, false) => Ok(Course::Alike { values }),
+        (true, true) => match parting_on(alloc, left, right, frames)? {
+            None => Ok(Course::Alike { values: index }),
+            Some(path) => Ok(Course::Parted { index, path }),
         },
-        (Some(_), None) => Ok(ended_first(alloc, index)),
-        (None, Some(_)) => Ok(ended_first(alloc, index)),
+        _ => Ok(ended_first(alloc, index)),
     }
 }
 
@@ -136,45 +151,146 @@ fn ended_first(alloc: Global, index: u64) -> Course
     }
 }
 
-/// The value alone.
-fn value_of(found: Option<(Value, u64)>) -> Option<Value>
-    ensures { result ≡ option_map (λ next. next.0) found }
+/// The path to where the values part that two tapes hold; `None` where they are equivalent. Neither
+/// is built where the right one is found on the left tape.
+#[inline(always)]
+fn parting_on(
+    alloc: Global,
+    left: &Tape,
+    right: &Tape,
+    frames: &mut Frames,
+) -> Result<Option<Path>, Fault>
+    ensures { MatchResult result (λ path. (v w : Value) → Holds left.now v → Holds right.now w →
+        IsParting path v w) (λ fault. fault ≡ Fault.Memory) }
 {
-    match found {
-        None => None,
-        Some((value, _)) => Some(value),
+    if is_found(alloc, left, right, frames) {
+        return Ok(None);
+    }
+    parting_built(alloc, left, right)
+}
+
+/// Whether the value that the right tape holds is found on the left one. It needn't be, where the
+/// two are equivalent. The memory of the search is used again.
+#[inline(always)]
+#[tactic(auto, using(crate::proofs::Taping::found_on))]
+fn is_found(alloc: Global, left: &Tape, right: &Tape, frames: &mut Frames) -> bool
+    ensures { result ≡ true → (v w : Value) → Holds left.now v → Holds right.now w →
+        same v w ≡ true }
+{
+    let taken = mem::replace(frames, Frames::new(alloc));
+    let mut following = Following::with_frames(left, taken);
+    let found = right.tell(&mut following);
+    drop(mem::replace(frames, following.into_frames()));
+    found
+}
+
+/// The same of values that are built.
+#[inline(never)]
+fn parting_built(alloc: Global, left: &Tape, right: &Tape) -> Result<Option<Path>, Fault>
+    ensures { MatchResult result (λ path. (v w : Value) → Holds left.now v → Holds right.now w →
+        IsParting path v w) (λ fault. fault ≡ Fault.Memory) }
+{
+    let left = value_on(alloc, left)?;
+    let right = match value_on(alloc, right) {
+        Ok(right) => right,
+        Err(fault) => {
+            drop(left);
+            return Err(fault);
+        }
+    };
+    let parted = parting(alloc, &left, &right);
+    drop(left);
+    drop(right);
+    parted.map_err(|_| Fault::Memory)
+}
+
+/// The value that a tape holds.
+fn value_on(alloc: Global, tape: &Tape) -> Result<Value, Fault>
+    ensures { MatchResult result (λ value. (v : Value) → Holds tape.now v → value ≡ v)
+        (λ fault. fault ≡ Fault.Memory) }
+{
+    let mut building = Building::new(alloc);
+    let value = build(tape, &mut building);
+    drop(building);
+    value
+}
+
+#[tactic(auto, using(crate::proofs::Taping::built_on))]
+fn build(tape: &Tape, building: &mut Building) -> Result<Value, Fault>
+    requires { building.old ≡ fresh }
+    ensures { MatchResult result (λ value. (v : Value) → Holds tape.now v → value ≡ v)
+        (λ fault. fault ≡ Fault.Memory) }
+{
+    if !tape.tell(building) {
+        return Err(Fault::Memory);
+    }
+    match building.take() {
+        Some(value) => Ok(value),
+        None => Err(Fault::Memory),
     }
 }
 
-/// Goes past the next value of both documents, where they are open, were the same so far, and have
-/// values there that are seen to be the same where they lie.
-fn go_alike<A: Alike<I, J>, I: Items, J: Items>(
-    course: &mut Course,
-    left: &mut Standing<I>,
-    right: &mut Standing<J>,
-) -> bool
-    requires left { IfOpen left.old (IsReady I.Items) }
-    requires right { IfOpen right.old (IsReady J.Items) }
-    requires room { count_of course.old + 1 < 2 ^ 64 }
-    ensures goes { result ≡ true →
-        GoAlike I.Items J.Items course.old course.new left.old left.new right.old right.new }
-    ensures stays { result ≡ false →
-        (course.new ≡ course.old) × (left.new ≡ left.old) × (right.new ≡ right.old) }
+/// Whether the next values of both documents are compared: not where the streams parted, and not
+/// where one has ended or was refused.
+fn compares<I: Drop, J: Drop>(course: &Course, left: &Standing<I>, right: &Standing<J>) -> bool
+    ensures { result ≡ false → IfAlike course.now (λ _. IfOpen left.now (λ _.
+        IfOpen right.now (λ _. ⊥))) }
 {
-    match (course, left, right) {
-        (Course::Alike { values }, Standing::Open(left), Standing::Open(right)) => {
-            if !pass_alike::<A, I, J>(left, right) {
-                return false;
-            }
-            *values += 1;
-            true
-        }
-        _ => false,
+    match course {
+        Course::Alike { .. } => left.is_open() && right.is_open(),
+        Course::Parted { .. } => false,
     }
+}
+
+/// Reads on as `Standing::advance_by` does: where the next value is compared, the tape holds that
+/// one alone then. Else it is kept nowhere.
+fn read_next<I: Items + Drop, R: Inlet>(
+    place: &mut Standing<I>,
+    reader: &mut R,
+    compared: bool,
+    tape: &mut Tape,
+) -> Result<Option<u64>, Fault>
+    requires { IfOpen place.old (IsReady I.Items) }
+    ensures tells { IfOk result (λ found. (g : Catalog) (l : Limits) (first : R)
+        (given : List (Value × ℕ)) →
+        StoodEach R.Inlet (telling I.Items []) g l first reader.old place.old given →
+        TapedNext compared R.Inlet I.Items g l first reader.new place.new given found tape.new) }
+    ensures none { IfOk result (λ found. found ≡ Option.None → IfOpen place.new (λ after. ⊥)) }
+    ensures ready { IfOpen place.new (IsReady I.Items) }
+    ensures spends { IfOpen place.old (λ source.
+        work_of I.Items place.new < work_of I.Items place.old) }
+    ensures closed { IfClosed place.old ((result ≡ Result.Ok Option.None)
+        × (reader.new ≡ reader.old) × (place.new ≡ place.old)) }
+    ensures within { IfOk result (λ found. (first : R) (reads : ℕ) →
+        IfOpen place.old (IsWithin R.Inlet reads first reader.old) →
+        IfOpen place.new (IsWithin R.Inlet reads first reader.new)) }
+    ensures few_calls { R.calls_made reader.new + reads_of place.new
+        ≤ R.calls_made reader.old + reads_of place.old }
+    ensures few_octets { length (R.handed reader.new) + 4096 * reads_of place.new
+        ≤ length (R.handed reader.old) + 4096 * reads_of place.old }
+    ensures unasked { OnOk result (NoReadFailed R.Inlet reader.old reader.new) }
+    ensures no_read_failed { OnOk result (IfOpen place.old (λ source.
+        NoneFailed R.Inlet I.Items reader.old source → R.has_failed reader.new ≡ false)) }
+    ensures cause { IfErr result (λ fault. (first : R) (reads : ℕ) →
+        IfOpen place.old (IsWithin R.Inlet reads first reader.old) →
+        IsReadCause R.Inlet reads first reader.new fault) }
+    ensures kept { OnErr result ((g : Catalog) (l : Limits) (first : R) (s : List Value) →
+        Stood R.Inlet (telling I.Items []) g l first reader.old place.old s →
+        (fs : List Event) × GaveSoFar R.Inlet (telling I.Items fs) g l first reader.new s) }
+    ensures sought { (g : Catalog) (l : Limits) (first : R) (s : List Value) →
+        Stood R.Inlet (telling I.Items []) g l first reader.old place.old s →
+        Sought R.Inlet (format_of I.Items g l) first reader.old reader.new (length s) }
+    ensures grew { HandedOn R.Inlet reader.old reader.new }
+{
+    if !compared {
+        return place.advance_by::<Count, R>(reader, &mut Count::new());
+    }
+    tape.clear();
+    place.advance_by::<Tape, R>(reader, tape)
 }
 
 /// Reads both documents on to the verdict, one value of each in turn.
-fn compare_places<A: Alike<I, J>, I: Items + Drop, J: Items + Drop, L: Inlet, R: Inlet>(
+fn compare_places<I: Items + Drop, J: Items + Drop, L: Inlet, R: Inlet>(
     alloc: Global,
     course: &mut Course,
     left_place: &mut Standing<I>,
@@ -191,18 +307,18 @@ fn compare_places<A: Alike<I, J>, I: Items + Drop, J: Items + Drop, L: Inlet, R:
     requires few { work_of I.Items left_place.old + work_of J.Items right_place.old
         ≤ 2 * (8193 * 2 ^ 32 + 1) }
     ensures verdict { IfOk result (λ verdict. (g h : Catalog) (k l : Limits) →
-        Stood L.Inlet I.Items g k left.old left.old left_place.old [] →
-        Stood R.Inlet J.Items h l right.old right.old right_place.old [] →
+        Stood L.Inlet (telling I.Items []) g k left.old left.old left_place.old [] →
+        Stood R.Inlet (telling J.Items []) h l right.old right.old right_place.old [] →
         IsCompared L.Inlet R.Inlet (format_of I.Items g k) (format_of J.Items h l)
         left.old left.new right.old right.new verdict) }
     ensures in_turn { (g h : Catalog) (k l : Limits) →
-        Stood L.Inlet I.Items g k left.old left.old left_place.old [] →
-        Stood R.Inlet J.Items h l right.old right.old right_place.old [] →
+        Stood L.Inlet (telling I.Items []) g k left.old left.old left_place.old [] →
+        Stood R.Inlet (telling J.Items []) h l right.old right.old right_place.old [] →
         IsInTurn L.Inlet R.Inlet (format_of I.Items g k) (format_of J.Items h l)
         left.old left.new right.old right.new }
     ensures one_end { (g h : Catalog) (k l : Limits) →
-        Stood L.Inlet I.Items g k left.old left.old left_place.old [] →
-        Stood R.Inlet J.Items h l right.old right.old right_place.old [] →
+        Stood L.Inlet (telling I.Items []) g k left.old left.old left_place.old [] →
+        Stood R.Inlet (telling J.Items []) h l right.old right.old right_place.old [] →
         AtOneEnd L.Inlet left.old left.new × AtOneEnd R.Inlet right.old right.new }
     ensures few_calls { (L.calls_made left.new ≤ L.calls_made left.old + reads_of left_place.old)
         × (R.calls_made right.new ≤ R.calls_made right.old + reads_of right_place.old) }
@@ -218,29 +334,21 @@ fn compare_places<A: Alike<I, J>, I: Items + Drop, J: Items + Drop, L: Inlet, R:
         IsReadCause L.Inlet reads left.old left.new fault
         ⊎ IsReadCause R.Inlet reads right.old right.new fault) }
 {
+    let mut frames = Frames::new(alloc);
+    let mut left_tape = Tape::new(alloc);
+    let mut right_tape = Tape::new(alloc);
     loop {
-        if go_alike::<A, I, J>(course, left_place, right_place) {
-            continue;
-        }
-        let left_value = value_of(left_place.advance_on_demand::<Value, L>(left)?);
+        let compared = compares(course, left_place, right_place);
+        let found = read_next(left_place, left, compared, &mut left_tape)?;
         if let Standing::Refused(refusal) = left_place {
-            drop(left_value);
             return Ok(Verdict::Refused {
                 side: Side::Left,
                 refusal: *refusal,
             });
         }
-        let right_value = match right_place.advance_on_demand::<Value, R>(right) {
-            Err(fault) => {
-                drop(left_value);
-                return Err(fault);
-            }
-            Ok(found) => value_of(found),
-        };
-        let met = course.meet(alloc, &left_value, &right_value);
-        drop(left_value);
-        drop(right_value);
-        met?;
+        let other = read_next(right_place, right, compared, &mut right_tape)?;
+        let gave = (found.is_some(), other.is_some());
+        course.meet(alloc, gave, &left_tape, &right_tape, &mut frames)?;
         if !left_place.is_open() && !right_place.is_open() {
             return Ok(course.verdict(right_place));
         }
@@ -287,46 +395,12 @@ pub fn compare_items<I: Items + Drop, J: Items + Drop, L: Inlet, R: Inlet>(
         IsReadCause L.Inlet reads left.old left.new fault
         ⊎ IsReadCause R.Inlet reads right.old right.new fault) }
 {
-    compare_by::<Unseen, I, J, L, R>(alloc, reads, left_items, left, right_items, right)
-}
-
-/// The same, where values that `A` sees to be the same where they lie aren't built.
-pub fn compare_by<A: Alike<I, J>, I: Items + Drop, J: Items + Drop, L: Inlet, R: Inlet>(
-    alloc: Global,
-    reads: u64,
-    left_items: I,
-    left: &mut L,
-    right_items: J,
-    right: &mut R,
-) -> Result<Verdict, Fault>
-    requires left { IsFresh I.Items left_items }
-    requires right { IsFresh J.Items right_items }
-    requires reads { reads ≤ 2 ^ 32 }
-    ensures verdict { IfOk result (IsCompared L.Inlet R.Inlet
-        (format_of I.Items (I.catalog left_items) (I.limits left_items))
-        (format_of J.Items (J.catalog right_items) (J.limits right_items))
-        left.old left.new right.old right.new) }
-    ensures in_turn { IsInTurn L.Inlet R.Inlet
-        (format_of I.Items (I.catalog left_items) (I.limits left_items))
-        (format_of J.Items (J.catalog right_items) (J.limits right_items))
-        left.old left.new right.old right.new }
-    ensures one_end { AtOneEnd L.Inlet left.old left.new × AtOneEnd R.Inlet right.old right.new }
-    ensures few_calls { (L.calls_made left.new ≤ L.calls_made left.old + reads)
-        × (R.calls_made right.new ≤ R.calls_made right.old + reads) }
-    ensures few_octets { (length (L.handed left.new) ≤ length (L.handed left.old) + 4096 * reads)
-        × (length (R.handed right.new) ≤ length (R.handed right.old) + 4096 * reads) }
-    ensures no_read_failed { OnOk result ((L.has_failed left.new ≡ false)
-        × ((right.new ≡ right.old) ⊎ (R.has_failed right.new ≡ false))) }
-    ensures cause { IfErr result (λ fault.
-        IsReadCause L.Inlet reads left.old left.new fault
-        ⊎ IsReadCause R.Inlet reads right.old right.new fault) }
-{
     let left_source = Source::new(alloc, left_items, reads)?;
     let right_source = Source::new(alloc, right_items, reads)?;
     let mut left_place = Standing::Open(left_source);
     let mut right_place = Standing::Open(right_source);
     let mut course = Course::Alike { values: 0 };
-    let verdict = compare_places::<A, I, J, L, R>(
+    let verdict = compare_places(
         alloc,
         &mut course,
         &mut left_place,

@@ -2,22 +2,18 @@
 //! line for each, all of them, the catalog that they describe, and whether two are equivalent.
 #![tactic(auto)]
 
-mod alike;
 mod all_values;
 mod asked;
-mod carry;
 mod catalogs;
 mod checking;
 mod comparison;
 mod listing;
 mod source;
 
-pub use alike::{Alike, Unseen};
 pub use all_values::{read_items, read_octets};
 pub use asked::Asked;
-pub use carry::Carry;
 pub use catalogs::load_items;
 pub use checking::check_items;
-pub use comparison::{Side, Verdict, compare_by, compare_items};
+pub use comparison::{Side, Verdict, compare_items};
 pub use listing::show_items;
 pub use source::{Source, Standing};

@@ -7,33 +7,22 @@ ghost use Rattle.ion_symtab.specs.declared.limits.Limits.{Limits};
 ghost use Rattle.ion_symtab.specs.Heard.{Heard};
 ghost use Rattle.ion_symtab.specs.Cause.{WereMade, IsReadCause};
 ghost use Rattle.ion_streams.specs.Formats.{format_of};
-ghost use Rattle.ion_streams.specs.reading.Read.{between, left_of, IsReady, HasToAsk, NoneFailed, NoReadFailed, IsWithin, work, Went, Reads, ReadsEach, GaveSoFar, HandedOn, Sought};
-ghost use Rattle.ion_streams.specs.reading.Gathered.{IsWidened, HasRoom, CanJoin, Fills, Refills, Gathers, GathersAt, IsJoinCause};
+ghost use Rattle.ion_streams.specs.reading.Read.{between, left_of, IsReady, HasToAsk, NoneFailed, NoReadFailed, IsWithin, work, Went, Reads, ReadsEach, GaveSoFar, HandedOn};
+ghost use Rattle.ion_streams.specs.reading.Refilled.{Refills};
 ghost use Rattle.ion_streams.specs.reading.Reached.{IfValue, IfEnd, IsSpent, Reaches};
 ghost use Rattle.ion_streams.specs.Outcomes.{EndsWell, EndsRefused};
 ghost use Rattle.ion_streams.specs.reading.Standing.{IfOpen, IsOpen, IfClosed, MatchClosed, work_of, reads_of, Stood, StoodEach, GaveNext, answered};
-ghost use Rattle.ion_streams.specs.reading.Alongside.{WentPast, StandingPast};
 
 use crate::asked::Asked;
-use crate::carry::Carry;
 use ion_model::{Reason, Refusal, Value};
-use ion_symtab::{Failed, Fault, Glance, Inlet, Items};
+use ion_symtab::{Failed, Fault, Inlet, Items};
 use std::alloc::Global;
 use std::mem;
 
-mod alike;
-mod sizes;
 mod walking;
-
-pub(crate) use alike::pass_alike;
-use sizes::Sizes;
 
 /// At most so many octets are read from a device in one call.
 const PIECE: usize = 4096;
-
-/// At most so many octets are kept that a reader hasn't taken up: pieces are joined while the value
-/// in front seems to be cut.
-const WINDOW: usize = 65536;
 
 /// A document that is being read.
 #[derive(Drop)]
@@ -50,7 +39,6 @@ pub struct Source<I> {
     used: u64,
     /// Whether the device has answered its end.
     ended: bool,
-    sizes: Sizes,
 }
 
 /// Reads a piece behind so many octets: how many it has.
@@ -81,12 +69,12 @@ impl<I: Items + Drop> Source<I> {
         ensures items { IfOk result (λ source. source.items ≡ items) }
         ensures nothing { IfOk result (λ source.
             (source.at ≡ 0) × (source.end ≡ 0) × (source.used ≡ 0)) }
-        ensures piece { IfOk result (λ source. length source.piece.items ≡ 8192) }
+        ensures piece { IfOk result (λ source. length source.piece.items ≡ 4096) }
         ensures reads { IfOk result (λ source. source.reads ≡ reads) }
         ensures unended { IfOk result (λ source. source.ended ≡ false) }
         ensures cause { IfErr result (λ fault. fault ≡ Fault.Memory) }
     {
-        let piece = vec![in alloc; 0; 2 * PIECE]?;
+        let piece = vec![in alloc; 0; PIECE]?;
         Ok(Source {
             items,
             piece,
@@ -95,7 +83,6 @@ impl<I: Items + Drop> Source<I> {
             reads,
             used: 0,
             ended: false,
-            sizes: Sizes::new(),
         })
     }
 
@@ -131,7 +118,6 @@ impl<I: Items + Drop> Source<I> {
             Ok((used, found)) => {
                 self.at += used;
                 self.used += used as u64;
-                self.sizes.note(used);
                 Ok(found)
             }
         }
@@ -166,7 +152,6 @@ impl<I: Items + Drop> Source<I> {
             × (R.has_failed reader.new ≡ true)) }
     {
         self.reads -= 1;
-        self.sizes.fade();
         match read_behind(reader, &mut self.piece, self.end) {
             Err(_) => Err(Fault::Read),
             Ok(0) => {
@@ -178,129 +163,6 @@ impl<I: Items + Drop> Source<I> {
                 Ok(())
             }
         }
-    }
-
-    /// Makes room for all that may be joined, where there is none for another piece with what is
-    /// left. `Memory`, and no other fault, where that was refused.
-    fn widen(&mut self) -> Result<(), Fault>
-        requires within { self.old.at ≤ self.old.end }
-        requires end { self.old.end ≤ length self.old.piece.items }
-        requires fits { self.old.end - self.old.at + 4096 ≤ 65536 }
-        ensures widened { OnOk result (IsWidened self.old self.new) }
-        ensures reads { self.new.reads ≡ self.old.reads }
-        ensures cause { IfErr result (λ fault. fault ≡ Fault.Memory) }
-    {
-        if self.piece.len() - (self.end - self.at) < PIECE {
-            self.piece.resize(WINDOW, 0)?;
-        }
-        Ok(())
-    }
-
-    /// Moves what is left to the front, where there is no room for another piece behind it.
-    fn make_room(&mut self)
-        requires within { self.old.at ≤ self.old.end }
-        requires end { self.old.end ≤ length self.old.piece.items }
-        requires fits { self.old.end - self.old.at + 4096 ≤ length self.old.piece.items }
-        ensures moved { HasRoom self.old self.new }
-    {
-        let (at, end) = (self.at, self.end);
-        if at < end && self.piece.len() - end >= PIECE {
-            return;
-        }
-        self.piece.copy_within(at..end, 0);
-        self.at = 0;
-        self.end = end - at;
-    }
-
-    /// Reads another piece behind what is left, or notes that the device answered its end. Faults
-    /// are `Memory` and `Read`.
-    fn join<R: Inlet>(&mut self, reader: &mut R) -> Result<(), Fault>
-        requires ready { IsReady I.Items self.old }
-        requires may { CanJoin self.old }
-        ensures gathers { OnOk result
-            (Gathers R.Inlet I.Items reader.old reader.new self.old self.new) }
-        ensures fills { OnOk result (Fills R.Inlet reader.old reader.new self.old self.new) }
-        ensures fewer { OnOk result (self.new.reads + 1 ≡ self.old.reads) }
-        ensures ends { OnOk result
-            (self.new.ended ≡ true → left_of self.new ≡ left_of self.old) }
-        ensures grew { HandedOn R.Inlet reader.old reader.new }
-        ensures once { R.calls_made reader.new ≤ R.calls_made reader.old + 1 }
-        ensures few_calls { R.calls_made reader.new + self.new.reads
-            ≤ R.calls_made reader.old + self.old.reads }
-        ensures few_octets { length (R.handed reader.new) + 4096 * self.new.reads
-            ≤ length (R.handed reader.old) + 4096 * self.old.reads }
-        ensures no_read_failed { OnOk result (R.has_failed reader.new ≡ false) }
-        ensures cause { IfErr result (IsJoinCause R.Inlet reader.new) }
-        ensures kept { OnErr result (Heard R.Inlet reader.old reader.new [] false) }
-    {
-        self.widen()?;
-        self.make_room();
-        self.fill(reader)?;
-        Ok(())
-    }
-
-    /// Whether another piece may be joined to what is left, since the value there seems to be cut.
-    fn is_cut(&self, glance: &mut Glance) -> bool
-        requires within { self.now.at ≤ self.now.end }
-        requires end { self.now.end ≤ length self.now.piece.items }
-        ensures { result ≡ true → CanJoin self.now }
-    {
-        if self.ended || self.reads == 0 || self.end - self.at > WINDOW - PIECE {
-            return false;
-        }
-        self.items.seems_cut(&self.piece[self.at..self.end], glance)
-    }
-
-    /// Reads on while the value in front seems to be cut by the end of what is left, so that its
-    /// reader sees it whole. Faults are `Memory` and `Read`.
-    #[inline(always)]
-    fn gather<R: Inlet>(&mut self, reader: &mut R) -> Result<(), Fault>
-        requires { IsReady I.Items self.old }
-        ensures gathers { OnOk result
-            (Gathers R.Inlet I.Items reader.old reader.new self.old self.new) }
-        ensures few_calls { R.calls_made reader.new + self.new.reads
-            ≤ R.calls_made reader.old + self.old.reads }
-        ensures few_octets { length (R.handed reader.new) + 4096 * self.new.reads
-            ≤ length (R.handed reader.old) + 4096 * self.old.reads }
-        ensures cause { IfErr result (IsJoinCause R.Inlet reader.new) }
-        ensures kept { OnErr result ((g : Catalog) (l : Limits) (first : R) (s : List Value) →
-            Reads R.Inlet I.Items g l first reader.old self.old s →
-            GaveSoFar R.Inlet I.Items g l first reader.new s) }
-    {
-        let left = self.end - self.at;
-        if left == 0 || !self.sizes.may_pass(left) {
-            return Ok(());
-        }
-        self.gather_on(reader)
-    }
-
-    /// The same of a value that may well be cut.
-    #[inline(never)]
-    fn gather_on<R: Inlet>(&mut self, reader: &mut R) -> Result<(), Fault>
-        requires { IsReady I.Items self.old }
-        ensures gathers { OnOk result
-            (Gathers R.Inlet I.Items reader.old reader.new self.old self.new) }
-        ensures few_calls { R.calls_made reader.new + self.new.reads
-            ≤ R.calls_made reader.old + self.old.reads }
-        ensures few_octets { length (R.handed reader.new) + 4096 * self.new.reads
-            ≤ length (R.handed reader.old) + 4096 * self.old.reads }
-        ensures cause { IfErr result (IsJoinCause R.Inlet reader.new) }
-        ensures kept { OnErr result ((g : Catalog) (l : Limits) (first : R) (s : List Value) →
-            Reads R.Inlet I.Items g l first reader.old self.old s →
-            GaveSoFar R.Inlet I.Items g l first reader.new s) }
-    {
-        let mut left = self.end - self.at;
-        let mut glance = Glance::new();
-        while self.is_cut(&mut glance) {
-            let before = left;
-            self.join(reader)?;
-            left = self.end - self.at;
-            // a token that is cut again and again would be looked over as often
-            if left.saturating_sub(before) < before / 16 {
-                return Ok(());
-            }
-        }
-        Ok(())
     }
 
     /// Reads another piece where this one is used up; answers whether the device had more octets,
@@ -341,7 +203,9 @@ impl<I: Items + Drop> Source<I> {
         if self.reads == 0 {
             return Err(Fault::TooManyReads);
         }
-        self.join(reader)?;
+        self.at = 0;
+        self.end = 0;
+        self.fill(reader)?;
         Ok(!self.ended)
     }
 
@@ -363,10 +227,6 @@ impl<I: Items + Drop> Source<I> {
             IsWithin R.Inlet reads first reader.old self.old →
             IsWithin R.Inlet reads first reader.new self.new)) }
         ensures ended { IfOk result (λ reached. IfEnd reached (IsSpent I.Items self.new)) }
-        ensures sought { (g : Catalog) (l : Limits) (first : R) (s : List Value) →
-            Reads R.Inlet I.Items g l first reader.old self.old s →
-            Sought R.Inlet (format_of I.Items g l) first reader.old reader.new (length s) }
-        ensures grew { HandedOn R.Inlet reader.old reader.new }
         ensures few_calls { R.calls_made reader.new + self.new.reads
             ≤ R.calls_made reader.old + self.old.reads }
         ensures few_octets { length (R.handed reader.new) + 4096 * self.new.reads
@@ -397,28 +257,6 @@ impl<I: Items + Drop> Source<I> {
                 return Ok(Reached::End);
             }
         }
-    }
-
-    /// Goes past the next value where `C` puts it without building it: what it answered. `None`,
-    /// with all as it was, where it doesn't.
-    fn carry<C: Carry<I, E, W>, E, W>(
-        &mut self,
-        encoder: &mut E,
-        out: &mut W,
-    ) -> Option<Result<(), Fault>>
-        requires ready { IsReady I.Items self.old }
-        ensures carries { IfSome result (λ written. (v : Value)
-            × WentPast I.Items self.old self.new v
-            × C.puts encoder.old encoder.new out.old out.new v written) }
-        ensures stays { IsNone result →
-            (self.new ≡ self.old) × (encoder.new ≡ encoder.old) × (out.new ≡ out.old) }
-    {
-        let piece = &self.piece[self.at..self.end];
-        let (used, written) = C::carry(&mut self.items, piece, encoder, out)?;
-        self.at += used;
-        self.used += used as u64;
-        self.sizes.note(used);
-        Some(written)
     }
 }
 
@@ -521,55 +359,6 @@ impl<I: Items + Drop> Standing<I> {
             Stood R.Inlet I.Items g l first reader.old self.old s →
             GaveSoFar R.Inlet I.Items g l first reader.new s) }
     {
-        if let Err(fault) = self.gather(reader) {
-            self.give_up();
-            return Err(fault);
-        }
-        self.advance_on_demand::<A, R>(reader)
-    }
-
-    /// Reads on as `advance` does, but joins no pieces: the device is asked only where all octets
-    /// that it handed over are used and gave no further value.
-    #[inline(always)]
-    pub(crate) fn advance_on_demand<A: Asked, R: Inlet>(
-        &mut self,
-        reader: &mut R,
-    ) -> Result<Option<(A, u64)>, Fault>
-        requires { IfOpen self.old (IsReady I.Items) }
-        ensures gives { IfOk result (λ found.
-            (g : Catalog) (l : Limits) (first : R) (given : List (Value × ℕ)) →
-            StoodEach R.Inlet I.Items g l first reader.old self.old given →
-            GaveNext A.of R.Inlet I.Items g l first reader.new self.new given found) }
-        ensures none { IfOk result (λ found. found ≡ Option.None → IfOpen self.new (λ after. ⊥)) }
-        ensures ready { IfOpen self.new (IsReady I.Items) }
-        ensures less { IfOk result (λ found. IsSome found →
-            work_of I.Items self.new < work_of I.Items self.old) }
-        ensures spends { IfOpen self.old (λ source.
-            work_of I.Items self.new < work_of I.Items self.old) }
-        ensures no_more { work_of I.Items self.new ≤ work_of I.Items self.old }
-        ensures closed { IfClosed self.old ((result ≡ Result.Ok Option.None)
-            × (reader.new ≡ reader.old) × (self.new ≡ self.old)) }
-        ensures within { IfOk result (λ found. (first : R) (reads : ℕ) →
-            IfOpen self.old (IsWithin R.Inlet reads first reader.old) →
-            IfOpen self.new (IsWithin R.Inlet reads first reader.new)) }
-        ensures few_calls { R.calls_made reader.new + reads_of self.new
-            ≤ R.calls_made reader.old + reads_of self.old }
-        ensures few_octets { length (R.handed reader.new) + 4096 * reads_of self.new
-            ≤ length (R.handed reader.old) + 4096 * reads_of self.old }
-        ensures unasked { OnOk result (NoReadFailed R.Inlet reader.old reader.new) }
-        ensures no_read_failed { OnOk result (IfOpen self.old (λ source.
-            NoneFailed R.Inlet I.Items reader.old source → R.has_failed reader.new ≡ false)) }
-        ensures cause { IfErr result (λ fault. (first : R) (reads : ℕ) →
-            IfOpen self.old (IsWithin R.Inlet reads first reader.old) →
-            IsReadCause R.Inlet reads first reader.new fault) }
-        ensures kept { OnErr result ((g : Catalog) (l : Limits) (first : R) (s : List Value) →
-            Stood R.Inlet I.Items g l first reader.old self.old s →
-            GaveSoFar R.Inlet I.Items g l first reader.new s) }
-        ensures sought { (g : Catalog) (l : Limits) (first : R) (s : List Value) →
-            Stood R.Inlet I.Items g l first reader.old self.old s →
-            Sought R.Inlet (format_of I.Items g l) first reader.old reader.new (length s) }
-        ensures grew { HandedOn R.Inlet reader.old reader.new }
-    {
         match self {
             Standing::Open(source) => match source.read_on::<A, R>(reader) {
                 Ok(Reached::Value(found)) => Ok(Some((found, source.used))),
@@ -585,55 +374,6 @@ impl<I: Items + Drop> Standing<I> {
             },
             Standing::Ended => Ok(None),
             Standing::Refused(_) => Ok(None),
-        }
-    }
-
-    /// Reads on in a document that is open, while the value in front seems to be cut by the end of
-    /// the octets that were read, so that its reader sees it whole; 64 KiB are kept at most. Else
-    /// it stays where it stands.
-    ///
-    /// Faults are `Memory` and `Read`.
-    #[inline(always)]
-    pub fn gather<R: Inlet>(&mut self, reader: &mut R) -> Result<(), Fault>
-        requires { IfOpen self.old (IsReady I.Items) }
-        ensures gathers { OnOk result
-            (GathersAt R.Inlet I.Items reader.old reader.new self.old self.new) }
-        ensures opened { OnErr result (IsOpen self.old) }
-        ensures few_calls { R.calls_made reader.new + reads_of self.new
-            ≤ R.calls_made reader.old + reads_of self.old }
-        ensures few_octets { length (R.handed reader.new) + 4096 * reads_of self.new
-            ≤ length (R.handed reader.old) + 4096 * reads_of self.old }
-        ensures cause { IfErr result (IsJoinCause R.Inlet reader.new) }
-        ensures kept { OnErr result ((g : Catalog) (l : Limits) (first : R) (s : List Value) →
-            Stood R.Inlet I.Items g l first reader.old self.old s →
-            GaveSoFar R.Inlet I.Items g l first reader.new s) }
-    {
-        match self {
-            Standing::Open(source) => source.gather(reader),
-            Standing::Ended => Ok(()),
-            Standing::Refused(_) => Ok(()),
-        }
-    }
-
-    /// Goes past the next value of a document that is open, where `C` puts it without building it:
-    /// what it answered. `None`, with all as it was, where it doesn't.
-    #[inline(always)]
-    pub fn carry<C: Carry<I, E, W>, E, W>(
-        &mut self,
-        encoder: &mut E,
-        out: &mut W,
-    ) -> Option<Result<(), Fault>>
-        requires ready { IfOpen self.old (IsReady I.Items) }
-        ensures carries { IfSome result (λ written. (v : Value)
-            × StandingPast I.Items self.old self.new v
-            × C.puts encoder.old encoder.new out.old out.new v written) }
-        ensures stays { IsNone result →
-            (self.new ≡ self.old) × (encoder.new ≡ encoder.old) × (out.new ≡ out.old) }
-    {
-        match self {
-            Standing::Open(source) => source.carry::<C, E, W>(encoder, out),
-            Standing::Ended => None,
-            Standing::Refused(_) => None,
         }
     }
 

@@ -23,6 +23,7 @@ module _ {X : Type 0} (I : Items X) where
   ready_of source h = record {
     within = h.within;
     fits = h.fits;
+    piece = h.piece;
     room = h.room;
     begins =
         begins_to (I.awaits source.items) (left_of source) h.begins;
@@ -33,6 +34,7 @@ module _ {X : Type 0} (I : Items X) where
   readable_of source h = record {
     within = h.within;
     fits = h.fits;
+    piece = h.piece;
     room = h.room;
     begins =
         begins_from (I.awaits source.items) (left_of source) h.begins;

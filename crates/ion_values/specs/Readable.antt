@@ -16,6 +16,7 @@ begins_with (Some octet) (first ∷ rest) = first == octet
 pub record IsReadable {X : Type 0} (I : Items X) (source : Source X) : Type 0 where
   pub within : source.at ≤ source.end
   pub fits : source.end ≤ length source.piece.items
+  pub piece : 4096 ≤ length source.piece.items
   pub room : I.taken source.items + (source.end - source.at) + 4096 * source.reads < 2 ^ 63
   pub begins : begins_with (I.awaits source.items) (left_of source) ≡ true
   pub counted : I.taken source.items ≡ source.used

@@ -1,10 +1,8 @@
--- Two documents that are read side by side.
+-- Documents that go past values which aren't built.
 use Rattle.std.specs.Prelude.{◌≡◌, ℕ, ◌<◌, List, Some}
 use Rattle.ion_model.specs.declared.value.Value.{Value}
 use Rattle.ion_symtab.specs.declared.items.Items.{Ghosts as Items}
-use Rattle.ion_streams.specs.reading.Courses.{IsMet}
 use Rattle.ion_streams.specs.reading.Read.{left_of, IsReady, Went, work}
-use Rattle.ion_streams.specs.declared.comparison.Course.{Course}
 use Rattle.ion_streams.specs.declared.source.Source.{Source}
 use Rattle.ion_streams.specs.declared.source.Standing.{Standing}
 use Rattle.ion_streams.specs.declared.source.Standing.TheVariants.{Open, Ended, Refused}
@@ -26,11 +24,3 @@ StandingPast I (Open before) Ended v = ⊥
 StandingPast I (Open before) (Refused refusal) v = ⊥
 StandingPast I Ended after v = ⊥
 StandingPast I (Refused refusal) after v = ⊥
-
--- both gave a value, and the course took the two for equivalent
-pub record GoAlike {X Y : Type 0} (I : Items X) (J : Items Y) (course after : Course) (left left_now : Standing X) (right right_now : Standing Y) : Type 0 where
-  pub value : Value
-  pub other : Value
-  pub left_past : StandingPast I left left_now value
-  pub right_past : StandingPast J right right_now other
-  pub met : IsMet course (Some value) (Some other) after

@@ -3,6 +3,8 @@ use Rattle.std.specs.Prelude.{◌≡◌, ℕ, ◌+◌, [], true, false, Option, 
 use Rattle.ion_model.specs.declared.value.Value.{Value}
 use Rattle.ion_model.specs.Same.{same}
 use Rattle.ion_model.specs.Parting.{IsPath}
+use Rattle.ion_visiting.specs.declared.tape.Tape.{Tape}
+use Rattle.ion_visiting.specs.Tapes.{Holds}
 use Rattle.ion_streams.specs.declared.source.Standing.{Standing}
 use Rattle.ion_streams.specs.declared.source.Standing.TheVariants as TheStanding
 use Rattle.ion_streams.specs.declared.comparison.Verdict.{Verdict}
@@ -10,6 +12,16 @@ use Rattle.ion_streams.specs.declared.comparison.Verdict.TheVariants.{Equivalent
 use Rattle.ion_streams.specs.declared.comparison.Side.TheVariants.{Right}
 use Rattle.ion_streams.specs.declared.comparison.Course.{Course}
 use Rattle.ion_streams.specs.declared.comparison.Course.TheVariants.{Alike, Parted}
+
+-- so of the values that were the same, where the streams didn't part so far
+abbrev pub IfAlike : Course → (ℕ → Type 0) → Type 0
+IfAlike (Alike values) P = P values
+IfAlike (Parted index path) P = Unit {0}
+
+-- where both streams have another value, each tape holds one of them
+abbrev pub AreHeld : Tape → Tape → Option Value → Option Value → Type 0
+AreHeld left right (Some v) (Some w) = Holds left v × Holds right w
+AreHeld left right _ _ = Unit {0}
 
 -- the course where both streams have another value
 abbrev pub MetBoth : ℕ → Value → Value → Course → Type 0

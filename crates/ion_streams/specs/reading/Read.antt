@@ -25,10 +25,11 @@ abbrev pub Begins : Option ℕ → List ℕ → Type 0
 Begins awaits octets = IfSome awaits (λ octet. (rest : List ℕ) × (octets ≡ octet ∷ rest))
 
 module _ {X : Type 0} (I : Items X) where
-  -- what is left lies in the piece and begins as the reader awaits, and all that may be read can be counted
+  -- what is left lies in the piece, which has room for another, and begins as the reader awaits; and all that may be read can be counted
   pub record IsReady (source : Source X) : Type 0 where
     pub within : source.at ≤ source.end
     pub fits : source.end ≤ length source.piece.items
+    pub piece : 4096 ≤ length source.piece.items
     pub room : I.taken source.items + (source.end - source.at) + 4096 * source.reads < 2 ^ 63
     pub begins : Begins (I.awaits source.items) (left_of source)
     pub counted : I.taken source.items ≡ source.used

@@ -3,6 +3,8 @@ use Rattle.std.specs.Prelude.{◌≡◌, ℕ, List, [], ◌∷◌, ◌++◌, Boo
 use Rattle.ion_model.specs.declared.value.Value.{Value}
 use Rattle.ion_visiting.specs.Events.{Event, Led, events_of}
 use Rattle.ion_visiting.specs.Tables.{Hears}
+use Rattle.ion_visiting.specs.Tapes.{Holds}
+use Rattle.ion_visiting.specs.declared.tape.Tape.{Tape}
 use Rattle.ion_symtab.specs.declared.catalog.Catalog.{Catalog}
 use Rattle.ion_symtab.specs.declared.limits.Limits.{Limits}
 use Rattle.ion_symtab.specs.declared.inlet.Inlet.{Ghosts as Inlet}
@@ -43,6 +45,12 @@ module _ {V X : Type 0} (takes : V → Event → V → Type 0) (I : Items X) whe
     ToldNext place given None a b = StoodEach R (telling I []) g l first now place given × IfEnded place (b ≡ a)
     ToldNext place given (Some used) a b = (v : Value) × Led takes (events_of v) a b
         × StoodEach R (telling I []) g l first now place (given ++ (v, used) ∷ []) × IfRefused place ⊥
+
+-- Behind these values no more was told. Or one more was, with the total of octets when it ended: the tape holds it where it is to, and nothing was refused.
+abbrev pub TapedNext : {S X : Type 0} → Bool → Inlet S → Items X → Catalog → Limits → S → S → Standing X → List (Value × ℕ) → Option ℕ → Tape → Type 0
+TapedNext holds R I g l first now place given None tape = StoodEach R (telling I []) g l first now place given
+TapedNext holds R I g l first now place given (Some used) tape = (v : Value) × (holds ≡ true → Holds tape v)
+    × StoodEach R (telling I []) g l first now place (given ++ (v, used) ∷ []) × IfRefused place ⊥
 
 -- What the end of a document gave, whose octets u gave these values: no more, or one of which a visitor has heard all that had heard es. Or the octets
 -- are refused.

@@ -1,6 +1,6 @@
 use Rattle.std.proofs.Common.{rules, arith, refl, take, ◌≤◌, ◌<◌, length, length-take}
 use Rattle.ion_symtab.specs.laws.Causes.{WereMade-more}
-use Rattle.ion_streams.proofs.Joined.{between_written, heard_read}
+use Rattle.ion_streams.proofs.Refilled.{between_written, heard_read}
 use Rattle.ion_streams.proofs.source.read_behind.Goals as goal
 
 pub returns-clause-joined : goal.returns-clause-joined

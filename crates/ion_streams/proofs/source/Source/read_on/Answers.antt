@@ -2,10 +2,9 @@ use Rattle.std.proofs.Common.{inl, inr, rules, ◌≢◌, arith}
 use Rattle.ion_atoms.specs.declared.refusal.Reason.TheVariants as reasons
 use Rattle.std.proofs.lemmas.Result.{err_from_is_err_and}
 use Rattle.ion_streams.specs.reading.Read.{left_of}
-use Rattle.ion_streams.proofs.Joined.{ended_unasked, ended_heard}
+use Rattle.ion_streams.proofs.Refilled.{ended_unasked, ended_heard}
 use Rattle.ion_streams.proofs.Steps.{gave_so_far, kept_so_far, reads_none, reads_failed, reads_refilled, within_kept, on_err}
 use Rattle.ion_streams.proofs.Passes.{none_went, passes_on}
-use Rattle.ion_streams.proofs.Turns.{on_more, asked_next}
 use Rattle.ion_streams.proofs.Unfailed.{was_asked, gave_some}
 use Rattle.ion_streams.proofs.source.Source.read_on.Goals as goal
 
@@ -79,17 +78,6 @@ loop-refusal-preserved g c =
       heard = λ h. record { either = inl (f.heard (search rules)) };
       within = λ first reads h. f.within (search rules) first reads
           (within_kept g.R.Inlet reads first c.loop-refusal.reader from mid t.reads t.ended (i.within first reads h));
-      sought = λ catalog limits first s h.
-          inr (asked_next g.I.Items catalog limits (g.met.I.Items.settled catalog limits) g.met.I.Items.given_so_far g.R.Inlet first c.loop-refusal.reader
-          c.refill.new.reader mid s
-          (record {
-            given = h.given;
-            each = reads_none g.R.Inlet g.I.Items catalog limits first c.loop-refusal.reader c.loop-refusal.self mid h.given
-                (c.loop-refusal.invariant.reads catalog limits first h.given h.each) gives t.catalog t.limits t.ended;
-            values = h.values;
-          })
-          t.ready (t.all c.in-Ok-None.field-0-is) f.once);
-      grew = on_more g.R.Inlet c.args.reader.now c.loop-refusal.reader c.refill.new.reader i.grew f.grew;
       reads = λ catalog limits first given h.
           reads_refilled g.R.Inlet g.I.Items catalog limits first c.loop-refusal.reader c.refill.new.reader mid c.refill.new.self given f.refills
           (reads_none g.R.Inlet g.I.Items catalog limits first c.loop-refusal.reader from mid given
@@ -130,41 +118,3 @@ returns-then-not-branch-clause-no_read_failed g c = λ h.
     let from = c.loop-refusal.self in
     let ended = c.in_ok-refill.ensures.no_read_failed in
     ended_heard g.R.Inlet g.I.Items c.loop-refusal.reader c.refill.new.reader from (c.loop-refusal.invariant.heard h) (rw c.in-Ok-None.ensures.ended at ended)
-
-pub returns-in_err-refill-clause-sought : goal.returns-in_err-refill-clause-sought
-returns-in_err-refill-clause-sought g c = λ catalog limits first s h.
-    let mid = c.take.new.self in
-    let t = c.in-Ok-None.ensures in
-    let gives = none_went g.A.Asked.of g.I.Items c.loop-refusal.self mid _ c.in-Ok-None.field-0-is t.gives in
-    inr (asked_next g.I.Items catalog limits (g.met.I.Items.settled catalog limits) g.met.I.Items.given_so_far g.R.Inlet first c.loop-refusal.reader
-    c.refill.new.reader mid s
-    (record {
-      given = h.given;
-      each = reads_none g.R.Inlet g.I.Items catalog limits first c.loop-refusal.reader c.loop-refusal.self mid h.given
-          (c.loop-refusal.invariant.reads catalog limits first h.given h.each) gives t.catalog t.limits t.ended;
-      values = h.values;
-    })
-    t.ready (t.all c.in-Ok-None.field-0-is) c.in_err-refill.ensures.once)
-
-pub returns-in_err-refill-clause-grew : goal.returns-in_err-refill-clause-grew
-returns-in_err-refill-clause-grew g c =
-    on_more g.R.Inlet c.args.reader.now c.loop-refusal.reader c.refill.new.reader c.loop-refusal.invariant.grew c.in_err-refill.ensures.grew
-
-pub returns-then-not-branch-clause-sought : goal.returns-then-not-branch-clause-sought
-returns-then-not-branch-clause-sought g c = λ catalog limits first s h.
-    let mid = c.take.new.self in
-    let t = c.in-Ok-None.ensures in
-    let gives = none_went g.A.Asked.of g.I.Items c.loop-refusal.self mid _ c.in-Ok-None.field-0-is t.gives in
-    inr (asked_next g.I.Items catalog limits (g.met.I.Items.settled catalog limits) g.met.I.Items.given_so_far g.R.Inlet first c.loop-refusal.reader
-    c.refill.new.reader mid s
-    (record {
-      given = h.given;
-      each = reads_none g.R.Inlet g.I.Items catalog limits first c.loop-refusal.reader c.loop-refusal.self mid h.given
-          (c.loop-refusal.invariant.reads catalog limits first h.given h.each) gives t.catalog t.limits t.ended;
-      values = h.values;
-    })
-    t.ready (t.all c.in-Ok-None.field-0-is) c.in_ok-refill.ensures.once)
-
-pub returns-then-not-branch-clause-grew : goal.returns-then-not-branch-clause-grew
-returns-then-not-branch-clause-grew g c =
-    on_more g.R.Inlet c.args.reader.now c.loop-refusal.reader c.refill.new.reader c.loop-refusal.invariant.grew c.in_ok-refill.ensures.grew

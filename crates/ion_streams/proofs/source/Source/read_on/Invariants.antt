@@ -2,8 +2,7 @@ use Rattle.std.proofs.Common.{◌+◌, ◌≤◌, ℕ, List, length, ◌*◌}
 use Rattle.ion_model.specs.declared.value.Value.{Value}
 use Rattle.ion_symtab.specs.declared.catalog.Catalog.{Catalog}
 use Rattle.ion_symtab.specs.declared.limits.Limits.{Limits}
-use Rattle.ion_streams.specs.Formats.{format_of}
-use Rattle.ion_streams.specs.reading.Read.{IsReady, NoneFailed, NoReadFailed, IsWithin, work, Reads, ReadsEach, HandedOn, Sought}
+use Rattle.ion_streams.specs.reading.Read.{IsReady, NoneFailed, NoReadFailed, IsWithin, work, ReadsEach}
 use Rattle.ion_streams.proofs.source.Source.read_on.Given as goal
 
 -- nothing was given yet
@@ -16,9 +15,6 @@ invariant-loop-refusal g l = record {
   unasked : NoReadFailed g.R.Inlet l.fn.reader l.reader;
   heard : NoneFailed g.R.Inlet g.I.Items l.fn.reader l.fn.self → NoneFailed g.R.Inlet g.I.Items l.reader l.self;
   within : (first : g.row.R.Denot) (reads : ℕ) → IsWithin g.R.Inlet reads first l.fn.reader l.fn.self → IsWithin g.R.Inlet reads first l.reader l.self;
-  sought : (catalog : Catalog) (limits : Limits) (first : g.row.R.Denot) (s : List Value) → Reads g.R.Inlet g.I.Items catalog limits first l.fn.reader l.fn.self s
-      → Sought g.R.Inlet (format_of g.I.Items catalog limits) first l.fn.reader l.reader (length s);
-  grew : HandedOn g.R.Inlet l.fn.reader l.reader;
   reads : (catalog : Catalog) (limits : Limits) (first : g.row.R.Denot) (given : List (Value × ℕ))
       → ReadsEach g.R.Inlet g.I.Items catalog limits first l.fn.reader l.fn.self given
       → ReadsEach g.R.Inlet g.I.Items catalog limits first l.reader l.self given;

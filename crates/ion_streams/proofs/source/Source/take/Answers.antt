@@ -37,6 +37,7 @@ returns-in-Ok-clause-ready g c =
     record {
       within = omega (arith, fits, ready.within);
       fits = ready.fits;
+      piece = ready.piece;
       room = omega (arith, ready.room, ready.within, fits, taken);
       begins = begins_drop (g.I.Items.awaits c.take.new.items) c.args.self.now.piece.items c.args.self.now.at c.args.self.now.end c.in-Ok.used fits
           (rw c.deref.ensures.value at c.in-Ok.ensures.leaves.awaited);

@@ -34,6 +34,7 @@ returns-in-Ok-clause-ready g c =
     record {
       within = omega (arith, fits, ready.within);
       fits = ready.fits;
+      piece = ready.piece;
       room = omega (arith, ready.room, ready.within, fits, taken);
       begins = begins_drop (g.I.Items.awaits c.walk.new.self) c.args.self.now.piece.items c.args.self.now.at c.args.self.now.end c.in-Ok.walked.used
           fits

@@ -1,9 +1,10 @@
 use Rattle.std.proofs.Common.{◌≡◌, [], arith, refl, ap, ◌∙◌}
+use Rattle.ion_streams.specs.reading.Telling.{telling}
 use Rattle.ion_streams.proofs.Pieces.{between_nil}
 use Rattle.ion_streams.proofs.Unfailed.{asks_begun}
 use Rattle.ion_streams.proofs.Steps.{reads_begun, ready_begun, within_begun}
 use Rattle.ion_streams.proofs.Passes.{ok_by, err_by}
-use Rattle.ion_streams.proofs.comparison.compare_by.Goals as goal
+use Rattle.ion_streams.proofs.comparison.compare_items.Goals as goal
 
 pub compare_places-verdict-requires : goal.compare_places-verdict-requires
 compare_places-verdict-requires g c =
@@ -33,9 +34,11 @@ returns-clause-verdict g c =
     let right = c.in_ok-right_source.right_source in
     let l = c.in_ok-left_source.ensures in
     let r = c.in_ok-right_source.ensures in
-    let left_begun = reads_begun g.L.Inlet g.I.Items c.args.left.now left c.args.left_items c.requires.left.stood l.items
+    let left_begun = reads_begun g.L.Inlet (telling g.I.Items []) c.args.left.now left c.args.left_items
+    (g.met.I.Items.nothing_told c.args.left_items c.requires.left.stood) l.items
     (between_nil left.piece.items left.at left.end (omega (arith, l.nothing.0, l.nothing.1))) l.unended in
-    let right_begun = reads_begun g.R.Inlet g.J.Items c.args.right.now right c.args.right_items c.requires.right.stood r.items
+    let right_begun = reads_begun g.R.Inlet (telling g.J.Items []) c.args.right.now right c.args.right_items
+    (g.met.J.Items.nothing_told c.args.right_items c.requires.right.stood) r.items
     (between_nil right.piece.items right.at right.end (omega (arith, r.nothing.0, r.nothing.1))) r.unended in
     ok_by c.compare_places-verdict.result _ _ (λ verdict h. h _ _ _ _ left_begun right_begun) c.compare_places-verdict.ensures.verdict
 
@@ -45,9 +48,11 @@ returns-clause-in_turn g c =
     let right = c.in_ok-right_source.right_source in
     let l = c.in_ok-left_source.ensures in
     let r = c.in_ok-right_source.ensures in
-    let left_begun = reads_begun g.L.Inlet g.I.Items c.args.left.now left c.args.left_items c.requires.left.stood l.items
+    let left_begun = reads_begun g.L.Inlet (telling g.I.Items []) c.args.left.now left c.args.left_items
+    (g.met.I.Items.nothing_told c.args.left_items c.requires.left.stood) l.items
     (between_nil left.piece.items left.at left.end (omega (arith, l.nothing.0, l.nothing.1))) l.unended in
-    let right_begun = reads_begun g.R.Inlet g.J.Items c.args.right.now right c.args.right_items c.requires.right.stood r.items
+    let right_begun = reads_begun g.R.Inlet (telling g.J.Items []) c.args.right.now right c.args.right_items
+    (g.met.J.Items.nothing_told c.args.right_items c.requires.right.stood) r.items
     (between_nil right.piece.items right.at right.end (omega (arith, r.nothing.0, r.nothing.1))) r.unended in
     c.compare_places-verdict.ensures.in_turn _ _ _ _ left_begun right_begun
 
@@ -57,9 +62,11 @@ returns-clause-one_end g c =
     let right = c.in_ok-right_source.right_source in
     let l = c.in_ok-left_source.ensures in
     let r = c.in_ok-right_source.ensures in
-    let left_begun = reads_begun g.L.Inlet g.I.Items c.args.left.now left c.args.left_items c.requires.left.stood l.items
+    let left_begun = reads_begun g.L.Inlet (telling g.I.Items []) c.args.left.now left c.args.left_items
+    (g.met.I.Items.nothing_told c.args.left_items c.requires.left.stood) l.items
     (between_nil left.piece.items left.at left.end (omega (arith, l.nothing.0, l.nothing.1))) l.unended in
-    let right_begun = reads_begun g.R.Inlet g.J.Items c.args.right.now right c.args.right_items c.requires.right.stood r.items
+    let right_begun = reads_begun g.R.Inlet (telling g.J.Items []) c.args.right.now right c.args.right_items
+    (g.met.J.Items.nothing_told c.args.right_items c.requires.right.stood) r.items
     (between_nil right.piece.items right.at right.end (omega (arith, r.nothing.0, r.nothing.1))) r.unended in
     c.compare_places-verdict.ensures.one_end _ _ _ _ left_begun right_begun
 

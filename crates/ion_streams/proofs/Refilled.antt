@@ -1,0 +1,96 @@
+-- Pieces that are read.
+use Rattle.std.proofs.Common.{◌≡◌, ℕ, ◌+◌, ◌-◌, ◌≤◌, ◌<◌, ◌⊎◌, inl, inr, List, [], ◌∷◌, ◌++◌, ◌==◌, length, take, drop, refl, ap, sym, subst, ◌∙◌, arith, Bool, true, false, append_assoc, length-take, length-drop}
+use Rattle.std.proofs.lemmas.List.{drop-take, take-take, drop-append-le, take-append-le, length-take-le}
+use Rattle.std.proofs.lemmas.Bool.Decides.{nat_tests}
+use Rattle.std.proofs.Math.Seq.{take-append-add}
+use Rattle.ion_symtab.specs.declared.inlet.Inlet.{Ghosts as Inlet}
+use Rattle.ion_symtab.specs.declared.items.Items.{Ghosts as Items}
+use Rattle.ion_symtab.specs.Told.{Told}
+use Rattle.ion_symtab.specs.Heard.{AnsweredEnd, Heard}
+use Rattle.ion_streams.specs.reading.Read.{between, left_of, IsReady, HasToAsk, NoneFailed, NoReadFailed}
+use Rattle.ion_streams.specs.declared.source.Source.{Source}
+use Rattle.ion_streams.proofs.Pieces.{begins_any, between_nil}
+
+cut_front : (piece : List ℕ) (at end : ℕ) → at ≤ end → drop at (take end piece) ≡ between piece at end
+cut_front piece at end within =
+    let whole : end ≡ at + (end - at) = omega (arith, within) in
+    ap (λ n. drop at (take n piece)) whole ∙ drop-take at (end - at) piece
+
+cut_joined : (piece new back : List ℕ) (at end count : ℕ) → at ≤ end → end ≤ length piece → count ≤ length new
+    → between (take end piece ++ (new ++ back)) at (end + count) ≡ between piece at end ++ take count new
+cut_joined piece new back at end count within fits few =
+    let front = cut_front piece at end within in
+    let long : length (take end piece) ≡ end = length-take-le end piece fits in
+    let size : length (between piece at end) ≡ end - at = omega (arith, within, fits, length-take {A = ℕ}, length-drop {A = ℕ}) in
+    let many : end + count - at ≡ length (between piece at end) + count = omega (arith, size, within) in
+    ap (take (end + count - at)) (drop-append-le at (take end piece) (new ++ back) (omega (arith, long, within)) ∙ ap (λ x. x ++ (new ++ back)) front)
+    ∙ (ap (λ n. take n (between piece at end ++ (new ++ back))) many ∙ (take-append-add (between piece at end) (new ++ back) count
+    ∙ ap (λ x. between piece at end ++ x) (take-append-le count new back few)))
+
+-- where octets were put behind a place, those before it are as they were, and behind them stand the new ones
+pub between_joined : (piece held new back : List ℕ) (at end count : ℕ) → held ≡ piece → at ≤ end → end ≤ length piece → count ≤ length new
+    → between (take end held ++ (new ++ back)) at (end + count) ≡ between piece at end ++ take count new
+between_joined piece held new back at end count same within fits few =
+    ap (λ x. between (take end x ++ (new ++ back)) at (end + count)) same ∙ cut_joined piece new back at end count within fits few
+
+between_short : (octets : List ℕ) (len at to : ℕ) → at ≤ to → to ≤ len → between (take len octets) at to ≡ between octets at to
+between_short octets len at to within fits =
+    let whole : len ≡ at + (len - at) = omega (arith, within, fits) in
+    ap (λ n. take (to - at) (drop at (take n octets))) whole ∙ (ap (take (to - at)) (drop-take at (len - at) octets)
+    ∙ take-take (to - at) (len - at) (drop at octets) (omega (arith, fits)))
+
+-- the same where the octets are cut to the length that they had
+pub between_written : (piece held new back more : List ℕ) (len at end count : ℕ) → held ≡ piece → at ≤ end → end ≤ length piece → count ≤ length new
+    → end + count ≤ len → between (take len ((take end held ++ (new ++ back)) ++ more)) at (end + count) ≡ between piece at end ++ take count new
+between_written piece held new back more len at end count same within fits few short =
+    between_short ((take end held ++ (new ++ back)) ++ more) len at (end + count) (omega (arith, within)) short
+    ∙ (ap (λ x. between x at (end + count)) (append_assoc (take end held) (new ++ back) more
+    ∙ ap (λ x. take end held ++ x) (append_assoc new back more))
+    ∙ between_joined piece held new (back ++ more) at end count same within fits few)
+
+module _ {S : Type 0} (R : Inlet S) (old new : S) where
+  answered : (ended : Bool) → (ended ≡ true → (R.ends new ≡ R.ends old ++ length (R.handed new) ∷ []) × R.tells new []) → (ended ≡ false → R.ends new ≡ R.ends old)
+      → AnsweredEnd R old new ended
+  answered true end going = end refl
+  answered false end going = going refl
+
+  -- what a read of a piece that isn't empty told
+  pub heard_read : (octets : List ℕ) (count : ℕ) → Told R.tells R.handed old new octets → (count ≡ 0 → R.ends new ≡ R.ends old ++ length (R.handed new) ∷ [])
+      → (count ≡ 0 → R.tells new []) → (0 < count → R.ends new ≡ R.ends old) → Heard R old new octets (count == 0)
+  heard_read octets count told ended end going =
+      record {
+        told = told;
+        answered = answered (count == 0) (λ e. let none : count ≡ 0 = grind (arith, nat_tests) in (ended none, end none))
+            (λ e. let some : 0 < count = grind (arith, nat_tests) in going some);
+      }
+
+module _ {S X : Type 0} (R : Inlet S) (I : Items X) where
+  -- a piece was read where the one before was used up
+  pub ready_filled : (before after : Source X) → IsReady I before → before.at ≡ before.end → after.items ≡ before.items → after.used ≡ before.used
+      → after.at ≤ after.end → after.end ≤ 4096 → length after.piece.items ≡ length before.piece.items → after.reads + 1 ≡ before.reads → IsReady I after
+  ready_filled before after ready used_up items used within end piece reads =
+      let taken : I.taken after.items ≡ I.taken before.items = ap (λ x. I.taken x) items in
+      record {
+        within = within;
+        fits = omega (arith, end, piece, ready.piece);
+        piece = omega (arith, piece, ready.piece);
+        room = omega (arith, taken, ready.room, used_up, reads, end, within);
+        begins = begins_any (I.awaits before.items) (I.awaits after.items) (left_of before) (left_of after) (ap (λ x. I.awaits x) items)
+            (between_nil before.piece.items before.at before.end (omega (arith, used_up))) ready.begins;
+        counted = omega (arith, taken, ready.counted, used);
+      }
+
+  -- a device whose end was answered before isn't asked again
+  pub ended_unasked : (old now new : S) (source : Source X) → NoReadFailed R old now → (R.has_failed new ≡ false) ⊎ ((new ≡ now) × (source.ended ≡ true))
+      → NoReadFailed R old new
+  ended_unasked old now new source before (inl fine) = record { either = inr fine }
+  ended_unasked old now new source before (inr both) = subst (λ x. NoReadFailed R old x) (sym both.0) before
+
+  pub ended_heard : (now new : S) (source : Source X) → NoneFailed R I now source → (R.has_failed new ≡ false) ⊎ ((new ≡ now) × (source.ended ≡ true))
+      → R.has_failed new ≡ false
+  ended_heard now new source before (inl fine) = fine
+  ended_heard now new source before (inr both) = ap (λ x. R.has_failed x) both.0 ∙ go before.either
+    where
+      go : (R.has_failed now ≡ false) ⊎ HasToAsk I source → R.has_failed now ≡ false
+      go (inl fine) = fine
+      go (inr asks) = let e = sym asks.going ∙ both.1 in absurd cc
