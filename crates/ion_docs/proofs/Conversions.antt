@@ -1,7 +1,11 @@
--- What a device took of a document, one value after another.
-use Rattle.std.proofs.Common.{◌≡◌, ℕ, List, length, Bool, subst}
+-- What a device took of a document, one value after another, and where a conversion stands.
+use Rattle.std.proofs.Common.{◌≡◌, ℕ, ◌+◌, List, [], ◌∷◌, ◌++◌, length, Option, None, Some, Bool, refl, ap, sym, subst, ◌∙◌, length-append}
+use Rattle.std.proofs.lemmas.Option.{same_Some}
 use Rattle.ion_model.specs.declared.value.Value.{Value}
-use Rattle.ion_model.specs.Kept.{AreKept}
+use Rattle.ion_model.specs.Kept.{AreKept, IsKept}
+use Rattle.ion_model.specs.laws.Kept.{kept_last}
+use Rattle.ion_visiting.specs.Events.{Event, Led, events_of}
+use Rattle.ion_symtab.specs.Trace.{plain}
 use Rattle.ion_symtab.specs.Took.{Took, TookFront}
 use Rattle.ion_symtab.specs.laws.Took.{Took-nil, Took-trans, Front-all, Front-more, Front-behind}
 use Rattle.ion_symtab.specs.declared.fault.Fault.{Fault}
@@ -14,10 +18,14 @@ use Rattle.ion_symtab.specs.declared.outlet.Outlet.{Ghosts as Outlet}
 use Rattle.ion_streams.specs.reading.Read.{left_of}
 use Rattle.ion_docs.specs.Conversion.{WritesKept}
 use Rattle.ion_streams.specs.Formats.{format_of}
-use Rattle.ion_streams.specs.reading.Standing.{IfOpen, Stood, answered}
+use Rattle.ion_streams.specs.reading.Standing.{IfOpen, Stood, StoodEach, answered}
+use Rattle.ion_streams.specs.reading.Telling.{telling, ToldNext}
+use Rattle.ion_streams.proofs.Fronts.{OneStands, gave_told}
+use Rattle.ion_streams.proofs.Steps.{plain_next, stood_plain}
 use Rattle.ion_streams.specs.declared.source.Standing.{Standing}
 use Rattle.ion_streams.specs.declared.source.Standing.TheVariants as TheStanding
 use Rattle.ion_docs.specs.Converted.{ReadSoFar, in_reading, at_refusal, at_end, IsConverted, IsConvertCause}
+use Rattle.ion_docs.specs.declared.writers.Encoder.{Ghosts as Encoder}
 use Rattle.ion_docs.specs.Encodings.{Encoding, IsFrontOf, TookBehind, TookSomeBehind, IsPuttingFault}
 
 module _ {T : Type 0} (W : Outlet T) where
@@ -54,20 +62,61 @@ put_cause E WasRead failed s Read r h = absurd h
 put_cause E WasRead failed s TooManyReads r h = absurd h
 put_cause E WasRead failed s Open r h = absurd h
 
--- what follows for an answer that isn't known
+module _ {S X Y : Type 0} (takes : Y → Event → Y → Type 0) (R : Inlet S) (I : Items X) (g : Catalog) (l : Limits) (first now : S) where
+  -- one value more was told
+  pub told_some : (place : Standing X) (given : List (Value × ℕ)) (found : Option ℕ) (used : ℕ) (a b : Y) → found ≡ Some used
+      → ToldNext takes I R g l first now place given found a b
+      → (v : Value) × Led takes (events_of v) a b × StoodEach R (telling I []) g l first now place (given ++ (v, used) ∷ [])
+  told_some place given None used a b is h = absurd cc
+  told_some place given (Some total) used a b is h =
+      let same : total ≡ used = same_Some _ _ is in
+      (h.0, h.1, subst (λ (n : ℕ). StoodEach R (telling I []) g l first now place (given ++ (h.0, n) ∷ [])) same h.2)
 
-module _ {S X : Type 0} (R : Inlet S) (I : Items X) (g : Catalog) (l : Limits) where
+  -- the values without their totals
+  pub stood_more : (place : Standing X) (given : List (Value × ℕ)) (v : Value) (used : ℕ)
+      → StoodEach R (telling I []) g l first now place (given ++ (v, used) ∷ [])
+      → Stood R (telling I []) g l first now place (plain given ++ v ∷ [])
+  stood_more place given v used h =
+      subst (λ (s : List Value). Stood R (telling I []) g l first now place s) (plain_next given (Some (v, used)) (Some v) (plain given) refl refl)
+      (stood_plain R (telling I []) g l first now place (given ++ (v, used) ∷ []) h)
+
   -- wherever the document stands, its values were read
-  pub was_read : (first now : S) (place : Standing X) (s : List Value) → Stood R I g l first now place s → ReadSoFar R I g l first now s
-  was_read first now (TheStanding.Open source) s h = in_reading (record { items = source.items; left = left_of source; ended = source.ended; gave = h })
-  was_read first now (TheStanding.Refused refusal) s h = at_refusal refusal h
-  was_read first now TheStanding.Ended s h = at_end h
+  pub was_read : OneStands I → (place : Standing X) (s : List Value) → Stood R (telling I []) g l first now place s → ReadSoFar R I g l first now s
+  was_read one (TheStanding.Open source) s h =
+      in_reading (gave_told R I g l first now s [] one (record { items = source.items; left = left_of source; ended = source.ended; gave = h }))
+  was_read one (TheStanding.Refused refusal) s h = at_refusal refusal h
+  was_read one TheStanding.Ended s h = at_end h
+
+-- where a conversion stands
+module _ {S X Y T : Type 0} (R : Inlet S) (I : Items X) (E : Encoder Y) (W : Outlet T) (g : Catalog) (l : Limits) (first : S) (device : T) where
+  -- the values that were told so far, all of which the types keep, were handed over one after another
+  abbrev pub Done : S → ℕ → Standing X → Y → T → Type 0
+  Done now values place encoder writer =
+      (given : List (Value × ℕ)) × StoodEach R (telling I []) g l first now place given × (length given ≡ values) × E.has_put encoder (plain given)
+      × Took W.took W.written device writer (E.puts (plain given)) × AreKept (plain given)
+
+  -- one value more was handed over
+  pub done_next : (now : S) (place : Standing X) (given : List (Value × ℕ)) (values : ℕ) (v : Value) (used : ℕ) (encoder : Y) (mid new : T)
+      → length given ≡ values → Took W.took W.written device mid (E.puts (plain given)) → AreKept (plain given)
+      → StoodEach R (telling I []) g l first now place (given ++ (v, used) ∷ [])
+      → TookBehind W mid new (E.puts (plain given)) (E.puts (plain given ++ v ∷ [])) → E.has_put encoder (plain given ++ v ∷ []) → IsKept v
+      → Done now (values + 1) place encoder new
+  done_next now place given values v used encoder mid new count took kept stood wrote put keeps =
+      let all = given ++ (v, used) ∷ [] in
+      let more : plain given ++ v ∷ [] ≡ plain all = sym (plain_next given (Some (v, used)) (Some v) (plain given) refl refl) in (
+        all,
+        stood,
+        length-append given ((v, used) ∷ []) ∙ ap (λ (n : ℕ). n + 1) count,
+        subst (E.has_put encoder) more put,
+        subst (λ (s : List Value). Took W.took W.written device new (E.puts s)) more (took_whole W device mid new _ _ took wrote),
+        subst AreKept more (kept_last (plain given) v kept keeps),
+      )
 
 -- the end, wherever it leaves the document
 module _ {S X T : Type 0} (R : Inlet S) (I : Items X) (W : Outlet T) (E : Encoding) (g : Catalog) (l : Limits) where
   -- where a document is read to its end or refused, the values that were put are its conversion
   pub converted_at : (first now : S) (old new : T) (place : Standing X) (s : List Value) (values : ℕ) → IfOpen place (λ source. ⊥) → length s ≡ values
-      → Stood R I g l first now place s → Took W.took W.written old new (E.document s) →
+      → Stood R (telling I []) g l first now place s → Took W.took W.written old new (E.document s) →
       IsConverted R W E (format_of I g l) first now old new (answered place values)
   converted_at first now old new (TheStanding.Open source) s values closed count h took = absurd closed
   converted_at first now old new TheStanding.Ended s values closed count h took = (s, h, count, took)
@@ -75,7 +124,7 @@ module _ {S X T : Type 0} (R : Inlet S) (I : Items X) (W : Outlet T) (E : Encodi
 
   -- where a document is read to its end or refused, its values are kept, and their document was written
   pub kept_at : (first now : S) (old new : T) (place : Standing X) (s : List Value) (values : ℕ) → IfOpen place (λ source. ⊥) → AreKept s
-      → Stood R I g l first now place s → Took W.took W.written old new (E.document s) →
+      → Stood R (telling I []) g l first now place s → Took W.took W.written old new (E.document s) →
       WritesKept R W E (format_of I g l) first now old new (answered place values)
   kept_at first now old new (TheStanding.Open source) s values closed kept h took = absurd closed
   kept_at first now old new TheStanding.Ended s values closed kept h took = (s, h, kept, took)

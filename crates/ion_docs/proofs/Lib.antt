@@ -5,8 +5,7 @@ pub mod Verdicts
 pub mod Conversions
 pub mod Described
 pub mod Tables
-pub mod Carrying
+pub mod HandedOver
 pub mod Headline
 pub mod Told
 pub mod Converses
-pub mod TakenUp

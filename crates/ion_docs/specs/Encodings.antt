@@ -6,6 +6,7 @@ use Rattle.ion_symtab.specs.declared.fault.Fault.TheVariants.{Memory, Read, Writ
 use Rattle.ion_symtab.specs.declared.limits.Limits.{Limits}
 use Rattle.ion_symtab.specs.declared.outlet.Outlet.{Ghosts as Outlet}
 use Rattle.ion_symtab.specs.Took.{Took, TookFront}
+use Rattle.ion_visiting.specs.Events.{Event, Led, events_of}
 use Rattle.ion_binary.specs.Output.{bin_of, nothing_yet, FitsIn as FitsInBinary}
 use Rattle.ion_binary.specs.writer.Puts.{behind}
 use Rattle.ion_binary.specs.Writing.{NeedsLargeId}
@@ -38,6 +39,12 @@ text_encoding = record { document = text_of; admits = FitsInText; needs_large_id
 abbrev pub encoding_of : Target → Encoding
 encoding_of Binary = binary_encoding
 encoding_of Text = text_encoding
+
+-- behind the values that were put, a writer was told this one
+pub record WasTold {X : Type 0} (has_put : X → List Value → Type 0) (takes : X → Event → X → Type 0) (s : List Value) (v : Value) (now : X) : Type 0 where
+  pub before : X
+  pub put : has_put before s
+  pub told : Led takes (events_of v) before now
 
 -- a front of octets
 abbrev pub IsFrontOf : List ℕ → List ℕ → Type 0

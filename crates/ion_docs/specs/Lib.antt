@@ -1,6 +1,5 @@
 pub mod Documents
 pub mod Formats
-pub mod Carried
 pub mod Paths
 pub mod Headline
 pub mod Encodings

@@ -7,9 +7,8 @@ ghost use Rattle.ion_streams.specs.reading.Read.{IsFresh};
 ghost use Rattle.ion_docs.specs.Conversion.{WritesKept};
 ghost use Rattle.ion_docs.specs.Converted.{IsConverted, ReadSoFar, ConvertsSoFar, IsConvertCause};
 
-use crate::carriers::{Building, By, Carrier};
 use crate::writers::Encoder;
-use ion_model::{Refusal, Value};
+use ion_model::Refusal;
 use ion_streams::{Source, Standing};
 use ion_symtab::{Fault, Inlet, Items, Outlet};
 use std::alloc::Global;
@@ -53,66 +52,14 @@ pub fn convert_items<E: Encoder + Drop, I: Items + Drop, R: Inlet, W: Outlet>(
         (ReadSoFar R.Inlet I.Items (I.catalog items) (I.limits items) reader.old reader.new)
         (W.has_failed writer.new) fault) }
 {
-    convert_by::<Building, E, I, R, W>(alloc, encoder, items, reads, reader, writer)
-}
-
-/// The same, where `C` carries values.
-pub(crate) fn convert_by<C: Carrier<I, E>, E: Encoder + Drop, I: Items + Drop, R: Inlet, W: Outlet>(
-    alloc: Global,
-    encoder: E,
-    items: I,
-    reads: u64,
-    reader: &mut R,
-    writer: &mut W,
-) -> Result<Result<u64, Refusal>, Fault>
-    requires begins { E.has_put encoder [] }
-    requires fresh { IsFresh I.Items items }
-    requires reads { reads ≤ 2 ^ 32 }
-    ensures converted { IfOk result (IsConverted R.Inlet W.Outlet E.encoding
-        (format_of I.Items (I.catalog items) (I.limits items))
-        reader.old reader.new writer.old writer.new) }
-    ensures kept { IfOk result (WritesKept R.Inlet W.Outlet E.encoding
-        (format_of I.Items (I.catalog items) (I.limits items))
-        reader.old reader.new writer.old writer.new) }
-    ensures passed_on { OnOk result (W.passed writer.new ≡ W.written writer.new) }
-    ensures no_write_failed { OnOk result (W.has_failed writer.new ≡ false) }
-    ensures one_end { AtOneEnd R.Inlet reader.old reader.new }
-    ensures few_calls { R.calls_made reader.new ≤ R.calls_made reader.old + reads }
-    ensures few_octets { length (R.handed reader.new) ≤ length (R.handed reader.old) + 4096 *
-        reads }
-    ensures no_read_failed { OnOk result (R.has_failed reader.new ≡ false) }
-    ensures so_far { OnErr result (ConvertsSoFar E.encoding
-        (ReadSoFar R.Inlet I.Items (I.catalog items) (I.limits items) reader.old reader.new)
-        W.Outlet writer.old writer.new) }
-    ensures cause { IfErr result (λ fault.
-        IsReadCause R.Inlet reads reader.old reader.new fault ⊎ IsConvertCause E.encoding
-        (ReadSoFar R.Inlet I.Items (I.catalog items) (I.limits items) reader.old reader.new)
-        (W.has_failed writer.new) fault) }
-{
     let source = Source::new(alloc, items, reads)?;
     let mut place = Standing::Open(source);
     let mut encoder = encoder;
     let mut values: u64 = 0;
-    loop {
-        place.gather(reader)?;
-        match place.carry::<By<C>, E, W>(&mut encoder, writer) {
-            None => {}
-            Some(Err(fault)) => return Err(fault),
-            Some(Ok(())) => {
-                values += 1;
-                continue;
-            }
-        }
-        match place.advance::<Value, R>(reader)? {
-            None => break,
-            Some((value, _)) => {
-                let put = encoder.put(writer, &value);
-                drop(value);
-                put?;
-                values += 1;
-            }
-        }
+    while let Some(_) = place.advance_by::<E, R>(reader, &mut encoder)? {
+        encoder.hand_over(writer)?;
+        values += 1;
     }
-    encoder.finish(writer)?;
+    E::finish(writer, values)?;
     Ok(place.answer(values))
 }

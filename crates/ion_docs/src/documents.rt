@@ -11,15 +11,13 @@ ghost use Rattle.ion_docs.specs.Conversion.{KeepsStream};
 ghost use Rattle.ion_docs.specs.Converted.{IsConverted, ReadSoFar, ConvertsSoFar, IsConvertCause};
 ghost use Rattle.ion_streams.specs.Listing.{IsShown, IsWriteCause, ShowsSoFar};
 
-use crate::alongside::SideBySide;
-use crate::carriers::Transcribing;
-use crate::conversion::convert_by;
+use crate::conversion::convert_items;
 use crate::doc_reader::DocReader;
-use ion_binary::BinaryWriter;
+use ion_binary::BinaryOut;
 use ion_model::Refusal;
-use ion_streams::{Verdict, check_items, compare_by, show_items};
+use ion_streams::{Verdict, check_items, compare_items, show_items};
 use ion_symtab::{Catalog, Fault, Inlet, Items, Limits, Outlet, Target};
-use ion_text::TextWriter;
+use ion_text::TextOut;
 use std::alloc::Global;
 use std::hash::{BuildHasher, BuildHasherDefault, FoldHasher};
 
@@ -161,11 +159,11 @@ pub fn convert_with_hasher<H: BuildHasher + Drop, R: Inlet, W: Outlet>(
         (ReadSoFar R.Inlet ⟦<DocReader<'static> as Items>⟧ catalog.now limits reader.old reader.new)
         (W.has_failed writer.new) fault) }
 {
-    let items = DocReader::carrying(alloc, catalog, limits);
+    let items = DocReader::unread(alloc, catalog, limits);
     let reads = limits.reads();
     match target {
-        Target::Binary => match BinaryWriter::with_hasher(alloc, hasher) {
-            Ok(encoder) => convert_by::<Transcribing, BinaryWriter<H>, DocReader<'_>, R, W>(
+        Target::Binary => match BinaryOut::with_hasher(alloc, hasher) {
+            Ok(encoder) => convert_items::<BinaryOut<H>, DocReader<'_>, R, W>(
                 alloc, encoder, items, reads, reader, writer,
             ),
             Err(fault) => {
@@ -176,8 +174,8 @@ pub fn convert_with_hasher<H: BuildHasher + Drop, R: Inlet, W: Outlet>(
         },
         Target::Text => {
             drop(hasher);
-            let encoder = TextWriter::new(alloc);
-            convert_by::<Transcribing, TextWriter, DocReader<'_>, R, W>(
+            let encoder = TextOut::new(alloc);
+            convert_items::<TextOut, DocReader<'_>, R, W>(
                 alloc, encoder, items, reads, reader, writer,
             )
         }
@@ -222,15 +220,7 @@ pub fn compare<L: Inlet, R: Inlet>(
         IsReadCause L.Inlet limits.reads left.old left.new fault
         ⊎ IsReadCause R.Inlet limits.reads right.old right.new fault) }
 {
-    let left_items = DocReader::carrying(alloc, catalog, limits);
-    let right_items = DocReader::carrying(alloc, catalog, limits);
-    let reads = limits.reads();
-    compare_by::<SideBySide, DocReader<'_>, DocReader<'_>, L, R>(
-        alloc,
-        reads,
-        left_items,
-        left,
-        right_items,
-        right,
-    )
+    let left_items = DocReader::unread(alloc, catalog, limits);
+    let right_items = DocReader::unread(alloc, catalog, limits);
+    compare_items(alloc, limits.reads(), left_items, left, right_items, right)
 }

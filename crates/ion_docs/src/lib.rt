@@ -3,8 +3,6 @@
 #![tactic(auto)]
 
 mod all_values;
-mod alongside;
-mod carriers;
 mod catalogs;
 mod conversion;
 mod doc_reader;

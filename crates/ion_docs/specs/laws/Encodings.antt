@@ -1,17 +1,13 @@
 -- How the documents of both encodings grow value by value.
-use Rattle.std.proofs.Common.{◌≡◌, Bool, List, [], ◌∷◌, ◌++◌, ap, sym, subst, ◌∙◌, append-nil}
+use Rattle.std.proofs.Common.{◌≡◌, List, [], ◌∷◌, ◌++◌, ap, sym, ◌∙◌, append-nil}
 use Rattle.std.proofs.lemmas.List.{flat_map_more}
 use Rattle.ion_model.specs.declared.value.Value.{Value}
-use Rattle.ion_symtab.specs.declared.fault.Fault.{Fault}
-use Rattle.ion_symtab.specs.declared.fault.Fault.TheVariants.{Memory, Read, Write, TooManyReads, TooLarge, Open}
 use Rattle.ion_binary.specs.Output.{Progress, opening, bin_of, nothing_yet}
 use Rattle.ion_binary.specs.Output as binary
 use Rattle.ion_binary.specs.writer.Puts.{puts, behind, bin_puts, puts_more, behind_more}
-use Rattle.ion_binary.specs.Writing as binary_writing
 use Rattle.ion_text.specs.Output.{text_of}
 use Rattle.ion_text.specs.Output as text
-use Rattle.ion_text.specs.Writing as text_writing
-use Rattle.ion_docs.specs.Encodings.{IsFrontOf, IsPuttingFault, binary_encoding, text_encoding}
+use Rattle.ion_docs.specs.Encodings.{IsFrontOf}
 
 -- what the values add, and the end, are the document
 pub binary_ends : (s : List Value) → puts nothing_yet s ++ opening (behind nothing_yet s).begun ≡ bin_of s
@@ -30,16 +26,6 @@ puts_one p s v = ap (λ w. puts p s ++ w) (sym (append-nil (binary.adds (behind 
 pub behind_one : (p : Progress) (s : List Value) (v : Value) → binary.after (behind p s) v ≡ behind p (s ++ v ∷ [])
 behind_one p s v = sym (behind_more p s (v ∷ []))
 
--- what keeps a value from being put behind others keeps all of them
-pub binary_fault : (s : List Value) (v : Value) (failed : Bool) (fault : Fault)
-    → binary_writing.IsWritingFault (binary.names_after (behind nothing_yet s).names v) failed fault → IsPuttingFault binary_encoding (s ++ v ∷ []) failed fault
-binary_fault s v failed Memory h = tt
-binary_fault s v failed Write h = h
-binary_fault s v failed TooLarge h = subst (λ (p : Progress). binary_writing.NeedsLargeId p.names) (behind_one nothing_yet s v) h
-binary_fault s v failed Read h = absurd h
-binary_fault s v failed TooManyReads h = absurd h
-binary_fault s v failed Open h = absurd h
-
 -- text adds nothing at its end
 pub text_fronts : (s : List Value) → IsFrontOf (text_of s) (text_of s)
 text_fronts s = ([], append-nil (text_of s))
@@ -47,12 +33,3 @@ text_fronts s = ([], append-nil (text_of s))
 -- the text of a stream and a value's line are the text of the stream with that value
 pub text_one : (s : List Value) (v : Value) → text_of s ++ text.adds v ≡ text_of (s ++ v ∷ [])
 text_one s v = flat_map_more text.adds [] s v
-
--- why a text writer writes no value is why an encoder puts none
-pub text_fault : (s : List Value) (failed : Bool) (fault : Fault) → text_writing.IsWritingFault failed fault → IsPuttingFault text_encoding s failed fault
-text_fault s failed Memory h = tt
-text_fault s failed Write h = h
-text_fault s failed TooLarge h = absurd h
-text_fault s failed Read h = absurd h
-text_fault s failed TooManyReads h = absurd h
-text_fault s failed Open h = absurd h

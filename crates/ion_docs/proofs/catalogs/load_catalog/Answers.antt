@@ -3,6 +3,6 @@ use Rattle.ion_docs.proofs.catalogs.load_catalog.Goals as goal
 
 pub returns-clause-loaded : goal.returns-clause-loaded
 returns-clause-loaded g c =
-    let under : c.in_ok-items.items.catalog.now ≡ [] = search rules in
-    let within : c.in_ok-items.items.limits ≡ c.args.limits = search rules in
+    let under : c.in_ok-items.items.walk.catalog.now ≡ [] = search rules in
+    let within : c.in_ok-items.items.walk.limits ≡ c.args.limits = search rules in
     rw (under, within) at c.load_items.ensures.loaded

@@ -3,6 +3,6 @@ use Rattle.ion_docs.proofs.documents.check.Goals as goal
 
 pub returns-clause-verdict : goal.returns-clause-verdict
 returns-clause-verdict g c =
-    let under : c.in_ok-items.items.catalog.now ≡ c.args.catalog.now = search rules in
-    let within : c.in_ok-items.items.limits ≡ c.args.limits = search rules in
+    let under : c.in_ok-items.items.walk.catalog.now ≡ c.args.catalog.now = search rules in
+    let within : c.in_ok-items.items.walk.limits ≡ c.args.limits = search rules in
     rw (← under, ← within) c.check_items.ensures.verdict

@@ -3,6 +3,6 @@ use Rattle.ion_docs.proofs.documents.show.Goals as goal
 
 pub returns-clause-shown : goal.returns-clause-shown
 returns-clause-shown g c =
-    let under : c.in_ok-items.items.catalog.now ≡ c.args.catalog.now = search rules in
-    let within : c.in_ok-items.items.limits ≡ c.args.limits = search rules in
+    let under : c.in_ok-items.items.walk.catalog.now ≡ c.args.catalog.now = search rules in
+    let within : c.in_ok-items.items.walk.limits ≡ c.args.limits = search rules in
     rw (← under, ← within) c.show_items.ensures.shown

@@ -1,8 +1,8 @@
 use Rattle.std.proofs.Common.{◌+◌, ◌*◌, ◌≤◌, ◌^◌, length}
 use Rattle.ion_streams.specs.reading.Standing.{work_of, reads_of}
 use Rattle.ion_streams.proofs.Driven.{Driven}
-use Rattle.ion_docs.proofs.Carrying.{Done}
-use Rattle.ion_docs.proofs.conversion.convert_by.Given as goal
+use Rattle.ion_docs.proofs.Conversions.{Done}
+use Rattle.ion_docs.proofs.conversion.convert_items.Given as goal
 
 abbrev pub invariant-loop-encoder : goal.invariant-loop-encoder
 invariant-loop-encoder g l = record {

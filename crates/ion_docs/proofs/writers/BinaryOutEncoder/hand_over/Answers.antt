@@ -1,0 +1,51 @@
+use Rattle.std.proofs.Common.{rules, ◌≡◌, List, ℕ, true, subst, ◌∙◌}
+use Rattle.std.specs.Prelude.{MatchBool, ◌≤◌, suc, length}
+use Rattle.ion_symtab.specs.Slots.{greatest_id}
+use Rattle.ion_symtab.specs.Took.{Took, TookFront}
+use Rattle.ion_binary.specs.Output.{nothing_yet, adds}
+use Rattle.ion_binary.specs.Writing.{NeedsLargeId}
+use Rattle.ion_binary.specs.writer.Puts.{behind}
+use Rattle.ion_streams.proofs.Steps.{on_err}
+use Rattle.ion_docs.specs.laws.Encodings.{puts_one}
+use Rattle.ion_docs.proofs.HandedOver.{took_none, binary_kept, binary_large, binary_ended}
+use Rattle.ion_docs.proofs.writers.BinaryOutEncoder.hand_over.Goals as goal
+
+pub returns-then-needs_large_id-clause-front : goal.returns-then-needs_large_id-clause-front
+returns-then-needs_large_id-clause-front g c = λ s v h. took_none g.W.Outlet c.args.out.now _ _ _ (puts_one nothing_yet s v)
+
+pub returns-then-needs_large_id-clause-cause : goal.returns-then-needs_large_id-clause-cause
+returns-then-needs_large_id-clause-cause g c = λ s v h.
+    let names = c.args.self.now.names in
+    binary_large s v c.args.self.now h
+    (subst (λ b. MatchBool b (NeedsLargeId names) (length names ≤ suc greatest_id)) c.if-needs_large_id.true c.needs_large_id.ensures)
+
+pub returns-then-not-ended-clause-front : goal.returns-then-not-ended-clause-front
+returns-then-not-ended-clause-front g c = λ s v h. took_none g.W.Outlet c.args.out.now _ _ _ (puts_one nothing_yet s v)
+
+pub returns-in_err-write_whole-clause-front : goal.returns-in_err-write_whole-clause-front
+returns-in_err-write_whole-clause-front g c =
+    let done : c.ended.result ≡ true = search rules in
+    on_err c.from_residual.result _ (λ s v h. (
+      adds (behind nothing_yet s) v,
+      puts_one nothing_yet s v,
+      subst (λ (w : List ℕ). TookFront g.W.Outlet.took g.W.Outlet.written c.args.out.now c.write_whole.new.writer w)
+          (c.octets.ensures ∙ (binary_ended s v c.args.self.now h c.ended.new.self (c.ended.ensures done)).0) c.in_err-write_whole.ensures.front,
+    ))
+
+pub returns-clause-wrote : goal.returns-clause-wrote
+returns-clause-wrote g c =
+    let done : c.ended.result ≡ true = search rules in
+    λ s v h. (
+      adds (behind nothing_yet s) v,
+      puts_one nothing_yet s v,
+      subst (λ (w : List ℕ). Took g.W.Outlet.took g.W.Outlet.written c.args.out.now c.write_whole.new.writer w)
+          (c.octets.ensures ∙ (binary_ended s v c.args.self.now h c.ended.new.self (c.ended.ensures done)).0) c.in_ok-write_whole.ensures.whole,
+    )
+
+pub returns-clause-put : goal.returns-clause-put
+returns-clause-put g c =
+    let done : c.ended.result ≡ true = search rules in
+    λ s v h. c.forget_octets.ensures ∙ (binary_ended s v c.args.self.now h c.ended.new.self (c.ended.ensures done)).1
+
+pub returns-clause-kept : goal.returns-clause-kept
+returns-clause-kept g c = λ s v h. binary_kept s v c.args.self.now h
