@@ -1,11 +1,11 @@
 //! Values written as binary values as they are told, beside what `BinaryWriter` writes of them. What
 //! is owned is let go by a call of `drop`: on each way out it would be let go part by part.
 use crate::answers::same;
-use ion_binary::{BinaryOut, BinaryWriter};
+use ion_binary::{BinaryOut, BinaryWriter, finish_document};
 use ion_devices::{FrailWriter, NEVER};
 use ion_docs::read_all;
 use ion_model::{Reason, Value};
-use ion_symtab::{Catalog, Fault, Limits, ToWrite};
+use ion_symtab::{Catalog, Fault, Limits, ToWrite, write_whole};
 use ion_visiting::{Bracket, Part, Visitor, tell};
 use std::alloc::Global;
 use std::test::Fail;
@@ -46,16 +46,32 @@ fn tell_all(values: &[Value], out: &mut BinaryOut) -> bool {
             return false;
         }
     }
-    out.end()
+    true
+}
+
+/// Hands over what was told, and what a document of no values has.
+fn hand_over(out: &BinaryOut, begun: bool, taken: &mut Vec<u8>) -> Result<(), Fault> {
+    let mut device = ToWrite::new(FrailWriter {
+        taken,
+        calls: 0,
+        fails_at: NEVER,
+        takes: 4096,
+    });
+    write_whole(&mut device, out.octets())?;
+    finish_document(&mut device, begun)
 }
 
 /// Whether values are written, told, as they are put.
 fn are_written(alloc: Global, values: &[Value]) -> Result<bool, Fault> {
     let mut taken = Vec::new(alloc);
     put_all(alloc, values, &mut taken)?;
+    let mut told = Vec::new(alloc);
     let mut out = BinaryOut::new(alloc)?;
-    let found = tell_all(values, &mut out) && out.octets() == taken.as_slice();
+    let all = tell_all(values, &mut out);
+    hand_over(&out, !values.is_empty(), &mut told)?;
     drop(out);
+    let found = all && told.as_slice() == taken.as_slice();
+    drop(told);
     drop(taken);
     Ok(found)
 }

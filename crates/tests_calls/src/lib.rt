@@ -5,19 +5,17 @@
 #![tactic(auto)]
 
 #[cfg(test)]
-mod alike;
-#[cfg(test)]
-mod alike_texts;
-#[cfg(test)]
 mod answers;
 #[cfg(test)]
 mod binary_out;
 #[cfg(test)]
+mod comparisons;
+#[cfg(test)]
+mod conversions;
+#[cfg(test)]
 mod errors;
 #[cfg(test)]
 mod faults;
-#[cfg(test)]
-mod glances;
 mod held;
 #[cfg(test)]
 mod lines;
@@ -25,10 +23,6 @@ mod lines;
 mod memory;
 #[cfg(test)]
 mod readers;
-#[cfg(test)]
-mod reordered;
-#[cfg(test)]
-mod reordered_texts;
 #[cfg(test)]
 mod shelves;
 #[cfg(test)]
