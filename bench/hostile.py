@@ -197,14 +197,19 @@ def backward_names(count):
     return many_names(count, True)
 
 
+def small_ints(count, last=b"\x20"):
+    """One binary list of ints of one octet, of which a comparison writes down each; the last may tell two of them apart."""
+    return MARKER + framed(0xB0, b"\x20" * (count - 1) + last)
+
+
 def two_lines(count, last=1):
     """Values whose first lines are the same; the last octets may tell them apart."""
     value = b"[\n" + b"abc," * 200 + b"%d]\n" % last
     return value * (count * 10 // len(value))
 
 
-def longer_than_joined(octets):
-    """Values somewhat longer than the pieces that are joined, so that each is looked over and gone over in vain."""
+def of_many_pieces(octets):
+    """Values of many pieces."""
     value = b"[" + b"abc," * 17000 + b"1]\n"
     return value * (octets // len(value))
 
@@ -340,8 +345,11 @@ CASES = [
     ("many names, compared", "compare A B", [many_names, many_names], MILLION, LARGE),
     ("many names, the other way round", "compare A B", [many_names, backward_names], MILLION, LARGE),
     ("texts that part in the last octets of each value", "compare A B", [two_lines, lambda count: two_lines(count, 2)], MILLION, LARGE),
-    ("values longer than what is joined", "check A", [longer_than_joined], 10 * MILLION, SMALL),
-    ("values longer than what is joined, compared", "compare A B", [longer_than_joined] * 2, 10 * MILLION, SMALL),
+    ("values of many pieces", "check A", [of_many_pieces], 10 * MILLION, SMALL),
+    ("values of many pieces, compared", "compare A B", [of_many_pieces] * 2, 10 * MILLION, SMALL),
+    ("small ints, compared", "compare A B", [small_ints, small_ints], 4 * MILLION, LARGE),
+    ("small ints, the last of which differ, compared", "compare A B", [small_ints, lambda count: small_ints(count, b"\x11")], 4 * MILLION,
+     LARGE),
     ("texts that are cut again and again", "check A", [texts_cut_again], 10 * MILLION, SMALL),
     ("equal texts that end in what isn't passed over", "compare A B", [ending_in_an_id, ending_in_an_id], MILLION, LARGE),
     ("small equal texts on one line", "compare A B", [empty_lists, empty_lists], MILLION, LARGE),

@@ -56,6 +56,7 @@ TASKS = {
     "List the values of a document": "show ToWrite Outlet",
     "Tell the line and column of a refusal": "position_of Position",
     "Read values one by one": "values Values Each Stop read_all read_document DocReader",
+    "Tell a document to a visitor": "visit",
     "Ask a value for what it holds": """Value Payload Kind Field Sequence Symbol Text Bytes Whole Timestamp Local Precision Outline
         spelling_of SymbolText symbol_text""",
     "Add decimals": "Decimal",

@@ -4,13 +4,14 @@
 #![tactic(auto)]
 
 mod documents;
+pub mod visiting;
 
 pub use documents::values;
 pub use ion_binary::BinaryWriter;
 pub use ion_docs::{
     DocReader, InMemory, PathText, Side, Target, Verdict, check, compare, convert,
     convert_with_hasher, in_memory, laws, load_catalog, path_text, read_all, read_document, show,
-    spelling_of_path,
+    spelling_of_path, visit,
 };
 pub use ion_lines::{Position, position_of};
 pub use ion_model::{

@@ -1,6 +1,5 @@
 -- What a device took of a document, one value after another, and where a conversion stands.
 use Rattle.std.proofs.Common.{◌≡◌, ℕ, ◌+◌, List, [], ◌∷◌, ◌++◌, length, Option, None, Some, Bool, refl, ap, sym, subst, ◌∙◌, length-append}
-use Rattle.std.proofs.lemmas.Option.{same_Some}
 use Rattle.ion_model.specs.declared.value.Value.{Value}
 use Rattle.ion_model.specs.Kept.{AreKept, IsKept}
 use Rattle.ion_model.specs.laws.Kept.{kept_last}
@@ -63,15 +62,6 @@ put_cause E WasRead failed s TooManyReads r h = absurd h
 put_cause E WasRead failed s Open r h = absurd h
 
 module _ {S X Y : Type 0} (takes : Y → Event → Y → Type 0) (R : Inlet S) (I : Items X) (g : Catalog) (l : Limits) (first now : S) where
-  -- one value more was told
-  pub told_some : (place : Standing X) (given : List (Value × ℕ)) (found : Option ℕ) (used : ℕ) (a b : Y) → found ≡ Some used
-      → ToldNext takes I R g l first now place given found a b
-      → (v : Value) × Led takes (events_of v) a b × StoodEach R (telling I []) g l first now place (given ++ (v, used) ∷ [])
-  told_some place given None used a b is h = absurd cc
-  told_some place given (Some total) used a b is h =
-      let same : total ≡ used = same_Some _ _ is in
-      (h.0, h.1, subst (λ (n : ℕ). StoodEach R (telling I []) g l first now place (given ++ (h.0, n) ∷ [])) same h.2)
-
   -- the values without their totals
   pub stood_more : (place : Standing X) (given : List (Value × ℕ)) (v : Value) (used : ℕ)
       → StoodEach R (telling I []) g l first now place (given ++ (v, used) ∷ [])

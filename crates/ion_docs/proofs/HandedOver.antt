@@ -22,10 +22,6 @@ use Rattle.ion_text.proofs.TextTold as text_told
 use Rattle.ion_docs.specs.Encodings.{Encoding, IsPuttingFault, TookSomeBehind, WasTold}
 use Rattle.ion_docs.specs.laws.Encodings.{behind_one}
 
--- a device that failed
-pub write_fault : (E : Encoding) (s : List Value) (failed : Bool) (fault : Fault) → (fault ≡ Write) × (failed ≡ true) → IsPuttingFault E s failed fault
-write_fault E s failed fault h = subst (IsPuttingFault E s failed) (sym h.0) h.1
-
 -- of what a value adds, a device that wasn't written to took nothing
 pub took_none : {T : Type 0} (W : Outlet T) (out : T) (front added octets : List ℕ) → front ++ added ≡ octets → TookSomeBehind W out out front octets
 took_none W out front added octets e = (added, e, Front-none W.took W.written out added)

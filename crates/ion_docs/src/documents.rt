@@ -3,7 +3,7 @@ ghost use Rattle.std.specs.Prelude.{◌≡◌, ◌+◌, ◌*◌, ◌≤◌, ◌�
 ghost use Rattle.ion_symtab.specs.Cause.{IsReadCause};
 ghost use Rattle.ion_docs.specs.Encodings.{encoding_of};
 ghost use Rattle.ion_docs.specs.Formats.{documents};
-ghost use Rattle.ion_streams.specs.Checked.{IsChecked};
+ghost use Rattle.ion_streams.specs.Checked.{IsChecked, IsVisited};
 ghost use Rattle.ion_streams.specs.Compared.{IsCompared};
 ghost use Rattle.ion_streams.specs.InTurn.{IsInTurn};
 ghost use Rattle.ion_streams.specs.Outcomes.{AtOneEnd};
@@ -15,9 +15,10 @@ use crate::conversion::convert_items;
 use crate::doc_reader::DocReader;
 use ion_binary::BinaryOut;
 use ion_model::Refusal;
-use ion_streams::{Verdict, check_items, compare_items, show_items};
+use ion_streams::{Verdict, compare_items, show_items, visit_items};
 use ion_symtab::{Catalog, Fault, Inlet, Items, Limits, Outlet, Target};
 use ion_text::TextOut;
+use ion_visiting::{Count, Visitor};
 use std::alloc::Global;
 use std::hash::{BuildHasher, BuildHasherDefault, FoldHasher};
 
@@ -45,8 +46,34 @@ pub fn check<R: Inlet>(
     ensures no_read_failed { OnOk result (R.has_failed reader.new ≡ false) }
     ensures cause { IfErr result (IsReadCause R.Inlet limits.reads reader.old reader.new) }
 {
+    visit(alloc, reader, catalog, limits, &mut Count::new())
+}
+
+/// Tells a visitor the values of a document (Ion 1.0, "The Ion Data Model"), event by event and
+/// behind each that it ended: the whole stream, where the octets of `reader` are a document. No
+/// value is built, so that a document of any length takes little memory.
+///
+/// The answer and the faults are those of `check`; `Memory` also where the visitor answered
+/// `false`. On a refusal and at a fault the visitor was told the front of some values, and its
+/// state means nothing.
+pub fn visit<R: Inlet, V: Visitor>(
+    alloc: Global,
+    reader: &mut R,
+    catalog: &Catalog,
+    limits: Limits,
+    visitor: &mut V,
+) -> Result<Result<u64, Refusal>, Fault>
+    ensures verdict { IfOk result (IsVisited V.takes R.Inlet (documents catalog.now limits)
+        reader.old reader.new visitor.old visitor.new) }
+    ensures one_end { AtOneEnd R.Inlet reader.old reader.new }
+    ensures few_calls { R.calls_made reader.new ≤ R.calls_made reader.old + limits.reads }
+    ensures few_octets { length (R.handed reader.new)
+        ≤ length (R.handed reader.old) + 4096 * limits.reads }
+    ensures no_read_failed { OnOk result (R.has_failed reader.new ≡ false) }
+    ensures cause { IfErr result (IsReadCause R.Inlet limits.reads reader.old reader.new) }
+{
     let items = DocReader::new(alloc, catalog, limits).map_err(|_| Fault::Memory)?;
-    check_items(alloc, items, limits.reads(), reader)
+    visit_items(alloc, items, limits.reads(), reader, visitor)
 }
 
 /// Writes a line for each value of a document, `INDEX KIND depth DEPTH nodes NODES`, and behind

@@ -17,9 +17,10 @@ pub use all_values::{read_all, read_document};
 pub use catalogs::load_catalog;
 pub use conversion::convert_items;
 pub use doc_reader::DocReader;
-pub use documents::{check, compare, convert, convert_with_hasher, show};
+pub use documents::{check, compare, convert, convert_with_hasher, show, visit};
 pub use ion_streams::{
     Side, Verdict, check_items, compare_items, load_items, read_items, read_octets, show_items,
+    visit_items,
 };
 pub use ion_symtab::Target;
 pub use memory::{InMemory, in_memory};

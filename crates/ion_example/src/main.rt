@@ -1,15 +1,16 @@
-//! The library in use: two documents compared, the numbers of one summed, one built and written in
-//! either encoding, and one that needs shared symbol tables. `ion_example FIELD FILE` sums the numbers
-//! in a field of the values of a file.
+//! The library in use: two documents compared, the numbers of one summed, its strings counted by a
+//! visitor, one built and written in either encoding, and one that needs shared symbol tables.
+//! `ion_example FIELD FILE` sums the numbers in a field of the values of a file.
 #![tactic(auto)]
 
 mod building;
 mod catalogs;
 mod comparing;
+mod counting;
 mod summing;
 
 use anyhow::{Context, Result, bail};
-use ion::Target;
+use ion::{Catalog, FromRead, Limits, Target};
 use std::env;
 use std::fs::File;
 
@@ -20,6 +21,8 @@ const RIGHT: &[u8] = b"{tags: [1, 3], name: \"a\"}";
 const CUT: &[u8] = b"{name:";
 
 const ORDERS: &[u8] = b"{item: nails, price: 12.50} {item: glue, price: 3} {item: none}";
+
+const STRINGS: &[u8] = b"{name: \"a\", tags: [b, \"c\", '''d''' '''e''']}";
 
 const TABLES: &[u8] =
     b"$ion_shared_symbol_table::{name: \"shop\", version: 1, symbols: [\"nails\"]}";
@@ -45,6 +48,12 @@ fn shown(rt: &HostRuntime) -> Result<()> {
     }
     let sum = summing::sum_of(alloc, ORDERS, "price")?;
     println!(rt; "{sum} in all")?;
+    let catalog = Catalog::new(alloc);
+    let strings =
+        counting::strings_in(alloc, &mut FromRead::new(STRINGS), &catalog, Limits::usual());
+    drop(catalog); // before the `?`, as in `comparing.rt`
+    let strings = strings??;
+    println!(rt; "{strings} strings")?;
     let text = building::spelled(alloc)?;
     println!(rt; "{text}")?;
     for target in [Target::Text, Target::Binary] {

@@ -33,14 +33,6 @@ pub record Meets {X Y : Type 0} (course : Course) (left : Standing X) (right : S
   pub onward : (s' t' : List Value) → IfClosed left (s' ≡ []) → IfClosed right (t' ≡ []) → Onward course (s ++ s') (t ++ t') s' t'
   pub counted : IfAlike course (λ values. (length s ≡ values) × (length t ≡ values))
 
-map_none : (p : Option ℕ) → p ≡ option_map (λ n. n + 0) p
-map_none None = refl
-map_none (Some k) = ap Some (omega arith)
-
--- before any value two streams are alike so far
-pub meets_begun : {X Y : Type 0} (left : Standing X) (right : Standing Y) → Meets (Alike 0) left right [] []
-meets_begun left right = record { onward = λ s t h k. map_none (parts s t); counted = (refl, refl) }
-
 map_more : (n : ℕ) (p : Option ℕ) → option_map (λ k. k + n) (option_map (λ k. k + 1) p) ≡ option_map (λ k. k + (n + 1)) p
 map_more n None = refl
 map_more n (Some k) = ap Some (omega arith)

@@ -1,16 +1,21 @@
--- A document that is read value by value to its end.
-use Rattle.std.proofs.Common.{◌≡◌, ℕ, List, length, false, inr, ◌∙◌}
+-- A document that is read value by value to its end, and what a visitor hears of it.
+use Rattle.std.proofs.Common.{◌≡◌, ℕ, List, [], ◌∷◌, ◌++◌, length, false, Option, Some, None, Result, Ok, Err, inr, append-nil, ap, sym, subst, ◌∙◌}
 use Rattle.ion_model.specs.declared.value.Value.{Value}
+use Rattle.ion_atoms.specs.declared.refusal.Refusal.{Refusal}
 use Rattle.ion_symtab.specs.declared.inlet.Inlet.{Ghosts as Inlet}
 use Rattle.ion_symtab.specs.declared.items.Items.{Ghosts as Items}
 use Rattle.ion_streams.specs.reading.Read.{IsReady, IsWithin, NoneFailed, NoReadFailed}
 use Rattle.ion_streams.specs.reading.Standing.{IfOpen, StoodEach, answered}
-use Rattle.ion_streams.specs.Checked.{IsChecked}
-use Rattle.ion_streams.specs.Formats.{format_of}
+use Rattle.ion_visiting.specs.Events.{Event, Led, ended, events_of, stream_events}
+use Rattle.ion_visiting.specs.laws.Led.{led_both, led_more}
+use Rattle.ion_streams.specs.Checked.{IsChecked, IsVisited}
+use Rattle.ion_streams.specs.Formats.{Format, format_of}
+use Rattle.ion_streams.specs.reading.Telling.{telling, ToldNext}
 use Rattle.ion_symtab.specs.Trace.{plain}
 use Rattle.ion_symtab.specs.declared.catalog.Catalog.{Catalog}
 use Rattle.ion_symtab.specs.declared.limits.Limits.{Limits}
-use Rattle.std.proofs.lemmas.List.{length-map}
+use Rattle.std.proofs.lemmas.Grind.{flat_map-append}
+use Rattle.std.proofs.lemmas.List.{length-map, map-append}
 use Rattle.ion_streams.specs.declared.source.Source.{Source}
 use Rattle.ion_streams.specs.declared.source.Standing.{Standing}
 use Rattle.ion_streams.specs.declared.source.Standing.TheVariants.{Open, Ended, Refused}
@@ -43,10 +48,30 @@ module _ {S X : Type 0} (R : Inlet S) (I : Items X) where
         within = within first reads d.within;
       }
 
+module _ {V : Type 0} (takes : V → Event → V → Type 0) where
+  -- a visitor that has heard these values heard one more, and that it ended
+  pub heard_more : (given : List (Value × ℕ)) (v : Value) (used : ℕ) (a m n b : V) → Led takes (stream_events (plain given)) a m
+      → Led takes (events_of v) m n → takes n ended b → Led takes (stream_events (plain (given ++ (v, used) ∷ []))) a b
+  heard_more given v used a m n b before value end =
+      let one = led_more takes (events_of v) ended m n b value end in
+      let all = led_both takes (stream_events (plain given)) (events_of v ++ ended ∷ []) a m b before one in
+      let values : stream_events (plain (given ++ (v, used) ∷ [])) ≡ stream_events (plain given) ++ (events_of v ++ ended ∷ []) =
+          ap stream_events (map-append (λ (x : Value × ℕ). x.0) given ((v, used) ∷ []))
+          ∙ flat_map-append (λ (x : Value). events_of x ++ ended ∷ []) (plain given) (v ∷ [])
+          ∙ ap (λ es. stream_events (plain given) ++ es) (append-nil (events_of v ++ ended ∷ [])) in
+      subst (λ (es : List Event). Led takes es a b) (sym values) all
+
   -- what is answered of a document that can't be read on
-  pub checked_at : (g : Catalog) (l : Limits) (first now : S) (place : Standing X) (given : List (Value × ℕ)) (values : ℕ) → IfOpen place (λ source. ⊥)
-      → length given ≡ values → StoodEach R I g l first now place given → IsChecked R (format_of I g l) first now (answered place values)
-  checked_at g l first now (Open source) given values closed count h = absurd closed
-  checked_at g l first now Ended given values closed count h =
-      (plain given, stood_plain R I g l first now Ended given h, length-map given (λ (x : Value × ℕ). x.0) ∙ count)
-  checked_at g l first now (Refused refusal) given values closed count h = (plain given, stood_plain R I g l first now (Refused refusal) given h)
+  pub visited_at : {S X : Type 0} (R : Inlet S) (I : Items X) (g : Catalog) (l : Limits) (first now : S) (place : Standing X) (given : List (Value × ℕ)) (found : Option ℕ)
+      (values : ℕ) (a m b : V) → found ≡ None → IfOpen place (λ source. ⊥) → length given ≡ values → Led takes (stream_events (plain given)) a m
+      → ToldNext takes I R g l first now place given found m b → IsVisited takes R (format_of I g l) first now a b (answered place values)
+  visited_at R I g l first now place given (Some used) values a m b none closed count heard h = absurd cc
+  visited_at R I g l first now (Open source) given None values a m b none closed count heard h = absurd closed
+  visited_at R I g l first now Ended given None values a m b none closed count heard h = (
+    plain given,
+    stood_plain R (telling I []) g l first now Ended given h.0,
+    length-map given (λ (x : Value × ℕ). x.0) ∙ count,
+    subst (λ (x : V). Led takes (stream_events (plain given)) a x) (sym h.1) heard,
+  )
+  visited_at R I g l first now (Refused refusal) given None values a m b none closed count heard h =
+      (plain given, stood_plain R (telling I []) g l first now (Refused refusal) given h.0)

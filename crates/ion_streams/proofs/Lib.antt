@@ -11,7 +11,6 @@ pub mod Shown
 pub mod Courses
 pub mod Taping
 pub mod SideBySide
-pub mod Alongside
 pub mod Fronts
 pub mod Loads
 pub mod Turns

@@ -94,15 +94,6 @@ module _ {S X : Type 0} (R : Inlet S) (I : Items X) (g : Catalog) (l : Limits) w
       let none : found ≡ None = let e = closed.0 in cc in
       stays_plain first old now (Refused refusal) after s value (is ∙ ap (option_map (λ (x : Value × ℕ). x.0)) none) closed.1 closed.2 h
 
-  -- a document that was read on and in which nothing was found gave the same values as before
-  pub stood_still : (first old now : S) (place after : Standing X) (s : List Value) (found : Option (Value × ℕ)) → found ≡ None →
-      IfClosed place ((◌≡◌ {A = Result (Option (Value × ℕ)) Fault} (Ok found) (Ok None)) × (now ≡ old) × (after ≡ place)) →
-      ((given : List (Value × ℕ)) → StoodEach R I g l first old place given → GaveNext (λ (v : Value). v) R I g l first now after given found)
-      → Stood R I g l first old place s → Stood R I g l first now after s
-  stood_still first old now place after s found none closed gives h =
-      subst (λ (x : List Value). Stood R I g l first now after x) (append-nil s)
-      (stood_next first old now place after s found None (ap (λ (x : Option (Value × ℕ)). option_map (λ (y : Value × ℕ). y.0) x) (sym none)) closed gives h)
-
   -- a document that gave a value isn't refused
   pub not_refused : (first old now : S) (place after : Standing X) (s : List Value) (found : Value × ℕ)
       → IfClosed place ((◌≡◌ {A = Result (Option (Value × ℕ)) Fault} (Ok (Some found)) (Ok None)) × (now ≡ old) × (after ≡ place)) →
@@ -123,8 +114,3 @@ ok_by (Err e) P Q go h = h
 pub err_by : {A E : Type 0} (result : Result A E) (P Q : E → Type 0) → ((e : E) → P e → Q e) → IfErr result P → IfErr result Q
 err_by (Ok a) P Q go h = h
 err_by (Err e) P Q go h = go e h
-
--- the same whatever the fault is
-pub fault_by : {A E : Type 0} (result : Result A E) (P Q : Type 0) → (P → Q) → OnErr result P → OnErr result Q
-fault_by (Ok a) P Q go h = h
-fault_by (Err e) P Q go h = go h

@@ -40,12 +40,6 @@ pub begins_drop : (awaits : Option ℕ) (piece : List ℕ) (at end used : ℕ) �
 begins_drop None piece at end used fits h = h
 begins_drop (Some b) piece at end used fits h = (h.0, sym (between_drop piece at end used fits) ∙ h.1)
 
--- where nothing is left and something is awaited, nothing can have begun
-pub begins_any : (a b : Option ℕ) (rest more : List ℕ) → b ≡ a → rest ≡ [] → Begins a rest → Begins b more
-begins_any None None rest more e h k = k
-begins_any None (Some c) rest more e h k = absurd cc
-begins_any (Some a) b rest more e h k = let l = sym h ∙ k.1 in absurd cc
-
 -- where nothing is left, nothing is awaited
 pub none_awaited : (awaits : Option ℕ) (rest : List ℕ) → rest ≡ [] → Begins awaits rest → IsNone awaits
 none_awaited None rest e h = refl

@@ -9,7 +9,7 @@ use Rattle.ion_symtab.specs.Told.{Told}
 use Rattle.ion_symtab.specs.Heard.{AnsweredEnd, Heard}
 use Rattle.ion_streams.specs.reading.Read.{between, left_of, IsReady, HasToAsk, NoneFailed, NoReadFailed}
 use Rattle.ion_streams.specs.declared.source.Source.{Source}
-use Rattle.ion_streams.proofs.Pieces.{begins_any, between_nil}
+use Rattle.ion_streams.proofs.Pieces.{between_nil}
 
 cut_front : (piece : List ℕ) (at end : ℕ) → at ≤ end → drop at (take end piece) ≡ between piece at end
 cut_front piece at end within =
@@ -65,20 +65,6 @@ module _ {S : Type 0} (R : Inlet S) (old new : S) where
       }
 
 module _ {S X : Type 0} (R : Inlet S) (I : Items X) where
-  -- a piece was read where the one before was used up
-  pub ready_filled : (before after : Source X) → IsReady I before → before.at ≡ before.end → after.items ≡ before.items → after.used ≡ before.used
-      → after.at ≤ after.end → after.end ≤ 4096 → length after.piece.items ≡ length before.piece.items → after.reads + 1 ≡ before.reads → IsReady I after
-  ready_filled before after ready used_up items used within end piece reads =
-      let taken : I.taken after.items ≡ I.taken before.items = ap (λ x. I.taken x) items in
-      record {
-        within = within;
-        fits = omega (arith, end, piece, ready.piece);
-        piece = omega (arith, piece, ready.piece);
-        room = omega (arith, taken, ready.room, used_up, reads, end, within);
-        begins = begins_any (I.awaits before.items) (I.awaits after.items) (left_of before) (left_of after) (ap (λ x. I.awaits x) items)
-            (between_nil before.piece.items before.at before.end (omega (arith, used_up))) ready.begins;
-        counted = omega (arith, taken, ready.counted, used);
-      }
 
   -- a device whose end was answered before isn't asked again
   pub ended_unasked : (old now new : S) (source : Source X) → NoReadFailed R old now → (R.has_failed new ≡ false) ⊎ ((new ≡ now) × (source.ended ≡ true))

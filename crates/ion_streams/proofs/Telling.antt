@@ -1,5 +1,6 @@
 -- What was told of a document that is read by walks.
 use Rattle.std.proofs.Common.{◌≡◌, ℕ, ◌+◌, ◌-◌, ◌≤◌, List, [], ◌∷◌, ◌++◌, length, take, Bool, true, false, Option, Some, None, Ok, ap, sym, subst, ◌∙◌, append-nil}
+use Rattle.std.proofs.lemmas.Option.{same_Some}
 use Rattle.ion_model.specs.declared.value.Value.{Value}
 use Rattle.ion_visiting.specs.Events.{Event, Led, events_of}
 use Rattle.ion_visiting.specs.Tables.{Hears}
@@ -137,6 +138,15 @@ module _ {S V X : Type 0} (takes : V → Event → V → Type 0) (R : Inlet S) (
       → ToldNext takes I R g l first now place given found a b → StoodEach R (telling I []) g l first now place given
   told_none first now place given None a b none h = h.0
   told_none first now place given (Some used) a b none h = absurd cc
+
+  -- one value more was told
+  pub told_some : (first now : S) (place : Standing X) (given : List (Value × ℕ)) (found : Option ℕ) (used : ℕ) (a b : V) → found ≡ Some used
+      → ToldNext takes I R g l first now place given found a b
+      → (v : Value) × Led takes (events_of v) a b × StoodEach R (telling I []) g l first now place (given ++ (v, used) ∷ [])
+  told_some first now place given None used a b is h = absurd cc
+  told_some first now place given (Some total) used a b is h =
+      let same : total ≡ used = same_Some _ _ is in
+      (h.0, h.1, subst (λ (n : ℕ). StoodEach R (telling I []) g l first now place (given ++ (h.0, n) ∷ [])) same h.2)
 
   module _ (settled : (u w : List ℕ) → Grows (I.trace g l u) (I.trace g l (u ++ w)))
       (has_told : (r : X) (u : List ℕ) (s : List (Value × ℕ)) (es : List Event) → I.told r u s es

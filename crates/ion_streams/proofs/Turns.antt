@@ -21,8 +21,6 @@ use Rattle.ion_streams.proofs.Pieces.{between_nil, none_awaited}
 use Rattle.ion_streams.proofs.Steps.{stood_plain}
 
 module _ {S : Type 0} (R : Inlet S) where
-  pub on_none : (now : S) → HandedOn R now now
-  on_none now = record { more = []; handed = sym (append-nil (R.handed now)) }
 
   -- what was handed over first, and then what was next
   pub on_more : (old mid now : S) → HandedOn R old mid → HandedOn R mid now → HandedOn R old now
@@ -139,12 +137,6 @@ module _ {S T X Y : Type 0} (L : Inlet S) (R : Inlet T) (I : Items X) (J : Items
   pub record Turn (place : Standing X) (left : S) (right : T) (s t : List Value) : Type 0 where
     pub level : IfOpen place (λ source. length t ≤ length s)
     pub asked : WasAsked place left right
-
-  -- nothing was read yet
-  pub turn_begun : (place : Standing X) → Turn place first_left first_right [] []
-  turn_begun (Open source) = record { level = omega arith; asked = inl refl }
-  turn_begun Ended = record { level = tt; asked = inl refl }
-  turn_begun (Refused refusal) = record { level = tt; asked = inl refl }
 
   module _ (settled : (u w : List ℕ) → Grows (I.trace g k u) (I.trace g k (u ++ w))) where
     -- the left handed over more

@@ -3,7 +3,6 @@ use Rattle.std.proofs.Common.{◌≡◌, ◌⊎◌, inl, inr, ap, sym, ◌∙◌
 use Rattle.ion_model.specs.declared.value.Value.{Value}
 use Rattle.ion_symtab.specs.declared.inlet.Inlet.{Ghosts as Inlet}
 use Rattle.ion_symtab.specs.declared.items.Items.{Ghosts as Items}
-use Rattle.ion_streams.specs.reading.Alongside.{WentPast, StandingPast}
 use Rattle.ion_streams.specs.reading.Read.{HasToAsk, NoneFailed, NoReadFailed}
 use Rattle.ion_streams.specs.reading.Standing.{IfOpen, StandsUnread}
 use Rattle.ion_streams.specs.declared.source.Source.{Source}
@@ -49,22 +48,6 @@ module _ {X : Type 0} (I : Items X) where
   pub record StandsHeardSince {S : Type 0} (R : Inlet S) (place : Standing X) (first now : S) : Type 0 where
     pub either : (StandsUnread I place × (now ≡ first)) ⊎ (R.has_failed now ≡ false)
 
-  -- a document that has to ask doesn't go past a value
-  pub past_asked : (before after : Source X) (v : Value) → WentPast I before after v → HasToAsk I before → ⊥
-  past_asked before after v past asks =
-      let less = past.less in
-      let same = past.reads in
-      let owes = asks.owes in
-      let used_up = asks.used_up in
-      absurd (omega (arith, less, same, owes, used_up))
-
-  pub past_unread : (place after : Standing X) (v : Value) → StandingPast I place after v → StandsUnread I place → ⊥
-  past_unread (Open before) (Open after) v past asks = past_asked before after v past asks
-  past_unread (Open before) Ended v past asks = past
-  past_unread (Open before) (Refused r) v past asks = past
-  past_unread Ended after v past asks = past
-  past_unread (Refused r) after v past asks = past
-
   -- where a document is read on, and its device hasn't failed or has to be asked first
   pub stands_heard : {S : Type 0} (R : Inlet S) (old now : S) (place : Standing X) → StandsHeard R place old → NoReadFailed R old now →
       IfOpen place (λ source. NoneFailed R I old source → R.has_failed now ≡ false) → R.has_failed now ≡ false
@@ -77,15 +60,6 @@ module _ {X : Type 0} (I : Items X) where
       go (Open source) (inl asks) (inl same) answered = answered (record { either = inr asks })
       go Ended (inl asks) (inl same) answered = absurd asks
       go (Refused r) (inl asks) (inl same) answered = absurd asks
-
-  -- it went past a value, so that it had asked
-  pub heard_past : {S : Type 0} (R : Inlet S) (now : S) (place after : Standing X) (v : Value) → StandingPast I place after v → StandsHeard R place now
-      → R.has_failed now ≡ false
-  heard_past R now place after v past h = go h.either
-    where
-      go : (StandsUnread I place) ⊎ (R.has_failed now ≡ false) → R.has_failed now ≡ false
-      go (inl asks) = absurd (past_unread place after v past asks)
-      go (inr fine) = fine
 
   -- the same of a device that wasn't asked at all
   pub heard_alone : {S : Type 0} (R : Inlet S) (place : Standing X) (first now : S) → StandsHeardSince R place first now → StandsHeard R place now

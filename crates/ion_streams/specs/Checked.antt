@@ -1,6 +1,7 @@
--- What a check of a document answers.
+-- What a check of a document answers, and what a visitor is told of it.
 use Rattle.std.specs.Prelude.{◌≡◌, ℕ, List, length, Result, Ok, Err}
 use Rattle.ion_model.specs.declared.value.Value.{Value}
+use Rattle.ion_visiting.specs.Events.{Event, Led, stream_events}
 use Rattle.ion_atoms.specs.declared.refusal.Refusal.{Refusal}
 use Rattle.ion_symtab.specs.declared.inlet.Inlet.{Ghosts as Inlet}
 use Rattle.ion_streams.specs.Formats.{Format}
@@ -10,3 +11,8 @@ use Rattle.ion_streams.specs.Outcomes.{ToldDocument, ToldRefused}
 abbrev pub IsChecked : {S : Type 0} → Inlet S → Format → S → S → Result ℕ Refusal → Type 0
 IsChecked R F first now (Ok values) = (s : List Value) × ToldDocument R F first now s × (length s ≡ values)
 IsChecked R F first now (Err refusal) = (s : List Value) × ToldRefused R F first now s refusal
+
+-- The octets that the device handed over denote so many values, of which a visitor has heard all events; or they are no document.
+abbrev pub IsVisited : {S V : Type 0} → (V → Event → V → Type 0) → Inlet S → Format → S → S → V → V → Result ℕ Refusal → Type 0
+IsVisited takes R F first now a b (Ok values) = (s : List Value) × ToldDocument R F first now s × (length s ≡ values) × Led takes (stream_events s) a b
+IsVisited takes R F first now a b (Err refusal) = (s : List Value) × ToldRefused R F first now s refusal

@@ -4,5 +4,4 @@ pub mod Standing
 pub mod Refilled
 pub mod Reached
 pub mod Courses
-pub mod Alongside
 pub mod Telling

@@ -13,7 +13,7 @@ mod source;
 pub use all_values::{read_items, read_octets};
 pub use asked::Asked;
 pub use catalogs::load_items;
-pub use checking::check_items;
+pub use checking::{check_items, visit_items};
 pub use comparison::{Side, Verdict, compare_items};
 pub use listing::show_items;
 pub use source::{Source, Standing};

@@ -146,9 +146,6 @@ module _ {V : Type 0} (takes : V → Event → V → Type 0) where
     used = let i : rest.used ≡ rest.used + 0 = omega arith in i;
   }
 
-  pub strides_none : (r : TextWalk) (rest : Rest) (octets : List ℕ) (a : V) → StridesBy takes r r rest rest octets (Ok 0) a a
-  strides_none r rest octets a = record { strode = strode_none r rest octets a; memory = tt; same = settings_none r }
-
   -- one behind the other
   pub strode_on : (old mid new : TextWalk) (r s t : Rest) (octets rest : List ℕ) (i j : ℕ) (a m b : V) → rest ≡ drop i octets → SameSetting old mid
       → Strode takes old mid r s octets i a m → Strode takes mid new s t rest j m b → Strode takes old new r t octets (i + j) a b

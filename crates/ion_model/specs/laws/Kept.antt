@@ -44,28 +44,6 @@ kept_last s v h k = kept_both s (v ∷ []) h (k, tt)
 
 -- Lists gone over from the front: what is left of a list being kept makes all of it kept.
 
--- a symbol that is kept is passed: now what is left behind it makes all of them kept
-pub texts_at : (ss : List (Option (List ℕ))) (i : ℕ) (s : Option (List ℕ)) → i < length ss → s ≡ get_or ss i s → IsText s → (AreTexts (drop i ss) → AreTexts ss)
-    → AreTexts (drop (i + 1) ss) → AreTexts ss
-texts_at ss i s small is k so_far rest = so_far (subst AreTexts (sym (drop_more ss i s small)) (subst IsText is k, rest))
-
--- an item that is kept is passed: now what is left behind it makes all of them kept
-pub items_at : (vs : List Value) (i : ℕ) (v : Value) → i < length vs → v ≡ get_or vs i v → IsKept v → (KeptItems (drop i vs) → KeptItems vs)
-    → KeptItems (drop (i + 1) vs) → KeptItems vs
-items_at vs i v small is k so_far rest = so_far (subst KeptItems (sym (drop_more vs i v small)) (an_item _ _ (subst IsKept is k) rest))
-
--- a field whose parts are kept is passed: now what is left behind it makes all of them kept
-pub fields_at : (ms : List Field) (i : ℕ) (m : Field) → i < length ms → m ≡ get_or ms i m → IsText m.name → IsKept m.value
-    → (KeptFields (drop i ms) → KeptFields ms) → KeptFields (drop (i + 1) ms) → KeptFields ms
-fields_at ms i m small is t k so_far rest =
-    so_far (subst KeptFields (sym (drop_more ms i m small))
-    (a_field _ _ _ (subst (λ (n : Field). IsText n.name) is t) (subst (λ (n : Field). IsKept n.value) is k) rest))
-
--- none are kept
-pub no_texts : (ss : List (Option (List ℕ))) → length ss ≡ 0 → AreTexts ss
-no_texts [] e = tt
-no_texts (s ∷ ss) e = absurd (omega (arith, e))
-
 -- By levels.
 
 rolled_kept : (d : Layer) → KeptLayer d → KeptPayload (roll-Payload d)

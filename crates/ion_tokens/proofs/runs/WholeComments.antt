@@ -115,12 +115,6 @@ fewer_open (o ∷ os) (suc zero) none = tt
 fewer_open (o ∷ []) (suc (suc n)) none = tt
 fewer_open (o ∷ p ∷ os) (suc (suc n)) none = (none.0, fewer_open (p ∷ os) (suc n) none.1)
 
-pub open_before : (octets : List ℕ) (n : ℕ) → 0 < n → HasNoClose (take n octets) → HasNoClose (take (n - 1) octets)
-open_before octets zero some none = absurd (omega arith)
-open_before octets (suc n) some none =
-    let is : n ≡ suc n - 1 = omega arith in
-    subst (λ k. HasNoClose (take k octets)) is (fewer_open octets n none)
-
 -- where none of these octets is a star, nothing closes before the one behind them
 front_open : (octets : List ℕ) (n : ℕ) → Each (goes_on modes.BlockComment) (take n octets) → HasNoClose (take (suc n) octets)
 front_open [] n stars = tt
@@ -158,10 +152,6 @@ star_open octets n within none no_slash =
     either : (b : Bool) → (b && false) ≡ false
     either false = refl
     either true = refl
-
--- a blank rests behind no octets where it rested
-pub rests_none : (octets : List ℕ) (r : Rest) → RestsBehind octets 0 r r
-rests_none octets r = record { ran = λ p. refl; within = omega arith; used = omega arith }
 
 -- one blank behind the other
 pub rests_on : (octets rest : List ℕ) (m n : ℕ) (a b c : Rest) → rest ≡ drop m octets → RestsBehind octets m a b → RestsBehind rest n b c

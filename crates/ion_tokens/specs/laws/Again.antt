@@ -125,22 +125,3 @@ acts_leave p s o (actions.Refuse e) h = tt
 -- An octet before which a token ended is looked at again in a blank, behind the `/` of a comment that it opens, or behind letters of a word.
 pub feed_leaves : (p : Place) (s : Known) (o : ℕ) → LeavesIn o (feed p s o)
 feed_leaves p s o = acts_leave p s o (next p s.colon s.mode o) (table_leaves p s.colon s.mode o)
-
--- An octet before which a token ended is used next, or ends a word before it and is used then, whatever the places.
-pub used_at_last : (p q r : Place) (s t : Known) (o : ℕ) (x : Lexeme) → feed p s o ≡ Left x t → IsUsed (feed q t o)
-    ⊎ ((y : Lexeme) × (k : Known) × (feed q t o ≡ Left y k) × IsUsed (feed r k o))
-used_at_last p q r s t o x e = by t.mode refl (subst (LeavesIn o) e (feed_leaves p s o)) where
-  Last : Type 0
-  Last = IsUsed (feed q t o) ⊎ ((y : Lexeme) × (k : Known) × (feed q t o ≡ Left y k) × IsUsed (feed r k o))
-
-  word : (m : t.mode ≡ modes.Word) (y : Outcome) → feed q t o ≡ y → Last
-  word m (Left y k) f = inr (y, k, f, blank_uses r k o (word_leaves q t k o y m f))
-  word m (Next k) f = inl (subst IsUsed (sym f) tt)
-  word m (Given y k) f = inl (subst IsUsed (sym f) tt)
-  word m (Refused n e) f = inl (subst IsUsed (sym f) tt)
-
-  by : (m : Mode) → t.mode ≡ m → LeftIn o m → Last
-  by modes.Blank m h = inl (blank_uses q t o m)
-  by modes.Slash m h = inl (slash_uses q t o m h)
-  by modes.Word m h = word m (feed q t o) refl
-  by _ m h = absurd h

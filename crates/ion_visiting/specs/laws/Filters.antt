@@ -143,18 +143,6 @@ noted_nowhere : (b : Bool) → tables.Noted ≡ (if b then tables.Yes else table
 noted_nowhere true e = absurd cc
 noted_nowhere false e = absurd cc
 
-pub of_yes : (t : Table) (b : Bool) → is_of_table t b ≡ true → is_of_table t true ≡ true
-of_yes tables.Yes b h = refl
-of_yes tables.Noted b h = refl
-of_yes tables.Unknown b h = absurd cc
-of_yes tables.No b h = absurd cc
-
-pub of_no : (t : Table) (b : Bool) → is_of_table t b ≡ false → is_of_table t false ≡ false
-of_no tables.Yes b h = absurd cc
-of_no tables.Noted b h = refl
-of_no tables.Unknown b h = refl
-of_no tables.No b h = refl
-
 -- a number is no null
 pub number_null : (n : Number) → is_null_struct (number_payload n) ≡ false
 number_null (numbers.Int z) = refl
@@ -242,22 +230,6 @@ module _ {V : Type 0} (takes : V → Event → V → Type 0) where
 
   -- 4. Annotations.
 
-  -- what is told is no table
-  pub none_passes : (f : TableFilter) (a : V) → f.table ≡ tables.No → (es : List Event) → WasTold f es → LetsPass f × Hears takes (heard es) es a a
-  none_passes f a is es h =
-      let k = subst (λ t. AreKept t es f.notes f.tables) is h.kept in (
-        record { table = is; notes = k.0; tables = k.1 },
-        hears_none (heard es) es a (ap (λ t. heard_by t es) (sym is ∙ h.table)),
-      )
-
-  pub unknown_passes : (f g : TableFilter) (a : V) → f.table ≡ tables.Unknown → g.table ≡ tables.No → g.notes ≡ f.notes → g.tables ≡ f.tables
-      → (es : List Event) → WasTold f es → LetsPass g × Hears takes (heard es) es a a
-  unknown_passes f g a is table notes built es h =
-      let k = subst (λ t. AreKept t es f.notes f.tables) is h.kept in (
-        record { table = table; notes = notes ∙ k.1; tables = built ∙ k.2 },
-        hears_none (heard es) es a (k.0 ∙ sym (ap (λ t. heard_by t es) (sym h.table ∙ is))),
-      )
-
   pub noted_passes : (f g : TableFilter) (ss : Symbols) (a b : V) → f.table ≡ tables.Noted → g.table ≡ tables.No → g.notes ≡ [] → g.tables ≡ f.tables
       → ss ≡ f.notes → Led takes (map annotation ss) a b
       → (es : List Event) → WasTold f es → LetsPass g × Hears takes (heard es) es a b
@@ -309,17 +281,6 @@ module _ {V : Type 0} (takes : V → Event → V → Type 0) where
     hears_none (heard es) (heard (es ++ annotation s ∷ [])) a (ap (λ t. heard_by t (es ++ annotation s ∷ [])) by ∙ sym none),
   )
 
-  pub first_kept : (s : Option (List ℕ)) (f g : TableFilter) (a : V) → f.table ≡ tables.Unknown → names_table s ≡ true → g.table ≡ tables.Noted
-      → g.notes ≡ f.notes ++ s ∷ [] → g.tables ≡ f.tables
-      → (es : List Event) → WasTold f es
-      → WasTold g (es ++ annotation s ∷ []) × Hears takes (heard es) (heard (es ++ annotation s ∷ [])) a a
-  first_kept s f g a is names table notes built es h =
-      let k = subst (λ t. AreKept t es f.notes f.tables) is h.kept in
-      let by = by_more es (annotation s) ∙ (ap (λ t. table_behind t (annotation s)) (sym h.table ∙ is)
-      ∙ ap (λ x. if x then tables.Noted else tables.No) names) in
-      kept_tells s es g a table by (ap (λ t. heard_by t es) (sym h.table ∙ is))
-      (ap (λ x. x ++ annotation s ∷ []) k.0 ∙ sym (ap (map annotation) (notes ∙ ap (λ x. x ++ s ∷ []) k.1))) (built ∙ k.2)
-
   pub further_kept : (s : Option (List ℕ)) (f g : TableFilter) (a : V) → f.table ≡ tables.Noted → g.table ≡ f.table
       → g.notes ≡ f.notes ++ s ∷ [] → g.tables ≡ f.tables
       → (es : List Event) → WasTold f es
@@ -341,24 +302,6 @@ module _ {V : Type 0} (takes : V → Event → V → Type 0) where
       (ap (λ t. table_behind t (annotation s)) (sym h.table ∙ is)) (ap (λ t. heard_by t es) (sym h.table ∙ is)) k
 
 -- 5. A table is entered.
-
-pub yes_enters : (f : TableFilter) → f.table ≡ tables.Yes → (es : List Event) → WasTold f es → IsTable f es × (heard es ≡ [])
-yes_enters f is es h =
-    let k = subst (λ t. AreKept t es f.notes f.tables) is h.kept in
-    (record { table = is; notes = k.0; built = k.1 }, ap (λ t. heard_by t es) (sym h.table ∙ is))
-
-pub noted_enters : (f g : TableFilter) (ss : Symbols) → f.table ≡ tables.Noted → g.table ≡ tables.Yes → g.notes ≡ [] → ss ≡ f.notes
-    → Led builds (map annotation ss) f.tables g.tables → (es : List Event) → WasTold f es → IsTable g es × (heard es ≡ [])
-noted_enters f g ss is table notes same led es h =
-    let k = subst (λ t. AreKept t es f.notes f.tables) is h.kept in
-    let all : map annotation ss ≡ es = ap (map annotation) same ∙ sym k.0 in (
-      record {
-        table = table;
-        notes = notes;
-        built = subst (λ b. Led builds es b g.tables) k.1 (subst (λ w. Led builds w f.tables g.tables) all led);
-      },
-      ap (λ t. heard_by t es) (sym h.table ∙ is),
-    )
 
 -- 6. The end of a value.
 

@@ -6,11 +6,11 @@ use Rattle.ion_streams.specs.reading.Telling.{telling}
 use Rattle.ion_streams.proofs.Driven.{driven_on}
 use Rattle.ion_streams.proofs.Fronts.{gave_told}
 use Rattle.ion_streams.proofs.Steps.{on_err, stood_plain, within_begun}
-use Rattle.ion_streams.proofs.Telling.{told_none}
+use Rattle.ion_streams.proofs.Telling.{told_none, told_some}
 use Rattle.ion_streams.proofs.Turns.{each_end, so_far_end}
 use Rattle.ion_docs.specs.Converted.{ReadSoFar, in_reading, so_far}
 use Rattle.ion_docs.specs.Encodings.{WasTold}
-use Rattle.ion_docs.proofs.Conversions.{took_whole, took_some, front_of_front, took_front, put_cause, told_some, stood_more, was_read, done_next, converted_at, kept_at}
+use Rattle.ion_docs.proofs.Conversions.{took_whole, took_some, front_of_front, took_front, put_cause, stood_more, was_read, done_next, converted_at, kept_at}
 use Rattle.ion_docs.proofs.conversion.convert_items.Goals as goal
 
 pub loop-encoder-init : goal.loop-encoder-init

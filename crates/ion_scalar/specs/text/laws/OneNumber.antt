@@ -284,11 +284,6 @@ timestamp_answer token (numbers.Timestamp t) h = (h.0, there_short t (h.1), h.1)
 timestamp_answer token (numbers.Int z) h = absurd h
 timestamp_answer token (numbers.Decimal d) h = absurd h
 
--- so is the number of an answer that gives one
-pub timestamp_answered : (token : List ℕ) (r : Result Number Reason) → ReadsTimestamp token r → is_ok r ≡ true → ReadsNumber token r
-timestamp_answered token (Ok x) h ok = timestamp_answer token x h
-timestamp_answered token (Err e) h ok = absurd (false≢true ok)
-
 -- of a token that is no int, decimal or float, the forms of a timestamp alone decide
 pub stamp_answer : (token : List ℕ) (r : Result Number Reason) → ReadsNumeral token (Err Malformed) → ReadsTimestamp token r → ReadsNumber token r
 stamp_answer token (Ok x) n h = timestamp_answer token x h

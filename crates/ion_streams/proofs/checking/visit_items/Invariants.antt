@@ -1,9 +1,11 @@
 use Rattle.std.proofs.Common.{◌≡◌, ℕ, ◌+◌, ◌*◌, ◌≤◌, ◌^◌, List, [], length}
 use Rattle.ion_model.specs.declared.value.Value.{Value}
+use Rattle.ion_symtab.specs.Trace.{plain}
+use Rattle.ion_visiting.specs.Events.{Led, stream_events}
 use Rattle.ion_streams.specs.reading.Standing.{work_of, reads_of, StoodEach}
 use Rattle.ion_streams.specs.reading.Telling.{telling}
 use Rattle.ion_streams.proofs.Driven.{Driven}
-use Rattle.ion_streams.proofs.checking.check_items.Given as goal
+use Rattle.ion_streams.proofs.checking.visit_items.Given as goal
 
 abbrev pub invariant-loop-place : goal.invariant-loop-place
 invariant-loop-place g l = record {
@@ -13,7 +15,7 @@ invariant-loop-place g l = record {
   handed : length (g.R.Inlet.handed l.reader) + 4096 * reads_of l.place ≤ length (g.R.Inlet.handed l.fn.reader) + 4096 * l.fn.reads;
   reads : (given : List (Value × ℕ)) × StoodEach g.R.Inlet (telling g.I.Items []) (g.I.Items.catalog l.fn.items) (g.I.Items.limits l.fn.items)
       l.fn.reader l.reader l.place
-      given × (length given ≡ l.values);
+      given × (length given ≡ l.values) × Led g.V.Visitor.takes (stream_events (plain given)) l.fn.visitor l.visitor;
 }
 
 abbrev pub decreases-loop-place : goal.decreases-loop-place

@@ -1,8 +1,8 @@
 use Rattle.std.proofs.Common.{rules, ◌≡◌}
-use Rattle.ion_docs.proofs.documents.check.Goals as goal
+use Rattle.ion_docs.proofs.documents.visit.Goals as goal
 
 pub returns-clause-verdict : goal.returns-clause-verdict
 returns-clause-verdict g c =
     let under : c.in_ok-items.items.walk.catalog.now ≡ c.args.catalog.now = search rules in
     let within : c.in_ok-items.items.walk.limits ≡ c.args.limits = search rules in
-    rw (← under, ← within) c.check_items.ensures.verdict
+    rw (← under, ← within) c.visit_items.ensures.verdict
