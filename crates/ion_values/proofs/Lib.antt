@@ -1,3 +1,2 @@
-mod Readable
 mod Fronts
 mod Nexts
