@@ -22,7 +22,7 @@ PAGE, WHOLE_PAGE = TOP / "docs" / "API.md", TOP / "docs" / "API_ALL.md"
 LINES = TOP / "tests" / "calls_by_task"
 TABLE = "## What the crates give beside values, readers, writers and the calls over documents"
 CRATES = (
-    "ion ion_docs ion_values ion_lines ion_memory ion_model ion_atoms ion_symtab ion_text ion_binary ion_streams ion_scalar ion_tokens"
+    "ion ion_docs ion_memory ion_model ion_atoms ion_symtab ion_text ion_binary ion_streams ion_scalar ion_tokens"
 ).split()
 HEAD = """# Every call
 
@@ -55,7 +55,7 @@ TASKS = {
     "Check a document": "check in_memory InMemory FromRead Inlet Failed Limits Refusal Reason Fault",
     "List the values of a document": "show ToWrite Outlet",
     "Tell the line and column of a refusal": "position_of Position",
-    "Read values one by one": "values Values Each Stop read_all read_document DocReader",
+    "Read values one by one": "values values_by Values Each Stop read_all read_document DocReader",
     "Tell a document to a visitor": "visit",
     "Ask a value for what it holds": """Value Payload Kind Field Sequence Symbol Text Bytes Whole Timestamp Local Precision Outline
         spelling_of SymbolText symbol_text""",

@@ -1,4 +1,10 @@
 -- The definitions that the clauses of these calls cite, and the types that they speak of, by the name of this crate.
+pub mod Given
+pub mod Readable
+pub mod Each
+pub mod Messages
+pub mod Lines
+pub mod Spots
 pub use Rattle.ion_atoms.specs.Kinds
 pub use Rattle.ion_atoms.specs.Octets
 pub use Rattle.ion_atoms.specs.Reasons
@@ -13,8 +19,6 @@ pub use Rattle.ion_docs.specs.Encodings
 pub use Rattle.ion_docs.specs.Formats
 pub use Rattle.ion_docs.specs.Headline
 pub use Rattle.ion_docs.specs.Paths as PathTexts
-pub use Rattle.ion_lines.specs.Lines
-pub use Rattle.ion_lines.specs.declared.position.Position
 pub use Rattle.ion_model.specs.Holds
 pub use Rattle.ion_model.specs.Kept
 pub use Rattle.ion_model.specs.Measures
@@ -44,7 +48,3 @@ pub use Rattle.ion_symtab.specs.declared.limits.Limits
 pub use Rattle.ion_symtab.specs.declared.outlet.Outlet
 pub use Rattle.ion_symtab.specs.declared.target.Target
 pub use Rattle.ion_text.specs.Output as TextOutput
-pub use Rattle.ion_values.specs.Each
-pub use Rattle.ion_values.specs.Given
-pub use Rattle.ion_values.specs.Messages
-pub use Rattle.ion_values.specs.declared.stop.Stop

@@ -1,11 +1,11 @@
 //! The values of a document of either encoding.
 ghost use Rattle.std.specs.Prelude.{◌≡◌, [], IfOk, IfErr};
 ghost use Rattle.ion_streams.specs.reading.Standing.{reads_of};
-ghost use Rattle.ion_values.specs.Given.{HasGiven};
+ghost use Rattle.ion.specs.Given.{HasGiven};
 
+use crate::one_by_one::{Values, values_by};
 use ion_docs::DocReader;
 use ion_symtab::{Catalog, Fault, Inlet, Items, Limits};
-use ion_values::{Values, values_by};
 use std::alloc::Global;
 
 /// The values of the document of `reader` one by one: the stream that its octets denote (Ion 1.0,

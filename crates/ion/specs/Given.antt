@@ -1,0 +1,81 @@
+-- What is known of a document whose values are asked for one by one.
+use Rattle.std.specs.Prelude.{◌≡◌, ℕ, List, [], ◌∷◌, ◌++◌, Bool, IsSome, Option, Some, None, Result, Ok, Err, option_to_list}
+use Rattle.ion_model.specs.declared.value.Value.{Value}
+use Rattle.ion_symtab.specs.Cause.{IsReadCause}
+use Rattle.ion_symtab.specs.Heard.{Heard, MayFollow}
+use Rattle.ion_symtab.specs.declared.catalog.Catalog.{Catalog}
+use Rattle.ion_symtab.specs.declared.fault.Fault.{Fault}
+use Rattle.ion_symtab.specs.declared.limits.Limits.{Limits}
+use Rattle.ion_symtab.specs.declared.inlet.Inlet.{Ghosts as Inlet}
+use Rattle.ion_symtab.specs.declared.items.Items.{Ghosts as Items}
+use Rattle.ion_streams.specs.Formats.{Format, format_of}
+use Rattle.ion_streams.specs.Outcomes.{ToldDocument, ToldRefused}
+use Rattle.ion_streams.specs.reading.Read.{GaveSoFar, IsWithin}
+use Rattle.ion_streams.specs.reading.Standing.{IfOpen, Stood}
+use Rattle.ion_streams.specs.declared.source.Standing.{Standing}
+use Rattle.ion_streams.specs.declared.source.Standing.TheVariants as TheStanding
+use Rattle.ion.specs.declared.stop.Stop.{Stop}
+use Rattle.ion.specs.declared.stop.Stop.TheVariants as stops
+
+-- the first values stand in front of the others
+abbrev pub IsFront : List Value → List Value → Type 0
+IsFront front all = (later : List Value) × (all ≡ front ++ later)
+
+module _ {S : Type 0} (R : Inlet S) where
+  -- From first to now the device handed over octets. Whichever document they begin, and all of it where the end was answered, the stream of it begins with s.
+  pub record GivesFront (F : Format) (first now : S) (s : List Value) : Type 0 where
+    pub octets : List ℕ
+    pub ended : Bool
+    pub heard : Heard R first now octets ended
+    pub front : (more : List ℕ) (t : List Value) → MayFollow ended more → F.denotes (octets ++ more) t → IsFront s t
+
+  -- What `next` answers behind the values s: a value, so that s and it are the front of the stream of what was heard; `None` where what was heard is a
+  -- document, and s its stream; or why there is no next value.
+  abbrev pub IsNext : {X : Type 0} → Items X → Catalog → Limits → S → S → List Value → Result (Option Value) Stop → Type 0
+  IsNext I g l first now s (Ok (Some value)) = GivesFront (format_of I g l) first now (s ++ value ∷ [])
+  IsNext I g l first now s (Ok None) = ToldDocument R (format_of I g l) first now s
+  IsNext I g l first now s (Err (stops.Refused refusal)) = ToldRefused R (format_of I g l) first now s refusal
+  IsNext I g l first now s (Err (stops.Fault fault)) = GaveSoFar R I g l first now s × IsReadCause R l.reads first now fault
+
+  -- From first to now the document gave the values s, and stands there; or it did up to this fault.
+  abbrev pub HasGiven : {X : Type 0} → Items X → Catalog → Limits → S → S → Standing X → Option Fault → List Value → Type 0
+  HasGiven I g l first now place None s = Stood R I g l first now place s × IfOpen place (IsWithin R l.reads first now)
+  HasGiven I g l first now place (Some fault) s = GaveSoFar R I g l first now s × IsReadCause R l.reads first now fault
+
+-- it was found to be no document
+abbrev pub IsRefused : {X : Type 0} → Standing X → Type 0
+IsRefused (TheStanding.Open source) = ⊥
+IsRefused TheStanding.Ended = ⊥
+IsRefused (TheStanding.Refused refusal) = Unit {0}
+
+-- From first to now a document that had given s gave this, and stands there: s and it are the front of the stream of what was heard, and a document that was
+-- refused gave nothing more.
+pub record WentOn {S X : Type 0} (R : Inlet S) (I : Items X) (g : Catalog) (l : Limits) (first now : S) (place : Standing X) (s : List Value)
+    (value : Option Value) : Type 0 where
+  pub stood : Stood R I g l first now place (s ++ option_to_list value)
+  pub front : IsSome value → GivesFront R (format_of I g l) first now (s ++ option_to_list value)
+  pub refused : IsRefused place → value ≡ None
+
+-- the answer where a document gave this, and stands there
+abbrev pub answer_of : {X : Type 0} → Standing X → Option Value → Result (Option Value) Stop
+answer_of (TheStanding.Open source) value = Ok value
+answer_of TheStanding.Ended value = Ok value
+answer_of (TheStanding.Refused refusal) value = Err (stops.Refused refusal)
+
+-- the value that an answer gives, if it gives one
+abbrev pub given_by : Result (Option Value) Stop → List Value
+given_by (Ok value) = option_to_list value
+given_by (Err stop) = []
+
+-- where it isn't a fault: a value, none, or a refusal
+abbrev pub IfAnswered : Result (Option Value) Stop → Type 0 → Type 0
+IfAnswered (Ok value) P = P
+IfAnswered (Err (stops.Refused refusal)) P = P
+IfAnswered (Err (stops.Fault fault)) P = Unit {0}
+
+-- the answer of a document that isn't read on, which stays
+abbrev pub settled : {X : Type 0} → Standing X → Option Fault → Option (Result (Option Value) Stop)
+settled place (Some fault) = Some (Err (stops.Fault fault))
+settled (TheStanding.Open source) None = None
+settled TheStanding.Ended None = Some (Ok None)
+settled (TheStanding.Refused refusal) None = Some (Err (stops.Refused refusal))

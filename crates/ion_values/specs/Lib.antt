@@ -1,4 +1,0 @@
-pub mod Given
-pub mod Readable
-pub mod Each
-pub mod Messages
