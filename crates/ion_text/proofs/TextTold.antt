@@ -184,59 +184,7 @@ values_told s b h =
       kept_events.values_kept s (led_kept (stream_events s) no_text b h),
     )
 
--- 4. What is begun behind them.
-
--- none of these ends a value
-abbrev AreInside : List Event → Type 0
-AreInside [] = ⊤
-AreInside (e ∷ es) = (is_end e ≡ false) × AreInside es
-
-awaited_inside : (es fs : List Event) (a b : Built) → Led Awaits (es ++ fs) a b → AreInside es
-awaited_inside [] fs a b h = tt
-awaited_inside (e ∷ es) fs a b h = (h.1.inside, awaited_inside es fs h.0 b h.2)
-
--- octets were written behind others, and as many of them are whole lines
-record GoesOn (a b : Written) : Type 0 where
-  more : List ℕ
-  octets : b.octets ≡ a.octets ++ more
-  whole : b.whole ≡ a.whole
-
-goes_both : (a m b : Written) → GoesOn a m → GoesOn m b → GoesOn a b
-goes_both a m b g h = record {
-  more = g.more ++ h.more;
-  octets = h.octets ∙ ap (λ w. w ++ h.more) g.octets ∙ append_assoc a.octets g.more h.more;
-  whole = h.whole ∙ g.whole;
-}
-
-front_goes : (a : Written) (w : List ℕ) (xs : List Bracket) (o : Option ℕ) → GoesOn a (at (front a ++ w) a.whole xs o)
-front_goes a w xs o = record { more = option_to_list a.before ++ w; octets = append_assoc a.octets (option_to_list a.before) w; whole = refl }
-
-event_goes : (a : Written) (e : Event) → is_end e ≡ false → GoesOn a (wrote a e)
-event_goes a (part p) inside = front_goes a _ _ _
-event_goes a (annotation s) inside = front_goes a _ _ _
-event_goes a (name s) inside = front_goes a _ _ _
-event_goes a (opens x) inside = front_goes a _ _ _
-event_goes a (closes x) inside = record { more = bracket_close x ∷ []; octets = refl; whole = refl }
-event_goes a ended inside = absurd cc
-
-events_go : (es : List Event) (a : Written) → AreInside es → GoesOn a (wrote_all es a)
-events_go [] a h = record { more = []; octets = sym (append-nil a.octets); whole = refl }
-events_go (e ∷ es) a h = goes_both a (wrote a e) _ (event_goes a e h.0) (events_go es (wrote a e) h.1)
-
-lines_stay : (w : List ℕ) (b : Written) → GoesOn (of_lines w) b → lines b ≡ w
-lines_stay w b g =
-    ap (λ n. take n b.octets) g.whole ∙ ap (take (length w)) g.octets ∙ take_at w g.more (length w) refl
-
--- while a value is told behind others that ended, the lines are those of the others
-pub begun_told : (s : List Value) (v : Value) (es fs : List Event) (b : Written) → events_of v ≡ es ++ fs → Led Writes (stream_events s ++ es) no_text b
-    → lines b ≡ text_of s
-begun_told s v es fs b is h =
-    let whole : Built = record { notes = []; place = places.Top (Some v); outer = [] } in
-    let inside = awaited_inside es fs fresh whole (subst (λ x. Led Awaits x fresh whole) is (value_awaited v (places.Top None) [] refl)) in
-    let end = led_wrote (stream_events s ++ es) no_text b h ∙ wrote_both (stream_events s) es no_text ∙ ap (wrote_all es) (values_wrote s []) in
-    lines_stay (text_of s) b (subst (GoesOn (of_lines (text_of s))) (sym end) (events_go es (of_lines (text_of s)) inside))
-
--- 6. What is written behind other octets.
+-- 4. What is written behind other octets.
 pub value_behind : (v : Value) (front : List ℕ) (b : Written) → Led Writes (events_of v) (record no_text { octets = front }) b
     → (b.octets ≡ front ++ value_text v) × IsKept v
 value_behind v front b h =

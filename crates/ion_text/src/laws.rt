@@ -221,13 +221,10 @@ pub fn written<W: Outlet>()
 /// What a visitor that writes text has written once it was told a value is the value's text, behind
 /// what it wrote before and what stands between items there; the types keep the value (`value`).
 /// Told values that ended, from nothing, it has written their document, all of it whole lines
-/// (`values`). While it is told one more, the lines are those of the values before (`begun`).
+/// (`values`).
 pub fn text_told()
     ensures value { (v : Value) (a b : Written) → Led Writes (events_of v) a b
         → (b ≡ with_item a (value_text v)) × IsKept v }
     ensures values { (s : List Value) (b : Written) → Led Writes (stream_events s) no_text b
         → (b.octets ≡ text_of s) × (lines b ≡ text_of s) × AreKept s }
-    ensures begun { (s : List Value) (v : Value) (es more : List Event) (b : Written) →
-        events_of v ≡ es ++ more → Led Writes (stream_events s ++ es) no_text b
-        → lines b ≡ text_of s }
 {}

@@ -3,7 +3,7 @@ ghost use Rattle.std.specs.Prelude.{◌≡◌, ◌++◌, OnOk, IsOkUnless, None,
 ghost use Rattle.ion_model.specs.Kept.{IsText};
 ghost use Rattle.ion_symtab.specs.declared.fault.Fault.TheVariants as faults;
 ghost use Rattle.ion_text.specs.Output.{symbol_text};
-ghost use Rattle.ion_text.specs.visiting.TextOut.{between, front, lines, no_text, with_begun, without_begun, without_lines};
+ghost use Rattle.ion_text.specs.visiting.TextOut.{between, front, lines, no_text, with_begun, without_lines};
 
 use crate::brackets::{bracket_close, octet_between, open_octet};
 use crate::scalar::{put_known, put_numeral, put_part};
@@ -101,16 +101,6 @@ impl TextOut {
         self.octets.copy_within(whole.., 0);
         self.octets.truncate(begun);
         self.whole = 0;
-    }
-
-    /// Lets go what came of the value that is open, as where it was refused. The lines of those
-    /// before it stay, and another value may begin.
-    pub fn forget_begun(&mut self)
-        ensures { self.new ≡ without_begun self.old }
-    {
-        self.octets.truncate(self.whole);
-        self.around.clear();
-        self.before = None;
     }
 
     // Where the lines end, among the octets whatever was answered.

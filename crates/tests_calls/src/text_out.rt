@@ -80,8 +80,8 @@ fn end(out: &mut TextOut) -> bool {
     out.unknown_symbol() && out.close(Bracket::List) && out.ended()
 }
 
-/// What is handed over of a value that isn't ended, of it behind one that was, of one begun anew,
-/// and of one that goes on while the lines before it are handed over.
+/// What is handed over of a value that isn't ended, of it behind one that was, and of one that goes
+/// on while the lines before it are handed over.
 #[test]
 fn lines_are_of_values_that_ended(rt: HostRuntime) {
     let mut out = TextOut::new(rt.alloc());
@@ -89,10 +89,6 @@ fn lines_are_of_values_that_ended(rt: HostRuntime) {
     same(&rt, "begun", (told, out.lines()), (true, b""));
     let told = end(&mut out) && begin(&mut out);
     same(&rt, "ended", (told, out.lines()), (true, b"a::[true,$0]\n"));
-    out.forget_begun();
-    let told = begin(&mut out) && end(&mut out) && begin(&mut out);
-    let lines: &[u8] = b"a::[true,$0]\na::[true,$0]\n";
-    same(&rt, "begun anew", (told, out.lines()), (true, lines));
     out.forget_lines();
     same(&rt, "handed over", out.lines(), b"");
     let told = end(&mut out);

@@ -78,7 +78,3 @@ pub record Writes (a : Written) (e : Event) (b : Written) : Type 0 where
 -- without the lines, which were handed over
 abbrev pub without_lines : Written → Written
 without_lines a = record { octets = drop a.whole a.octets; whole = 0; around = a.around; before = a.before }
-
--- without what came of the value that is open
-abbrev pub without_begun : Written → Written
-without_begun a = record { octets = lines a; whole = a.whole; around = []; before = None }

@@ -1,4 +1,4 @@
-use Rattle.ion_text.proofs.TextTold.{value_told, values_told, begun_told}
+use Rattle.ion_text.proofs.TextTold.{value_told, values_told}
 use Rattle.ion_text.proofs.laws.text_told.Goals as goal
 
 pub returns-clause-value : goal.returns-clause-value
@@ -6,6 +6,3 @@ returns-clause-value c = value_told
 
 pub returns-clause-values : goal.returns-clause-values
 returns-clause-values c = values_told
-
-pub returns-clause-begun : goal.returns-clause-begun
-returns-clause-begun c = begun_told
