@@ -166,7 +166,7 @@ fn go_on<I: Items + Drop, R: Inlet>(
         Stood R.Inlet I.Items g l first reader.old place.old s →
         GaveSoFar R.Inlet I.Items g l first reader.new s) }
 {
-    match place.advance::<Value, R>(reader)? {
+    match place.advance(reader)? {
         None => Ok(None),
         Some((value, _)) => Ok(Some(value)),
     }

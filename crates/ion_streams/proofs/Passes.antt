@@ -1,4 +1,4 @@
--- What is told of the values of a document.
+-- What a document gave that is read value by value.
 use Rattle.std.proofs.Common.{◌≡◌, ℕ, List, [], ◌∷◌, ◌++◌, Result, Ok, Err, IfOk, IfErr, OnErr, Option, Some, None, option_map, option_to_list, refl, ap, sym, subst, ◌∙◌, append-nil}
 use Rattle.std.proofs.lemmas.Option.{same_Some}
 use Rattle.ion_model.specs.declared.value.Value.{Value}
@@ -17,62 +17,33 @@ use Rattle.ion_streams.specs.declared.source.Standing.TheVariants.{Open, Ended, 
 use Rattle.ion_symtab.specs.declared.fault.Fault.{Fault}
 use Rattle.ion_streams.proofs.Steps.{reads_by, plain_next, stood_plain}
 
-module _ {X A : Type 0} (of : Value → A) (I : Items X) (source after : Source X) where
-  without : (u : List ℕ) (given : List (Value × ℕ)) (value : Option Value) → option_map of value ≡ None → Went I u given (left_of source) after value
-      → Went I u given (left_of source) after None
-  without u given None e h = h
-  without u given (Some v) e h = absurd cc
+-- where there was no value
+pub none_went : {X : Type 0} (I : Items X) (source after : Source X) (found : Option Value) → found ≡ None
+    → ((u : List ℕ) (given : List (Value × ℕ)) → I.stands source.items u given → Went I u given (left_of source) after found)
+    → (u : List ℕ) (given : List (Value × ℕ)) → I.stands source.items u given → Went I u given (left_of source) after None
+none_went I source after found e go u given h = subst (Went I u given (left_of source) after) e (go u given h)
 
-  -- where there was no value
-  pub none_went : (found : Option A) → found ≡ None → ((u : List ℕ) (given : List (Value × ℕ)) → I.stands source.items u given → (value : Option Value)
-      × (option_map of value ≡ found) × Went I u given (left_of source) after value) →
-      (u : List ℕ) (given : List (Value × ℕ)) → I.stands source.items u given → Went I u given (left_of source) after None
-  none_went found e go u given h = let w = go u given h in without u given w.0 (w.1 ∙ e) w.2
-
-module _ {S X A : Type 0} (of : Value → A) (R : Inlet S) (I : Items X) (g : Catalog) (l : Limits) where
-  one_more : (first now : S) (after : Source X) (given : List (Value × ℕ)) (found : A) (value : Option Value) → option_map of value ≡ Some found
-      → ReadsEach R I g l first now after (given ++ given_at value after.used) →
-      Reaches of R I g l first now after given (AValue found)
-  one_more first now after given found None e h = absurd cc
-  one_more first now after given found (Some v) e h = (v, same_Some _ _ e, h)
-
-  -- one more was found
-  pub passes_on : (first now : S) (source after : Source X) (given : List (Value × ℕ)) (found : A) → ReadsEach R I g l first now source given →
-      ((u : List ℕ) (given : List (Value × ℕ)) → I.stands source.items u given → (value : Option Value) × (option_map of value ≡ Some found)
-      × Went I u given (left_of source) after value) →
-      I.catalog after.items ≡ I.catalog source.items → I.limits after.items ≡ I.limits source.items → after.ended ≡ source.ended
-      → Reaches of R I g l first now after given (AValue found)
-  passes_on first now source after given found h go under within ended =
-      let w = go h.u given h.stood in
-      one_more first now after given found w.0 w.1 (reads_by R I g l I first now source after given w.0 h w.2 under within ended)
-
-  -- the end gave what is told
+module _ {S X : Type 0} (R : Inlet S) (I : Items X) (g : Catalog) (l : Limits) where
+  -- the end gave the last
   pub gave_last : (first now : S) (place : Standing X) (given : List (Value × ℕ)) (last : Option (Value × ℕ)) → IfRefused place (last ≡ None)
       → StoodEach R I g l first now place (given ++ option_to_list last) →
-      GaveNext of R I g l first now place given (option_map (λ (next : Value × ℕ). (of next.0, next.1)) last)
+      GaveNext R I g l first now place given last
   gave_last first now place given None none h = subst (λ (x : List (Value × ℕ)). StoodEach R I g l first now place x) (append-nil given) h
-  gave_last first now (Open source) given (Some next) none h = (next.0, refl, h, tt)
-  gave_last first now Ended given (Some next) none h = (next.0, refl, h, tt)
+  gave_last first now (Open source) given (Some next) none h = (h, tt)
+  gave_last first now Ended given (Some next) none h = (h, tt)
   gave_last first now (Refused refusal) given (Some next) none h = absurd cc
 
   -- no more was found
-  pub gave_none : (first now : S) (place : Standing X) (given : List (Value × ℕ)) (found : Option (A × ℕ)) → found ≡ None
-      → GaveNext of R I g l first now place given found → StoodEach R I g l first now place given
+  pub gave_none : (first now : S) (place : Standing X) (given : List (Value × ℕ)) (found : Option (Value × ℕ)) → found ≡ None
+      → GaveNext R I g l first now place given found → StoodEach R I g l first now place given
   gave_none first now place given None none h = h
   gave_none first now place given (Some next) none h = absurd cc
 
--- the value itself was found
-pub gave_itself : {S X : Type 0} (R : Inlet S) (I : Items X) (g : Catalog) (l : Limits) (first now : S) (place : Standing X) (given : List (Value × ℕ))
-    (found : Value × ℕ) → GaveNext (λ (v : Value). v) R I g l first now place given (Some found) →
-    StoodEach R I g l first now place (given ++ found ∷ [])
-gave_itself R I g l first now place given found h = subst (λ (v : Value). StoodEach R I g l first now place (given ++ (v, found.1) ∷ [])) h.1 h.2
-
--- the values alone, where the values themselves are asked for
-module _ {S X : Type 0} (R : Inlet S) (I : Items X) (g : Catalog) (l : Limits) where
+  -- the values alone
   gave_all : (first now : S) (place : Standing X) (given : List (Value × ℕ)) (found : Option (Value × ℕ))
-      → GaveNext (λ (v : Value). v) R I g l first now place given found → StoodEach R I g l first now place (given ++ option_to_list found)
+      → GaveNext R I g l first now place given found → StoodEach R I g l first now place (given ++ option_to_list found)
   gave_all first now place given None h = subst (λ (x : List (Value × ℕ)). StoodEach R I g l first now place x) (sym (append-nil given)) h
-  gave_all first now place given (Some found) h = gave_itself R I g l first now place given found h
+  gave_all first now place given (Some found) h = h.0
 
   stays_plain : (first old now : S) (place after : Standing X) (s : List Value) (value : Option Value) → value ≡ None → now ≡ old → after ≡ place
       → Stood R I g l first old place s → Stood R I g l first now after (s ++ option_to_list value)
@@ -82,7 +53,7 @@ module _ {S X : Type 0} (R : Inlet S) (I : Items X) (g : Catalog) (l : Limits) w
   pub stood_next : (first old now : S) (place after : Standing X) (s : List Value) (found : Option (Value × ℕ)) (value : Option Value)
       → value ≡ option_map (λ (x : Value × ℕ). x.0) found →
       IfClosed place ((◌≡◌ {A = Result (Option (Value × ℕ)) Fault} (Ok found) (Ok None)) × (now ≡ old) × (after ≡ place)) →
-      ((given : List (Value × ℕ)) → StoodEach R I g l first old place given → GaveNext (λ (v : Value). v) R I g l first now after given found)
+      ((given : List (Value × ℕ)) → StoodEach R I g l first old place given → GaveNext R I g l first now after given found)
       → Stood R I g l first old place s → Stood R I g l first now after (s ++ option_to_list value)
   stood_next first old now (Open source) after s found value is closed gives h =
       subst (λ (x : List Value). Stood R I g l first now after x) (plain_next h.given found value s h.values (sym is))
@@ -97,9 +68,9 @@ module _ {S X : Type 0} (R : Inlet S) (I : Items X) (g : Catalog) (l : Limits) w
   -- a document that gave a value isn't refused
   pub not_refused : (first old now : S) (place after : Standing X) (s : List Value) (found : Value × ℕ)
       → IfClosed place ((◌≡◌ {A = Result (Option (Value × ℕ)) Fault} (Ok (Some found)) (Ok None)) × (now ≡ old) × (after ≡ place)) →
-      ((given : List (Value × ℕ)) → StoodEach R I g l first old place given → GaveNext (λ (v : Value). v) R I g l first now after given (Some found))
+      ((given : List (Value × ℕ)) → StoodEach R I g l first old place given → GaveNext R I g l first now after given (Some found))
       → Stood R I g l first old place s → IfRefused after ⊥
-  not_refused first old now (Open source) after s found closed gives h = (gives h.given h.each).3
+  not_refused first old now (Open source) after s found closed gives h = (gives h.given h.each).1
   not_refused first old now Ended after s found closed gives h = let e = closed.0 in absurd cc
   not_refused first old now (Refused refusal) after s found closed gives h = let e = closed.0 in absurd cc
 

@@ -39,7 +39,7 @@ pub fn read_items<I: Items + Drop, R: Inlet>(
     let source = Source::new(alloc, items, reads)?;
     let mut place = Standing::Open(source);
     let mut values = Vec::new(alloc);
-    while let Some((value, _)) = place.advance::<Value, R>(reader)? {
+    while let Some((value, _)) = place.advance(reader)? {
         values.push(value)?;
     }
     Ok(place.answer(values))

@@ -35,7 +35,7 @@ pub fn load_items<I: Items + Drop, R: Inlet>(
     let source = Source::new(alloc, items, reads)?;
     let mut place = Standing::Open(source);
     let mut catalog = Catalog::new(alloc);
-    while let Some((value, offset)) = place.advance::<Value, R>(reader)? {
+    while let Some((value, offset)) = place.advance(reader)? {
         if let Err(refusal) = add_value(alloc, &mut catalog, value, offset)? {
             return Ok(Err(refusal));
         }

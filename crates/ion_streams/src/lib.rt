@@ -3,7 +3,6 @@
 #![tactic(auto)]
 
 mod all_values;
-mod asked;
 mod catalogs;
 mod checking;
 mod comparison;
@@ -11,7 +10,6 @@ mod listing;
 mod source;
 
 pub use all_values::{read_items, read_octets};
-pub use asked::Asked;
 pub use catalogs::load_items;
 pub use checking::{check_items, visit_items};
 pub use comparison::{Side, Verdict, compare_items};

@@ -13,7 +13,6 @@ ghost use Rattle.ion_streams.specs.reading.Reached.{IfValue, IfEnd, IsSpent, Rea
 ghost use Rattle.ion_streams.specs.Outcomes.{EndsWell, EndsRefused};
 ghost use Rattle.ion_streams.specs.reading.Standing.{IfOpen, IsOpen, IfClosed, MatchClosed, work_of, reads_of, Stood, StoodEach, GaveNext, answered};
 
-use crate::asked::Asked;
 use ion_model::{Reason, Refusal, Value};
 use ion_symtab::{Failed, Fault, Inlet, Items};
 use std::alloc::Global;
@@ -86,15 +85,13 @@ impl<I: Items + Drop> Source<I> {
         })
     }
 
-    /// Takes up octets of the piece, up to the next value or to the piece's end: what is told of
-    /// that value.
+    /// Takes up octets of the piece, up to the next value or to the piece's end: that value.
     #[inline(always)]
-    fn take<A: Asked>(&mut self) -> Result<Option<A>, Refusal>
+    fn take(&mut self) -> Result<Option<Value>, Refusal>
         requires { IsReady I.Items self.old }
         ensures gives { IfOk result (λ found. (u : List ℕ) (given : List (Value × ℕ)) →
             I.stands self.old.items u given →
-            (value : Option Value) × (option_map A.of value ≡ found)
-            × Went I.Items u given (left_of self.old) self.new value) }
+            Went I.Items u given (left_of self.old) self.new found) }
         ensures refuses { IfErr result (λ refusal. refusal.reason ≢ reasons.Memory →
             (u : List ℕ) (given : List (Value × ℕ)) → I.stands self.old.items u given
             → (more : List ℕ) →
@@ -113,12 +110,12 @@ impl<I: Items + Drop> Source<I> {
         ensures reads { self.new.reads ≡ self.old.reads }
         ensures ended { self.new.ended ≡ self.old.ended }
     {
-        match A::take(&mut self.items, &self.piece[self.at..self.end]) {
+        match self.items.step(&self.piece[self.at..self.end]) {
             Err(refusal) => Err(refusal),
-            Ok((used, found)) => {
-                self.at += used;
-                self.used += used as u64;
-                Ok(found)
+            Ok(step) => {
+                self.at += step.used;
+                self.used += step.used as u64;
+                Ok(step.value)
             }
         }
     }
@@ -214,12 +211,12 @@ impl<I: Items + Drop> Source<I> {
     ///
     /// Faults are `Memory`, `Read` and `TooManyReads`.
     #[inline(always)]
-    fn read_on<A: Asked, R: Inlet>(&mut self, reader: &mut R) -> Result<Reached<A>, Fault>
+    fn read_on<R: Inlet>(&mut self, reader: &mut R) -> Result<Reached<Value>, Fault>
         requires { IsReady I.Items self.old }
         ensures gives { IfOk result (λ reached.
             (g : Catalog) (l : Limits) (first : R) (given : List (Value × ℕ)) →
             ReadsEach R.Inlet I.Items g l first reader.old self.old given →
-            Reaches A.of R.Inlet I.Items g l first reader.new self.new given reached) }
+            Reaches R.Inlet I.Items g l first reader.new self.new given reached) }
         ensures ready { IfOk result (λ reached. IfValue reached (IsReady I.Items self.new)) }
         ensures less { IfOk result (λ reached. IfValue reached
             (work I.Items self.new < work I.Items self.old)) }
@@ -242,7 +239,7 @@ impl<I: Items + Drop> Source<I> {
             GaveSoFar R.Inlet I.Items g l first reader.new s) }
     {
         loop {
-            match self.take::<A>() {
+            match self.take() {
                 Err(
                     Refusal {
                         reason: Reason::Memory,
@@ -262,7 +259,7 @@ impl<I: Items + Drop> Source<I> {
 
 /// What is reached in a document that is read on.
 enum Reached<A> {
-    /// The next value, of which this is told.
+    /// The next value, or that a visitor was told it.
     Value(A),
     /// The end that the device answered; all octets before it are used.
     End,
@@ -322,17 +319,17 @@ impl<I: Drop> Standing<I> {
 
 impl<I: Items + Drop> Standing<I> {
     /// Reads on up to the next value, or to the end, where the document is open; else it stays
-    /// where it stands. What is told of the value, with the number of octets used when it came.
-    /// Without a value the document isn't open any more.
+    /// where it stands. The value, with the number of octets used when it came. Without a value the
+    /// document isn't open any more.
     ///
     /// Faults are `Memory`, `Read` and `TooManyReads`.
     #[inline(always)]
-    pub fn advance<A: Asked, R: Inlet>(&mut self, reader: &mut R) -> Result<Option<(A, u64)>, Fault>
+    pub fn advance<R: Inlet>(&mut self, reader: &mut R) -> Result<Option<(Value, u64)>, Fault>
         requires { IfOpen self.old (IsReady I.Items) }
         ensures gives { IfOk result (λ found.
             (g : Catalog) (l : Limits) (first : R) (given : List (Value × ℕ)) →
             StoodEach R.Inlet I.Items g l first reader.old self.old given →
-            GaveNext A.of R.Inlet I.Items g l first reader.new self.new given found) }
+            GaveNext R.Inlet I.Items g l first reader.new self.new given found) }
         ensures none { IfOk result (λ found. found ≡ Option.None → IfOpen self.new (λ after. ⊥)) }
         ensures ready { IfOpen self.new (IsReady I.Items) }
         ensures less { IfOk result (λ found. IsSome found →
@@ -360,13 +357,13 @@ impl<I: Items + Drop> Standing<I> {
             GaveSoFar R.Inlet I.Items g l first reader.new s) }
     {
         match self {
-            Standing::Open(source) => match source.read_on::<A, R>(reader) {
+            Standing::Open(source) => match source.read_on(reader) {
                 Ok(Reached::Value(found)) => Ok(Some((found, source.used))),
                 Ok(Reached::Refused(refusal)) => {
                     self.refuse(refusal);
                     Ok(None)
                 }
-                Ok(Reached::End) => self.end::<A>(),
+                Ok(Reached::End) => self.close(),
                 Err(fault) => {
                     self.give_up();
                     Err(fault)
@@ -377,29 +374,9 @@ impl<I: Items + Drop> Standing<I> {
         }
     }
 
-    /// Closes a document whose octets were all used, as `close` does: what is told of the value
-    /// that the end gave.
-    #[inline(never)]
-    fn end<A: Asked>(&mut self) -> Result<Option<(A, u64)>, Fault>
-        requires { IfOpen self.old (IsSpent I.Items) }
-        ensures ends { IfOk result (λ found. (last : Option (Value × ℕ))
-            × (option_map (λ next. (A.of next.0, next.1)) last ≡ found)
-            × IfOpen self.old (λ source.
-            (u : List ℕ) (given : List (Value × ℕ)) → I.stands source.items u given →
-            MatchClosed self.new
-            (EndsWell (format_of I.Items (I.catalog source.items) (I.limits source.items)) u
-            (given ++ option_to_list last))
-            (λ refusal. (last ≡ Option.None) × EndsRefused
-            (format_of I.Items (I.catalog source.items) (I.limits source.items))
-            u given refusal))) }
-        ensures closed { IfOpen self.new (λ source. ⊥) }
-        ensures cause { IfErr result (λ fault. fault ≡ Fault.Memory) }
-    {
-        Ok(told::<A>(self.close()?))
-    }
-
     /// Closes a document whose octets were all used: it stands where `last` says, and gives what
     /// that gives. At a fault, which is `Memory`, it is closed, too.
+    #[inline(never)]
     fn close(&mut self) -> Result<Option<(Value, u64)>, Fault>
         requires { IfOpen self.old (IsSpent I.Items) }
         ensures ends { IfOk result (λ found. IfOpen self.old (λ source.
@@ -424,16 +401,6 @@ impl<I: Items + Drop> Standing<I> {
                 Ok(None)
             }
         }
-    }
-}
-
-/// What is told of the value that the end gave.
-fn told<A: Asked>(found: Option<(Value, u64)>) -> Option<(A, u64)>
-    ensures { result ≡ option_map (λ next. (A.of next.0, next.1)) found }
-{
-    match found {
-        None => None,
-        Some((value, used)) => Some((A::tell(value), used)),
     }
 }
 

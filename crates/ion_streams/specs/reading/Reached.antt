@@ -30,10 +30,8 @@ pub record IsSpent {X : Type 0} (I : Items X) (source : Source X) : Type 0 where
   pub awaited : IsNone (I.awaits source.items)
   pub counted : I.taken source.items ≡ source.used
 
--- From first to now the document gave these values and one more, of which this is told, or these up to the end that the device answered, or these before it was
--- refused.
-abbrev pub Reaches : {S X A : Type 0} → (Value → A) → Inlet S → Items X → Catalog → Limits → S → S → Source X → List (Value × ℕ) → Reached A → Type 0
-Reaches of R I g l first now source given (AValue found) =
-    (value : Value) × (of value ≡ found) × ReadsEach R I g l first now source (given ++ (value, source.used) ∷ [])
-Reaches of R I g l first now source given End = GaveEach R I g l first now source.items (left_of source) true given
-Reaches of R I g l first now source given (Refused refusal) = ToldRefusedEach R (format_of I g l) first now given refusal
+-- From first to now the document gave these values and one more, or these up to the end that the device answered, or these before it was refused.
+abbrev pub Reaches : {S X : Type 0} → Inlet S → Items X → Catalog → Limits → S → S → Source X → List (Value × ℕ) → Reached Value → Type 0
+Reaches R I g l first now source given (AValue found) = ReadsEach R I g l first now source (given ++ (found, source.used) ∷ [])
+Reaches R I g l first now source given End = GaveEach R I g l first now source.items (left_of source) true given
+Reaches R I g l first now source given (Refused refusal) = ToldRefusedEach R (format_of I g l) first now given refusal

@@ -79,11 +79,10 @@ IfRefused (Open source) P = Unit {0}
 IfRefused Ended P = Unit {0}
 IfRefused (Refused refusal) P = P
 
--- Behind these values no more was found; or one more was, with the total of octets when it came, of which this is told, and nothing was refused.
-abbrev pub GaveNext : {S X A : Type 0} → (Value → A) → Inlet S → Items X → Catalog → Limits → S → S → Standing X → List (Value × ℕ) → Option (A × ℕ) → Type 0
-GaveNext of R I g l first now place given None = StoodEach R I g l first now place given
-GaveNext of R I g l first now place given (Some found) =
-    (value : Value) × (of value ≡ found.0) × StoodEach R I g l first now place (given ++ (value, found.1) ∷ []) × IfRefused place ⊥
+-- Behind these values no more was found; or one more was, with the total of octets when it came, and nothing was refused.
+abbrev pub GaveNext : {S X : Type 0} → Inlet S → Items X → Catalog → Limits → S → S → Standing X → List (Value × ℕ) → Option (Value × ℕ) → Type 0
+GaveNext R I g l first now place given None = StoodEach R I g l first now place given
+GaveNext R I g l first now place given (Some found) = StoodEach R I g l first now place (given ++ found ∷ []) × IfRefused place ⊥
 
 -- this answer, or the refusal of what is no document
 abbrev pub answered : {X A : Type 0} → Standing X → A → Result A Refusal

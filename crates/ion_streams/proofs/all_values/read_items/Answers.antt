@@ -1,6 +1,6 @@
 use Rattle.std.proofs.Common.{◌++◌, ◌∷◌, []}
 use Rattle.ion_symtab.specs.Trace.{plain}
-use Rattle.ion_streams.proofs.Passes.{gave_none, gave_itself}
+use Rattle.ion_streams.proofs.Passes.{gave_none}
 use Rattle.ion_streams.proofs.Steps.{stood_plain}
 use Rattle.ion_streams.proofs.Turns.{each_end, so_far_end}
 use Rattle.ion_streams.proofs.all_values.read_items.Goals as goal
@@ -15,11 +15,10 @@ pub returns-in_err-push-clause-one_end : goal.returns-in_err-push-clause-one_end
 returns-in_err-push-clause-one_end g c =
     let r = c.loop-values.invariant.reads in
     each_end g.R.Inlet g.I.Items _ _ _ c.advance.new.reader c.advance.new.self (r.0 ++ (c.in-Some.value, c.in-Some.field-0-1) ∷ [])
-    (gave_itself g.R.Inlet g.I.Items _ _ _ _ c.advance.new.self r.0 (c.in-Some.value, c.in-Some.field-0-1)
-    (rw c.in-Some.is at (c.in_ok-value.ensures.gives _ _ _ r.0 r.1)))
+    (rw c.in-Some.is at (c.in_ok-value.ensures.gives _ _ _ r.0 r.1)).0
 
 pub returns-clause-one_end : goal.returns-clause-one_end
 returns-clause-one_end g c =
     let r = c.loop-values.invariant.reads in
     each_end g.R.Inlet g.I.Items _ _ _ c.advance.new.reader c.advance.new.self r.0
-    (gave_none (λ v. v) g.R.Inlet g.I.Items _ _ _ _ c.advance.new.self r.0 c.in_ok-value.field-0 c.in_default.is (c.in_ok-value.ensures.gives _ _ _ r.0 r.1))
+    (gave_none g.R.Inlet g.I.Items _ _ _ _ c.advance.new.self r.0 c.in_ok-value.field-0 c.in_default.is (c.in_ok-value.ensures.gives _ _ _ r.0 r.1))

@@ -4,7 +4,7 @@ use Rattle.ion_symtab.specs.Trace.{plain}
 use Rattle.ion_streams.specs.Loaded.{catalog_of}
 use Rattle.ion_streams.proofs.Loads.{catalog_ok, value_refused}
 use Rattle.ion_streams.proofs.Driven.{driven_on}
-use Rattle.ion_streams.proofs.Passes.{gave_none, gave_itself}
+use Rattle.ion_streams.proofs.Passes.{gave_none}
 use Rattle.ion_streams.proofs.Steps.{stood_plain, within_begun}
 use Rattle.ion_streams.proofs.Turns.{each_end, so_far_end}
 use Rattle.ion_streams.proofs.catalogs.load_items.Goals as goal
@@ -28,7 +28,7 @@ loop-catalog-preserved g c =
       handed = omega (arith, handed, next.few_octets);
       reads = (
         r.0 ++ found,
-        gave_itself g.R.Inlet g.I.Items _ _ _ _ c.advance.new.self r.0 (c.in-Some.value, c.in-Some.offset) (rw c.in-Some.is at (next.gives _ _ _ r.0 r.1)),
+        (rw c.in-Some.is at (next.gives _ _ _ r.0 r.1)).0,
         catalog_ok [] r.0 found c.loop-catalog.catalog r.2 ∙ more,
       );
     }
@@ -43,7 +43,7 @@ returns-in-Err-clause-loaded g c =
     let limits = g.I.Items.limits c.args.items in
     value_refused g.R.Inlet g.I.Items catalog limits (g.met.I.Items.settled catalog limits) g.met.I.Items.given_so_far g.met.I.Items.given_with_next
     c.args.reader.now c.advance.new.reader c.advance.new.self (r.0 ++ found) c.in-Err.refusal
-    (gave_itself g.R.Inlet g.I.Items _ _ _ _ c.advance.new.self r.0 (c.in-Some.value, c.in-Some.offset) (rw c.in-Some.is at (next.gives _ _ _ r.0 r.1)))
+    (rw c.in-Some.is at (next.gives _ _ _ r.0 r.1)).0
     next.ready
     (catalog_ok [] r.0 found c.loop-catalog.catalog r.2 ∙ none)
 
@@ -57,18 +57,16 @@ pub returns-in_err-refusal-clause-one_end : goal.returns-in_err-refusal-clause-o
 returns-in_err-refusal-clause-one_end g c =
     let r = c.loop-catalog.invariant.reads in
     each_end g.R.Inlet g.I.Items _ _ _ c.advance.new.reader c.advance.new.self (r.0 ++ (c.in-Some.value, c.in-Some.offset) ∷ [])
-    (gave_itself g.R.Inlet g.I.Items _ _ _ _ c.advance.new.self r.0 (c.in-Some.value, c.in-Some.offset)
-    (rw c.in-Some.is at (c.in_ok-value.ensures.gives _ _ _ r.0 r.1)))
+    (rw c.in-Some.is at (c.in_ok-value.ensures.gives _ _ _ r.0 r.1)).0
 
 pub returns-in-Err-clause-one_end : goal.returns-in-Err-clause-one_end
 returns-in-Err-clause-one_end g c =
     let r = c.loop-catalog.invariant.reads in
     each_end g.R.Inlet g.I.Items _ _ _ c.advance.new.reader c.advance.new.self (r.0 ++ (c.in-Some.value, c.in-Some.offset) ∷ [])
-    (gave_itself g.R.Inlet g.I.Items _ _ _ _ c.advance.new.self r.0 (c.in-Some.value, c.in-Some.offset)
-    (rw c.in-Some.is at (c.in_ok-value.ensures.gives _ _ _ r.0 r.1)))
+    (rw c.in-Some.is at (c.in_ok-value.ensures.gives _ _ _ r.0 r.1)).0
 
 pub returns-clause-one_end : goal.returns-clause-one_end
 returns-clause-one_end g c =
     let r = c.loop-catalog.invariant.reads in
     each_end g.R.Inlet g.I.Items _ _ _ c.advance.new.reader c.advance.new.self r.0
-    (gave_none (λ v. v) g.R.Inlet g.I.Items _ _ _ _ c.advance.new.self r.0 c.in_ok-value.field-0 c.in_default.is (c.in_ok-value.ensures.gives _ _ _ r.0 r.1))
+    (gave_none g.R.Inlet g.I.Items _ _ _ _ c.advance.new.self r.0 c.in_ok-value.field-0 c.in_default.is (c.in_ok-value.ensures.gives _ _ _ r.0 r.1))

@@ -1,10 +1,10 @@
-use Rattle.std.proofs.Common.{inl, inr, rules, ◌≢◌, arith}
+use Rattle.std.proofs.Common.{inl, inr, rules, ◌≢◌, arith, Some}
 use Rattle.ion_atoms.specs.declared.refusal.Reason.TheVariants as reasons
 use Rattle.std.proofs.lemmas.Result.{err_from_is_err_and}
 use Rattle.ion_streams.specs.reading.Read.{left_of}
 use Rattle.ion_streams.proofs.Refilled.{ended_unasked, ended_heard}
-use Rattle.ion_streams.proofs.Steps.{gave_so_far, kept_so_far, reads_none, reads_failed, reads_refilled, within_kept, on_err}
-use Rattle.ion_streams.proofs.Passes.{none_went, passes_on}
+use Rattle.ion_streams.proofs.Steps.{gave_so_far, kept_so_far, reads_none, reads_failed, reads_refilled, reads_went, within_kept, on_err}
+use Rattle.ion_streams.proofs.Passes.{none_went}
 use Rattle.ion_streams.proofs.Unfailed.{was_asked, gave_some}
 use Rattle.ion_streams.proofs.source.Source.read_on.Goals as goal
 
@@ -26,7 +26,7 @@ pub returns-in-Ok-Some-clause-gives : goal.returns-in-Ok-Some-clause-gives
 returns-in-Ok-Some-clause-gives g c =
     let t = c.in-Ok-Some.ensures in
     λ catalog limits first given h.
-    passes_on g.A.Asked.of g.R.Inlet g.I.Items catalog limits first c.loop-refusal.reader c.loop-refusal.self c.take.new.self given c.in-Ok-Some.found
+    reads_went g.R.Inlet g.I.Items catalog limits first c.loop-refusal.reader c.loop-refusal.self c.take.new.self given (Some c.in-Ok-Some.found)
     (c.loop-refusal.invariant.reads catalog limits first given h) (rw c.in-Ok-Some.field-0-is at t.gives) t.catalog t.limits t.ended
 
 pub returns-in-Ok-Some-clause-within : goal.returns-in-Ok-Some-clause-within
@@ -47,7 +47,7 @@ returns-in_err-refill-clause-kept g c =
     let from = c.loop-refusal.self in
     let mid = c.take.new.self in
     let t = c.in-Ok-None.ensures in
-    let gives = none_went g.A.Asked.of g.I.Items from mid _ c.in-Ok-None.field-0-is t.gives in
+    let gives = none_went g.I.Items from mid _ c.in-Ok-None.field-0-is t.gives in
     on_err c.from_residual.result _ (λ catalog limits first s h.
     kept_so_far g.R.Inlet g.I.Items catalog limits first c.loop-refusal.reader c.refill.new.reader mid s
     (record {
@@ -65,7 +65,7 @@ loop-refusal-preserved g c =
     let mid = c.take.new.self in
     let t = c.in-Ok-None.ensures in
     let f = c.in_ok-refill.ensures in
-    let gives = none_went g.A.Asked.of g.I.Items from mid _ c.in-Ok-None.field-0-is t.gives in
+    let gives = none_went g.I.Items from mid _ c.in-Ok-None.field-0-is t.gives in
     let less = i.less in
     let asked = i.asked in
     let handed = i.handed in
@@ -90,7 +90,7 @@ returns-then-not-branch-clause-gives g c =
     let from = c.loop-refusal.self in
     let mid = c.take.new.self in
     let t = c.in-Ok-None.ensures in
-    let gives = none_went g.A.Asked.of g.I.Items from mid _ c.in-Ok-None.field-0-is t.gives in
+    let gives = none_went g.I.Items from mid _ c.in-Ok-None.field-0-is t.gives in
     λ catalog limits first given h.
     let f = c.in_ok-refill.ensures in
     rw (f.ended (search rules)) at

@@ -18,28 +18,25 @@ returns-in-Err-clause-refuses g c = λ other u given h more.
 pub returns-in-Ok-clause-gives : goal.returns-in-Ok-clause-gives
 returns-in-Ok-clause-gives g c = λ u given h.
     let used = c.in-Ok.ensures.leaves.used in
-    let fits : c.in-Ok.used ≤ c.args.self.now.end - c.args.self.now.at = omega (arith, used, length-take {A = ℕ}, length-drop {A = ℕ}) in
+    let fits : c.in-Ok.step.used ≤ c.args.self.now.end - c.args.self.now.at = omega (arith, used, length-take {A = ℕ}, length-drop {A = ℕ}) in
     let total = g.met.I.Items.counted c.args.self.now.items u given h in
     let counted = c.requires.counted in
-    let stood = rw c.deref.ensures.value at (c.in-Ok.ensures.stands u given h) in (
-      stood.0,
-      stood.1,
-      went g.I.Items u given c.args.self.now.piece.items c.args.self.now.at c.args.self.now.end c.in-Ok.used (length u + c.in-Ok.used) _ stood.0 fits refl
-          (omega (arith, total, counted)) stood.2,
-    )
+    let stood = rw c.deref.ensures.value at (c.in-Ok.ensures.stands u given h) in
+    went g.I.Items u given c.args.self.now.piece.items c.args.self.now.at c.args.self.now.end c.in-Ok.step.used (length u + c.in-Ok.step.used) _
+    c.in-Ok.step.value fits refl (omega (arith, total, counted)) stood
 
 pub returns-in-Ok-clause-ready : goal.returns-in-Ok-clause-ready
 returns-in-Ok-clause-ready g c =
     let ready = c.requires in
     let used = c.in-Ok.ensures.leaves.used in
     let taken = c.in-Ok.ensures.leaves.counts in
-    let fits : c.in-Ok.used ≤ c.args.self.now.end - c.args.self.now.at = omega (arith, used, length-take {A = ℕ}, length-drop {A = ℕ}) in
+    let fits : c.in-Ok.step.used ≤ c.args.self.now.end - c.args.self.now.at = omega (arith, used, length-take {A = ℕ}, length-drop {A = ℕ}) in
     record {
       within = omega (arith, fits, ready.within);
       fits = ready.fits;
       piece = ready.piece;
       room = omega (arith, ready.room, ready.within, fits, taken);
-      begins = begins_drop (g.I.Items.awaits c.take.new.items) c.args.self.now.piece.items c.args.self.now.at c.args.self.now.end c.in-Ok.used fits
+      begins = begins_drop (g.I.Items.awaits c.step.new.self) c.args.self.now.piece.items c.args.self.now.at c.args.self.now.end c.in-Ok.step.used fits
           (rw c.deref.ensures.value at c.in-Ok.ensures.leaves.awaited);
       counted = omega (arith, ready.counted, taken);
     }
@@ -47,8 +44,8 @@ returns-in-Ok-clause-ready g c =
 pub returns-in-Ok-clause-nothing : goal.returns-in-Ok-clause-nothing
 returns-in-Ok-clause-nothing g c = λ asks.
     let used = c.in-Ok.ensures.leaves.used in
-    let fits : c.in-Ok.used ≤ c.args.self.now.end - c.args.self.now.at = omega (arith, used, length-take {A = ℕ}, length-drop {A = ℕ}) in
-    none_there c.in-Ok.found (λ some. let less = c.in-Ok.ensures.leaves.progress some in let owes = asks.owes in let used_up = asks.used_up in
+    let fits : c.in-Ok.step.used ≤ c.args.self.now.end - c.args.self.now.at = omega (arith, used, length-take {A = ℕ}, length-drop {A = ℕ}) in
+    none_there c.in-Ok.step.value (λ some. let less = c.in-Ok.ensures.leaves.progress some in let owes = asks.owes in let used_up = asks.used_up in
     absurd (omega (arith, less, owes, used_up, fits)))
 
 pub returns-in-Err-clause-none_refused : goal.returns-in-Err-clause-none_refused
