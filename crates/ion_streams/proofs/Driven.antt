@@ -56,9 +56,9 @@ module _ {V : Type 0} (takes : V → Event → V → Type 0) where
       let one = led_more takes (events_of v) ended m n b value end in
       let all = led_both takes (stream_events (plain given)) (events_of v ++ ended ∷ []) a m b before one in
       let values : stream_events (plain (given ++ (v, used) ∷ [])) ≡ stream_events (plain given) ++ (events_of v ++ ended ∷ []) =
-          ap stream_events (map-append (λ (x : Value × ℕ). x.0) given ((v, used) ∷ []))
-          ∙ flat_map-append (λ (x : Value). events_of x ++ ended ∷ []) (plain given) (v ∷ [])
-          ∙ ap (λ es. stream_events (plain given) ++ es) (append-nil (events_of v ++ ended ∷ [])) in
+      ap stream_events (map-append (λ (x : Value × ℕ). x.0) given ((v, used) ∷ []))
+      ∙ flat_map-append (λ (x : Value). events_of x ++ ended ∷ []) (plain given) (v ∷ [])
+      ∙ ap (λ es. stream_events (plain given) ++ es) (append-nil (events_of v ++ ended ∷ [])) in
       subst (λ (es : List Event). Led takes es a b) (sym values) all
 
   -- what is answered of a document that can't be read on

@@ -65,7 +65,6 @@ module _ {S : Type 0} (R : Inlet S) (old new : S) where
       }
 
 module _ {S X : Type 0} (R : Inlet S) (I : Items X) where
-
   -- a device whose end was answered before isn't asked again
   pub ended_unasked : (old now new : S) (source : Source X) → NoReadFailed R old now → (R.has_failed new ≡ false) ⊎ ((new ≡ now) × (source.ended ≡ true))
       → NoReadFailed R old new

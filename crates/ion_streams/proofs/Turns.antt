@@ -21,7 +21,6 @@ use Rattle.ion_streams.proofs.Pieces.{between_nil, none_awaited}
 use Rattle.ion_streams.proofs.Steps.{stood_plain}
 
 module _ {S : Type 0} (R : Inlet S) where
-
   -- what was handed over first, and then what was next
   pub on_more : (old mid now : S) → HandedOn R old mid → HandedOn R mid now → HandedOn R old now
   on_more old mid now one next = record {
