@@ -1,9 +1,10 @@
 -- What is made of values that tapes hold.
-use Rattle.std.proofs.Common.{◌≡◌, ℕ, ◌+◌, List, Bool, true, false, Option, Some, None, is_some, refl, ap, sym, subst, ◌∙◌}
+use Rattle.std.proofs.Common.{◌≡◌, ℕ, ◌+◌, ◌++◌, [], List, Bool, true, false, Option, Some, None, is_some, refl, ap, sym, subst, ◌∙◌}
 use Rattle.std.proofs.lemmas.Option.{same_Some}
 use Rattle.ion_model.specs.declared.value.Value.{Value}
 use Rattle.ion_model.specs.Same.{same}
 use Rattle.ion_model.specs.Parting.{IsPath}
+use Rattle.ion_model.specs.laws.Equivalence.{same-equiv}
 use Rattle.ion_model.specs.declared.path.Part.{Part}
 use Rattle.ion_visiting.specs.Building.{Built, builds, fresh, value_in}
 use Rattle.ion_visiting.specs.Events.{Event, Led, events_of}
@@ -11,7 +12,7 @@ use Rattle.ion_visiting.specs.Following.{StartsOn, follows}
 use Rattle.ion_visiting.specs.Tapes.{Holds, IsBlank, events_in, tapes}
 use Rattle.ion_visiting.specs.declared.following.Following.{Following}
 use Rattle.ion_visiting.specs.declared.tape.Tape.{Tape}
-use Rattle.ion_visiting.specs.laws.Built.{value_built}
+use Rattle.ion_visiting.specs.laws.Built.{events_one, value_built}
 use Rattle.ion_visiting.proofs.Followed.{followed}
 use Rattle.ion_visiting.proofs.Taped.{value_tells, value_wrote}
 use Rattle.ion_symtab.specs.declared.catalog.Catalog.{Catalog}
@@ -34,6 +35,12 @@ built_on t v w a b new led is held =
 -- where a tape is told and found on another, the values that they hold are equivalent
 pub found_on : (t u : Tape) (v w : Value) (a b : Following) → StartsOn t a → Led follows (events_in u) a b → Holds t v → Holds u w → same v w ≡ true
 found_on t u v w a b starts led h k = followed t v w a b h starts (subst (λ (es : List Event). Led follows es a b) (value_tells w u k) led)
+
+-- where two tapes tell the same, the values that they hold are the same
+pub same_on : (t u : Tape) (v w : Value) → events_in t ≡ events_in u → Holds t v → Holds u w → same v w ≡ true
+same_on t u v w alike h k =
+    let told : events_of v ++ [] ≡ events_of w ++ [] = ap (λ es. es ++ []) (sym (value_tells v t h) ∙ (alike ∙ value_tells w u k)) in
+    ap (λ x. same x w) (events_one v w [] [] told).0 ∙ same-equiv.refl w
 
 -- a value told to a tape that held nothing is held there
 pub taped_next : {S X : Type 0} (R : Inlet S) (I : Items X) (g : Catalog) (l : Limits) (first now : S) (place : Standing X) (given : List (Value × ℕ))

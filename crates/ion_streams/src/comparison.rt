@@ -69,19 +69,19 @@ enum Course {
 
 impl Course {
     /// Goes on behind the next value of each, which its tape holds, or the end of one; `Memory`
-    /// where a growth was refused.
+    /// where a growth was refused. What is on the tapes isn't needed any more.
     #[inline(always)]
     fn meet(
         &mut self,
         alloc: Global,
         gave: (bool, bool),
-        left: &Tape,
-        right: &Tape,
+        left: &mut Tape,
+        right: &mut Tape,
         frames: &mut Frames,
     ) -> Result<(), Fault>
         requires { count_of self.old + 1 < 2 ^ 64 }
         ensures met { OnOk result ((v w : Option Value) → is_some v ≡ gave.0 → is_some w ≡ gave.1 →
-            IfAlike self.old (λ _. AreHeld left.now right.now v w) → IsMet self.old v w self.new) }
+            IfAlike self.old (λ _. AreHeld left.old right.old v w) → IsMet self.old v w self.new) }
         ensures counted { OnOk result (count_of self.new ≤ count_of self.old + 1) }
         ensures cause { IfErr result (λ fault. fault ≡ Fault.Memory) }
     {
@@ -120,13 +120,13 @@ fn behind(
     alloc: Global,
     values: u64,
     gave: (bool, bool),
-    left: &Tape,
-    right: &Tape,
+    left: &mut Tape,
+    right: &mut Tape,
     frames: &mut Frames,
 ) -> Result<Course, Fault>
     requires { values + 1 < 2 ^ 64 }
     ensures met { IfOk result (λ met. (v w : Option Value) → is_some v ≡ gave.0 →
-        is_some w ≡ gave.1 → AreHeld left.now right.now v w → IsMet (Course.Alike values) v w met) }
+        is_some w ≡ gave.1 → AreHeld left.old right.old v w → IsMet (Course.Alike values) v w met) }
     ensures counted { IfOk result (λ met. count_of met ≤ values + 1) }
     ensures cause { IfErr result (λ fault. fault ≡ Fault.Memory) }
 {
@@ -152,26 +152,36 @@ fn ended_first(alloc: Global, index: u64) -> Course
 }
 
 /// The path to where the values part that two tapes hold; `None` where they are equivalent. Neither
-/// is built where the right one is found on the left tape.
+/// is built where the tapes are the same or the right one is found on the left tape.
 #[inline(always)]
 fn parting_on(
     alloc: Global,
-    left: &Tape,
-    right: &Tape,
+    left: &mut Tape,
+    right: &mut Tape,
     frames: &mut Frames,
 ) -> Result<Option<Path>, Fault>
-    ensures { MatchResult result (λ path. (v w : Value) → Holds left.now v → Holds right.now w →
+    ensures { MatchResult result (λ path. (v w : Value) → Holds left.old v → Holds right.old w →
         IsParting path v w) (λ fault. fault ≡ Fault.Memory) }
 {
-    if is_found(alloc, left, right, frames) {
+    if are_same(left, right) || is_found(alloc, left, right, frames) {
         return Ok(None);
     }
     parting_built(alloc, left, right)
 }
 
+/// Whether both tapes tell the same, as those of values that are equivalent mostly do.
+#[inline(always)]
+#[tactic(auto, using(crate::proofs::Taping::same_on))]
+fn are_same(left: &Tape, right: &Tape) -> bool
+    ensures { result ≡ true → (v w : Value) → Holds left.now v → Holds right.now w →
+        same v w ≡ true }
+{
+    left.is_same(right)
+}
+
 /// Whether the value that the right tape holds is found on the left one. It needn't be, where the
 /// two are equivalent. The memory of the search is used again.
-#[inline(always)]
+#[inline(never)]
 #[tactic(auto, using(crate::proofs::Taping::found_on))]
 fn is_found(alloc: Global, left: &Tape, right: &Tape, frames: &mut Frames) -> bool
     ensures { result ≡ true → (v w : Value) → Holds left.now v → Holds right.now w →
@@ -179,15 +189,15 @@ fn is_found(alloc: Global, left: &Tape, right: &Tape, frames: &mut Frames) -> bo
 {
     let taken = mem::replace(frames, Frames::new(alloc));
     let mut following = Following::with_frames(left, taken);
-    let found = right.tell(&mut following);
+    let found = following.finds(right);
     drop(mem::replace(frames, following.into_frames()));
     found
 }
 
-/// The same of values that are built.
+/// The same of values that are built. Each tape's memory is let go before the next value is built.
 #[inline(never)]
-fn parting_built(alloc: Global, left: &Tape, right: &Tape) -> Result<Option<Path>, Fault>
-    ensures { MatchResult result (λ path. (v w : Value) → Holds left.now v → Holds right.now w →
+fn parting_built(alloc: Global, left: &mut Tape, right: &mut Tape) -> Result<Option<Path>, Fault>
+    ensures { MatchResult result (λ path. (v w : Value) → Holds left.old v → Holds right.old w →
         IsParting path v w) (λ fault. fault ≡ Fault.Memory) }
 {
     let left = value_on(alloc, left)?;
@@ -204,14 +214,16 @@ fn parting_built(alloc: Global, left: &Tape, right: &Tape) -> Result<Option<Path
     parted.map_err(|_| Fault::Memory)
 }
 
-/// The value that a tape holds.
-fn value_on(alloc: Global, tape: &Tape) -> Result<Value, Fault>
-    ensures { MatchResult result (λ value. (v : Value) → Holds tape.now v → value ≡ v)
+/// The value that a tape holds. The tape's memory is let go.
+fn value_on(alloc: Global, tape: &mut Tape) -> Result<Value, Fault>
+    ensures { MatchResult result (λ value. (v : Value) → Holds tape.old v → value ≡ v)
         (λ fault. fault ≡ Fault.Memory) }
 {
+    let taken = mem::replace(tape, Tape::new(alloc));
     let mut building = Building::new(alloc);
-    let value = build(tape, &mut building);
+    let value = build(&taken, &mut building);
     drop(building);
+    drop(taken);
     value
 }
 
@@ -348,7 +360,7 @@ fn compare_places<I: Items + Drop, J: Items + Drop, L: Inlet, R: Inlet>(
         }
         let other = read_next(right_place, right, compared, &mut right_tape)?;
         let gave = (found.is_some(), other.is_some());
-        course.meet(alloc, gave, &left_tape, &right_tape, &mut frames)?;
+        course.meet(alloc, gave, &mut left_tape, &mut right_tape, &mut frames)?;
         if !left_place.is_open() && !right_place.is_open() {
             return Ok(course.verdict(right_place));
         }

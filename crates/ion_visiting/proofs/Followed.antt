@@ -1,4 +1,4 @@
--- What a visitor finds on a tape is a value that is equivalent to the one that lies there.
+-- What is found on a tape is a value that is equivalent to the one that lies there.
 use Rattle.std.proofs.Common.{◌≡◌, ◌≢◌, ℕ, zero, suc, ◌+◌, ◌≤◌, ◌<◌, ◌⊎◌, ◌/◌, ◌%◌, ◌^◌, Bool, true, false, List, [], ◌∷◌, ◌++◌, length, drop, set, replicate, slice_get, map, append_assoc, append-nil, Option, Some, inl, inr, refl, ap, sym, subst, ◌∙◌, arith}
 use Rattle.std.proofs.lemmas.Cmp.{lists_equiv}
 use lib.Pointwise.{pointwise}
@@ -58,6 +58,8 @@ text_no_note forms.Blob w = refl
 entry_note : (t : Tape) (e : Entry) (x : Event) → told t e ≡ Some x → is_annotation e ≡ note_event x
 entry_note t (entries.Null k) x h = ap note_event (some_one _ x h)
 entry_note t (entries.Truth b) x h = ap note_event (some_one _ x h)
+entry_note t (entries.Int z) x h = ap note_event (some_one _ x h)
+entry_note t (entries.Decimal b y m) x h = ap note_event (some_one _ x h)
 entry_note t (entries.Number n) x h = let y = some_told (slice_get t.numbers.items n) (λ m. part (number_payload m)) x h in ap note_event y.2
 entry_note t (entries.Unknown roles.Value) x h = ap note_event (some_one _ x h)
 entry_note t (entries.Unknown roles.Annotation) x h = ap note_event (some_one _ x h)
@@ -74,6 +76,8 @@ part_alone : (t : Tape) (e : Entry) (p : Payload) (i : ℕ) → told t e ≡ Som
 part_alone t (entries.Open x j) p i h = absurd cc
 part_alone t (entries.Null k) p i h = refl
 part_alone t (entries.Truth b) p i h = refl
+part_alone t (entries.Int z) p i h = refl
+part_alone t (entries.Decimal b y m) p i h = refl
 part_alone t (entries.Number n) p i h = refl
 part_alone t (entries.Unknown x) p i h = refl
 part_alone t (entries.Symbol x r) p i h = refl
@@ -138,7 +142,7 @@ module _ (t : Tape) where
   pub value_behind : (v : Value) (a b : Walk) → Told (walks t) v a b → Behind t a.at b.at
   value_behind _ _ _ (value_told ss p a m b n h) = notes_behind ss a m b.at n (payload_behind p m b h)
 
--- 3. The visitor, on one tape.
+-- 3. The search, on one tape.
 
 -- where it is, which fields are still to come, and the frames around
 pub record Seat : Type 0 where
@@ -621,7 +625,7 @@ module _ (t : Tape) where
       let all : s ∷ ss ≡ u ∷ us = ap (λ y. y ∷ ss) one ∙ ap (λ ys. u ∷ ys) r.are in
       record { are = all; at = r.at; frame = r.frame ∙ h.1.frame; outer = r.outer ∙ h.1.outer }
 
-  -- values are equivalent, and behind them the visitor is where the tape is
+  -- values are equivalent, and behind them the search is where the tape is
   record Followed (v w : Value) (y : Walk) (a b : Seat) : Type 0 where
     at : y.at ≡ b.at
     frame : b.frame ≡ a.frame

@@ -120,6 +120,8 @@ some_told None f x h = absurd cc
 told_kept : (t u : Tape) (e : Entry) (x : Event) → Longer t u → told t e ≡ Some x → told u e ≡ Some x
 told_kept t u (entries.Null k) x g h = h
 told_kept t u (entries.Truth b) x g h = h
+told_kept t u (entries.Int z) x g h = h
+told_kept t u (entries.Decimal b y m) x g h = h
 told_kept t u (entries.Number i) x g h =
     let y = some_told (slice_get t.numbers.items i) (λ n. part (number_payload n)) x h in
     ap (option_map (λ n. part (number_payload n)))
@@ -348,3 +350,23 @@ value_tells v t h =
     let all = events_walked t (events_of v) (record { at = 0; ends = [] }) (at t []) h in
     let none : drop (size t) t.entries.items ≡ [] = drop_all (size t) t.entries.items (omega arith) in
     all ∙ (ap (λ xs. events_of v ++ flat_map (λ e. option_to_list (told t e)) xs) none ∙ append-nil (events_of v))
+
+-- 6. Two tapes that have the same written down.
+
+text_same : (t u : Tape) (r : Range) → t.octets.items ≡ u.octets.items → text_at t r ≡ text_at u r
+text_same t u r o = ap (λ w. cond (nat_le (r.from + r.count) (length w)) (Some (take r.count (drop r.from w))) None) o
+
+told_same : (t u : Tape) (e : Entry) → t.octets.items ≡ u.octets.items → t.numbers.items ≡ u.numbers.items → told t e ≡ told u e
+told_same t u (entries.Number i) o n = ap (λ ns. option_map (λ m. part (number_payload m)) (slice_get ns i)) n
+told_same t u (entries.Symbol x r) o n = ap (option_map (λ w. symbol_event x (Some w))) (text_same t u r o)
+told_same t u (entries.Text x r) o n = ap (option_map (text_event x)) (text_same t u r o)
+told_same t u _ o n = refl
+
+-- they tell the same events
+pub same_events : (t u : Tape) → t.entries.items ≡ u.entries.items → t.octets.items ≡ u.octets.items → t.numbers.items ≡ u.numbers.items
+    → events_in t ≡ events_in u
+same_events t u e o n = ap (flat_map (λ e. option_to_list (told t e))) e ∙ all u.entries.items
+  where
+    all : (es : List Entry) → flat_map (λ e. option_to_list (told t e)) es ≡ flat_map (λ e. option_to_list (told u e)) es
+    all [] = refl
+    all (e ∷ es) = rw (told_same t u e o n, all es)

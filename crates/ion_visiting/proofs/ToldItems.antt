@@ -1,8 +1,13 @@
 -- What was told of a list's items so far, and of one more.
-use Rattle.std.proofs.Common.{◌≡◌, ℕ, ◌+◌, ◌<◌, ◌≤◌, List, [], ◌∷◌, ◌++◌, length, get_or, take, ap, sym, subst, ◌∙◌}
-use Rattle.std.proofs.lemmas.List.{take_all, take_more}
+use Rattle.std.proofs.Common.{◌≡◌, ℕ, ◌+◌, ◌<◌, ◌≤◌, List, [], ◌∷◌, ◌++◌, length, get_or, take, true, Option, Some, None, IfSome, refl, ap, sym, subst, ◌∙◌}
+use Rattle.std.specs.List.{flat_map}
+use Rattle.std.specs.Option.{is_some, option_to_list}
+use Rattle.std.proofs.lemmas.Grind.{flat_map-append}
+use Rattle.std.proofs.lemmas.List.{get_or_default, take_all, take_more}
 use Rattle.ion_visiting.specs.Events.{Event, Led, opens, closes, within}
 use Rattle.ion_visiting.specs.laws.Led.{led_both, led_more}
+
+-- 1. Of items, each of which tells some events.
 
 module _ {S X : Type 0} (takes : S → Event → S → Type 0) (told : List X → List Event) where
   -- an item's events, behind those of the items before it
@@ -17,3 +22,17 @@ module _ {S X : Type 0} (takes : S → Event → S → Type 0) (told : List X �
       → Led takes (within x (told xs)) a b
   told_within x xs i a m b all inside close = led_more takes (opens x ∷ told xs) (closes x) a m b
       (subst (λ ys. Led takes (opens x ∷ told ys) a m) (take_all i xs all) inside) close
+
+-- 2. Of entries, each of which tells one event.
+
+entry_told : {S : Type 0} (takes : S → Event → S → Type 0) (o : Option Event) (a b : S) → is_some o ≡ true → IfSome o (λ e. takes a e b)
+    → Led takes (option_to_list o ++ []) a b
+entry_told takes (Some e) a b h k = (b, k, refl)
+entry_told takes None a b h k = cc
+
+pub entry_next : {S X : Type 0} (takes : S → Event → S → Type 0) (f : X → Option Event) (xs : List X) (i : ℕ) (x : X) (a m b : S) → i < length xs
+    → Led takes (flat_map (λ e. option_to_list (f e)) (take i xs)) a m → is_some (f (get_or xs i x)) ≡ true → IfSome (f (get_or xs i x)) (λ e. takes m e b)
+    → Led takes (flat_map (λ e. option_to_list (f e)) (take (i + 1) xs)) a b
+entry_next takes f xs i x a m b small before some is =
+    told_next takes (flat_map (λ e. option_to_list (f e))) (flat_map-append (λ e. option_to_list (f e))) xs i (get_or xs i x) a m b small
+    (get_or_default xs i x (get_or xs i x) small) before (entry_told takes (f (get_or xs i x)) m b some is)

@@ -1,4 +1,4 @@
--- The visitor that finds on a tape what it is told.
+-- Finding on a tape what another tells, event by event.
 use Rattle.std.specs.Prelude.{◌≡◌, ◌+◌, ◌/◌, ◌%◌, ◌^◌, ◌++◌, ℕ, suc, [], ◌∷◌, List, slice_get, Bool, true, false, Option, Some}
 use Rattle.ion_visiting.specs.declared.bracket.Bracket.{Bracket}
 use Rattle.ion_visiting.specs.declared.bracket.Bracket.TheVariants as brackets
@@ -104,7 +104,7 @@ pub record Ascends (a : Following) (x : Bracket) (b : Following) : Type 0 where
   pub at : b.at ≡ place_in x a + 1
   pub outer : a.outer.items ≡ b.outer.items ++ b.frame ∷ []
 
--- the visitor
+-- where finding an event leads
 abbrev pub follows : Following → Event → Following → Type 0
 follows a (name s) b = Names a s b
 follows a (opens x) b = Descends a x b

@@ -37,6 +37,8 @@ text_at t r = cond (nat_le (r.from + r.count) (length t.octets.items)) (Some (ta
 abbrev pub told : Tape → Entry → Option Event
 told t (entries.Null k) = Some (part (payloads.Null k))
 told t (entries.Truth b) = Some (part (payloads.Truth b))
+told t (entries.Int z) = Some (part (payloads.Int z))
+told t (entries.Decimal b x m) = Some (part (payloads.Decimal (record { negative = b; magnitude = m; exponent = x })))
 told t (entries.Number i) = option_map (λ n. part (number_payload n)) (slice_get t.numbers.items i)
 told t (entries.Unknown x) = Some (symbol_event x None)
 told t (entries.Symbol x r) = option_map (λ w. symbol_event x (Some w)) (text_at t r)

@@ -1,13 +1,13 @@
-//! Finding a value on a tape as it is told, the fields of a struct in any order.
+//! Finding on one tape the value of another, the fields of a struct in any order.
 ghost use Rattle.std.specs.Prelude.{◌≡◌, ◌+◌, ◌<◌, ◌^◌, ℕ, true, IfSome, Some, option_map};
-ghost use Rattle.ion_visiting.specs.Events.{name};
-ghost use Rattle.ion_visiting.specs.Following.{Behind, IsField, Seeks, Skips, StartsOn, Takes, behind_payload, is_annotation};
-ghost use Rattle.ion_visiting.specs.Tapes.{Tells, told};
+ghost use Rattle.std.specs.Option.{is_some};
+ghost use Rattle.ion_visiting.specs.Events.{Led, closes, name, opens, part};
+ghost use Rattle.ion_visiting.specs.Following.{Behind, IsField, Seeks, Skips, StartsOn, Takes, behind_payload, follows, is_annotation};
+ghost use Rattle.ion_visiting.specs.Parts.{number_payload};
+ghost use Rattle.ion_visiting.specs.Tapes.{Tells, events_in, symbol_event, text_event, told};
 
 use crate::bracket::Bracket;
-use crate::part::Part;
-use crate::tape::{Entry, Role, Tape};
-use crate::visitor::Visitor;
+use crate::tape::{Entry, Form, Role, Tape};
 use ion_scalar::Number;
 use std::alloc::Global;
 
@@ -20,13 +20,13 @@ pub(crate) struct Frame {
     taken: u64,
 }
 
-/// The visitor that finds on a tape what it is told: the items of lists and s-expressions in their
-/// order, each field of a struct as the first of its name that isn't taken yet, of the 64 fields
-/// from the first on that is free.
+/// Finds on a tape what another tells: the items of lists and s-expressions in their order, each
+/// field of a struct as the first of its name that isn't taken yet, of the 64 fields from the first
+/// on that is free.
 ///
-/// It answers `false` where what it is told isn't there, and may do so of equivalent values: where
-/// a field stands further off, where fields of one name stand in another order, or where memory
-/// was refused. It takes memory for the containers that are open, 16 octets for each.
+/// It answers `false` where what the other tells isn't there, and may do so of equivalent values:
+/// where a field stands further off, where fields of one name stand in another order, or where
+/// memory was refused. It takes memory for the containers that are open, 16 octets for each.
 #[derive(Drop)]
 pub struct Following<'a> {
     tape: &'a Tape,
@@ -103,7 +103,7 @@ fn is_field(tape: &Tape, place: usize) -> bool
 
 // Whether this name stands there.
 #[inline(always)]
-fn is_name(tape: &Tape, place: usize, text: Option<&str>) -> bool
+fn is_name(tape: &Tape, place: usize, text: Option<&[u8]>) -> bool
     ensures { result ≡ true →
         Tells tape.now place (name (option_map (λ t. t.now) text.entry)) }
 {
@@ -157,7 +157,7 @@ fn behind_value(tape: &Tape, from: usize) -> usize
 
 // The first field of this name that isn't taken: where it stands, and its bit.
 #[tactic(auto, using(crate::proofs::Sought::field_within))]
-fn seek(tape: &Tape, frame: Frame, text: Option<&str>) -> Option<(usize, u64)>
+fn seek(tape: &Tape, frame: Frame, text: Option<&[u8]>) -> Option<(usize, u64)>
     ensures { IfSome result (λ field.
         Seeks tape.now frame (option_map (λ t. t.now) text.entry) field.0 field.1) }
 {
@@ -199,21 +199,54 @@ fn skip_taken(tape: &Tape, frame: Frame) -> Option<Frame>
     Some(Frame { free, taken })
 }
 
-impl Visitor for Following<'_> {
-    ghost use Rattle.ion_visiting.specs.Following.{follows};
-
-    ghost takes = { follows };
-
+impl Following<'_> {
+    /// Whether what another tape tells is found from here on. Where it isn't, the state means
+    /// nothing any more.
     #[inline(always)]
-    fn part(&mut self, said: &Part<'_>) -> bool {
-        match self.take() {
-            Some(entry) => self.tape.tells_part(entry, said),
-            None => false,
+    pub fn finds(&mut self, other: &Tape) -> bool
+        ensures { result ≡ true → Led follows (events_in other.now) self.old self.new }
+    {
+        let entries = other.entries.as_slice();
+        for entry in entries {
+            if !self.finds_entry(other, *entry) {
+                return false;
+            }
+        }
+        true
+    }
+
+    // Whether what this entry of the other tape tells is found.
+    #[inline(always)]
+    fn finds_entry(&mut self, other: &Tape, entry: Entry) -> bool
+        ensures told { result ≡ true →
+            IfSome (told other.now entry) (λ e. follows self.old e self.new) }
+        ensures some { result ≡ true → is_some (told other.now entry) ≡ true }
+    {
+        match entry {
+            Entry::Unknown(role) => self.finds_symbol(role, None),
+            Entry::Symbol(role, range) => match other.text(range) {
+                Some(text) => self.finds_symbol(role, Some(text)),
+                None => false,
+            },
+            Entry::Text(form, range) => match other.text(range) {
+                Some(octets) => self.finds_text(form, octets),
+                None => false,
+            },
+            Entry::Number(place) => match other.number_at(place) {
+                Some(number) => self.finds_number(number),
+                None => false,
+            },
+            Entry::Open(bracket, _) => self.finds_open(bracket),
+            Entry::Close(bracket) => self.finds_close(bracket),
+            plain => self.take() == Some(plain),
         }
     }
 
     #[inline(always)]
-    fn number(&mut self, number: Number) -> bool {
+    fn finds_number(&mut self, number: &Number) -> bool
+        ensures { result ≡ true →
+            follows self.old (part (number_payload number.now)) self.new }
+    {
         match self.take() {
             Some(entry) => self.tape.tells_number(entry, number),
             None => false,
@@ -221,22 +254,33 @@ impl Visitor for Following<'_> {
     }
 
     #[inline(always)]
-    fn unknown_symbol(&mut self) -> bool {
+    fn finds_text(&mut self, form: Form, octets: &[u8]) -> bool
+        ensures { result ≡ true → follows self.old (text_event form octets.now) self.new }
+    {
         match self.take() {
-            Some(entry) => self.tape.tells_symbol(entry, Role::Value, None),
+            Some(entry) => self.tape.tells_text(entry, form, octets),
             None => false,
         }
     }
 
     #[inline(always)]
-    fn annotation(&mut self, text: Option<&str>) -> bool {
+    fn finds_symbol(&mut self, role: Role, text: Option<&[u8]>) -> bool
+        ensures { result ≡ true → follows self.old
+            (symbol_event role (option_map (λ t. t.now) text.entry)) self.new }
+    {
+        if role == Role::Name {
+            return self.finds_name(text);
+        }
         match self.take() {
-            Some(entry) => self.tape.tells_symbol(entry, Role::Annotation, text),
+            Some(entry) => self.tape.tells_symbol(entry, role, text),
             None => false,
         }
     }
 
-    fn name(&mut self, text: Option<&str>) -> bool {
+    fn finds_name(&mut self, text: Option<&[u8]>) -> bool
+        ensures { result ≡ true →
+            follows self.old (name (option_map (λ t. t.now) text.entry)) self.new }
+    {
         let Some((place, bit)) = seek(self.tape, self.frame, text) else {
             return false;
         };
@@ -253,7 +297,9 @@ impl Visitor for Following<'_> {
     }
 
     #[inline(always)]
-    fn open(&mut self, bracket: Bracket) -> bool {
+    fn finds_open(&mut self, bracket: Bracket) -> bool
+        ensures { result ≡ true → follows self.old (opens bracket) self.new }
+    {
         let Some(Entry::Open(own, _)) = self.take() else {
             return false;
         };
@@ -267,7 +313,9 @@ impl Visitor for Following<'_> {
     }
 
     #[inline(always)]
-    fn close(&mut self, bracket: Bracket) -> bool {
+    fn finds_close(&mut self, bracket: Bracket) -> bool
+        ensures { result ≡ true → follows self.old (closes bracket) self.new }
+    {
         if bracket == Bracket::Fields {
             self.at = self.frame.free;
         }
@@ -279,10 +327,5 @@ impl Visitor for Following<'_> {
         };
         self.frame = frame;
         own == bracket
-    }
-
-    #[inline(always)]
-    fn ended(&mut self) -> bool {
-        true
     }
 }

@@ -68,8 +68,8 @@ pub fn value_wrote()
     ensures tells { (v : Value) (t : Tape) → Holds t v → events_in t ≡ events_of v }
 {}
 
-/// Where a tape holds a value, and a visitor that follows it from its front was led on by the
-/// events of another, the two are equivalent.
+/// Where a tape holds a value, and the events of another were found there from its front on, the two
+/// are equivalent.
 pub fn value_followed()
     ensures { (t : Tape) (v w : Value) (a b : Following) → Holds t v → StartsOn t a
         → Led follows (events_of w) a b → same v w ≡ true }

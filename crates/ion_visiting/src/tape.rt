@@ -1,5 +1,5 @@
 //! Values written down event by event, in whatever encoding they were read.
-ghost use Rattle.std.specs.Prelude.{◌≡◌, ◌+◌, ◌++◌, ◌∷◌, [], ℕ, true, IfSome, Some, option_map};
+ghost use Rattle.std.specs.Prelude.{◌≡◌, ◌+◌, ◌++◌, ◌∷◌, [], ℕ, true, IfSome, Some, option_map, slice_get};
 ghost use Rattle.std.specs.Option.{is_some};
 ghost use Rattle.ion_visiting.specs.Events.{Led, part};
 ghost use Rattle.ion_visiting.specs.Parts.{number_payload, payload_of};
@@ -8,13 +8,14 @@ ghost use Rattle.ion_visiting.specs.Tapes.{Grows, IsBlank, Rests, Writes, events
 use crate::bracket::Bracket;
 use crate::part::Part;
 use crate::visitor::Visitor;
+use ion_atoms::{Decimal, Whole};
 use ion_model::Kind;
 use ion_scalar::Number;
 use std::alloc::Global;
 use std::str;
 
 /// Where a text stands among the octets of a tape.
-#[derive(Clone, Copy)]
+#[derive(Clone, Copy, PartialEq, Eq)]
 pub(crate) struct Range {
     from: u32,
     count: u32,
@@ -36,12 +37,15 @@ pub(crate) enum Form {
     Blob,
 }
 
-/// An event as it is written down. Texts and numbers stand beside the entries.
-#[derive(Clone, Copy)]
+/// An event as it is written down. Texts stand beside the entries, and numbers that don't fit one.
+#[derive(Clone, Copy, PartialEq, Eq)]
 pub(crate) enum Entry {
     Null(Kind),
     Truth(bool),
-    /// By its place among the numbers.
+    Int(i64),
+    /// By its sign, its exponent and its magnitude.
+    Decimal(bool, i32, u64),
+    /// Any other number, by its place among the numbers.
     Number(u32),
     /// A symbol of unknown text.
     Unknown(Role),
@@ -52,8 +56,11 @@ pub(crate) enum Entry {
     Close(Bracket),
 }
 
+const _: () = prove!(size_of::<Entry>() == 16);
+
 /// The visitor that writes down what it is told, to be told again or to be found there by
-/// `Following`. An event takes 12 to 16 octets, its text as many as it has, a number 40.
+/// `Following`. An event takes 16 octets, its text as many as it has. A timestamp takes 40 more, and
+/// so does an int outside of 64 bits or a decimal whose magnitude is.
 ///
 /// It answers `false` where memory was refused, and beyond 2^32-1 events, numbers or octets of
 /// texts; `clear` begins anew.
@@ -142,9 +149,29 @@ impl Tape {
         }
     }
 
-    // The text that stands there.
     #[inline(always)]
-    fn text(&self, range: Range) -> Option<&[u8]>
+    #[tactic(auto, using(crate::proofs::Taped::number_writes))]
+    fn write_number(&mut self, number: Number) -> bool
+        ensures { result ≡ true → Writes self.old self.new (part (number_payload number)) }
+    {
+        let place = self.numbers.len();
+        if place > u32::MAX as usize || !self.numbers.push(number).is_ok() {
+            return false;
+        }
+        self.put(Entry::Number(place as u32))
+    }
+
+    /// The number that stands there.
+    #[inline(always)]
+    pub(crate) fn number_at(&self, place: u32) -> Option<&Number>
+        ensures { option_map (λ n. n.now) result ≡ slice_get self.now.numbers.items place }
+    {
+        self.numbers.get(place as usize)
+    }
+
+    /// The text that stands there.
+    #[inline(always)]
+    pub(crate) fn text(&self, range: Range) -> Option<&[u8]>
         ensures { option_map (λ t. t.now) result ≡ text_at self.now range }
     {
         let from = range.from as usize;
@@ -168,15 +195,13 @@ impl Tape {
 
     /// Whether this entry tells this symbol.
     #[inline(always)]
-    pub(crate) fn tells_symbol(&self, entry: Entry, role: Role, text: Option<&str>) -> bool
+    pub(crate) fn tells_symbol(&self, entry: Entry, role: Role, text: Option<&[u8]>) -> bool
         ensures { result ≡ true → told self.now entry
             ≡ Some (symbol_event role (option_map (λ t. t.now) text.entry)) }
     {
         match (entry, text) {
             (Entry::Unknown(own), None) => own == role,
-            (Entry::Symbol(own, range), Some(text)) => {
-                own == role && self.has_text(range, text.as_bytes())
-            }
+            (Entry::Symbol(own, range), Some(text)) => own == role && self.has_text(range, text),
             _ => false,
         }
     }
@@ -192,33 +217,30 @@ impl Tape {
         }
     }
 
-    /// Whether this entry tells this number.
+    /// Whether this entry tells this number, which fits no entry.
     #[inline(always)]
-    pub(crate) fn tells_number(&self, entry: Entry, number: Number) -> bool
-        ensures { result ≡ true → told self.now entry ≡ Some (part (number_payload number)) }
+    pub(crate) fn tells_number(&self, entry: Entry, number: &Number) -> bool
+        ensures { result ≡ true → told self.now entry ≡ Some (part (number_payload number.now)) }
     {
         let Entry::Number(place) = entry else {
             return false;
         };
-        match self.numbers.get(place as usize) {
-            Some(own) => same_number(own, &number),
+        match self.number_at(place) {
+            Some(own) => own == number,
             None => false,
         }
     }
 
-    /// Whether this entry tells this part.
+    /// Whether both have the same written down: it takes one comparison for each entry, and another
+    /// of all texts. Equivalent values needn't be the same.
     #[inline(always)]
-    pub(crate) fn tells_part(&self, entry: Entry, said: &Part<'_>) -> bool
-        ensures { result ≡ true → told self.now entry ≡ Some (part (payload_of said.now)) }
+    #[tactic(auto, using(crate::proofs::Taped::same_events))]
+    pub fn is_same(&self, other: &Tape) -> bool
+        ensures { result ≡ true → events_in self.now ≡ events_in other.now }
     {
-        match said {
-            Part::Null(kind) => matches!(entry, Entry::Null(own) if own == *kind),
-            Part::Truth(truth) => matches!(entry, Entry::Truth(own) if own == *truth),
-            Part::Symbol(text) => self.tells_symbol(entry, Role::Value, Some(text)),
-            Part::Str(text) => self.tells_text(entry, Form::Str, text.as_bytes()),
-            Part::Clob(octets) => self.tells_text(entry, Form::Clob, octets),
-            Part::Blob(octets) => self.tells_text(entry, Form::Blob, octets),
-        }
+        same_entries(&self.entries, &other.entries)
+            && self.octets == other.octets
+            && same_numbers(&self.numbers, &other.numbers)
     }
 
     /// Tells a visitor what was written down; `false` where the visitor answered so, of which the
@@ -246,7 +268,17 @@ impl Tape {
         match entry {
             Entry::Null(kind) => visitor.part(&Part::Null(kind)),
             Entry::Truth(truth) => visitor.part(&Part::Truth(truth)),
-            Entry::Number(place) => match self.numbers.get(place as usize) {
+            Entry::Int(value) => match Whole::new(i128::from(value)) {
+                Some(whole) => visitor.number(Number::Int(whole)),
+                None => false,
+            },
+            Entry::Decimal(negative, exponent, magnitude) => {
+                match Decimal::new(negative, u128::from(magnitude), exponent) {
+                    Some(decimal) => visitor.number(Number::Decimal(decimal)),
+                    None => false,
+                }
+            }
+            Entry::Number(place) => match self.number_at(place) {
                 Some(number) => visitor.number(*number),
                 None => false,
             },
@@ -269,17 +301,57 @@ impl Tape {
 }
 
 #[inline(always)]
-fn same_number(number: &Number, other: &Number) -> bool
-    ensures { result ≡ true → number.now ≡ other.now }
+fn same_entries(entries: &[Entry], others: &[Entry]) -> bool
+    ensures { result ≡ true → entries.now ≡ others.now }
+{
+    if entries.len() != others.len() {
+        return false;
+    }
+    for place in 0..entries.len() {
+        if entries[place] != others[place] {
+            return false;
+        }
+    }
+    true
+}
+
+#[inline(never)]
+fn same_numbers(numbers: &[Number], others: &[Number]) -> bool
+    ensures { result ≡ true → numbers.now ≡ others.now }
+{
+    if numbers.len() != others.len() {
+        return false;
+    }
+    for place in 0..numbers.len() {
+        if numbers[place] != others[place] {
+            return false;
+        }
+    }
+    true
+}
+
+// A number that fits an entry, as that entry.
+#[inline(always)]
+fn short_entry(number: &Number) -> Option<Entry>
+    ensures { IfSome result (λ entry. (t : Tape) →
+        told t entry ≡ Some (part (number_payload number.now))) }
 {
     match number {
-        Number::Int(whole) => matches!(other, Number::Int(other) if whole == other),
+        Number::Int(whole) => {
+            let value = whole.get();
+            if value < i128::from(i64::MIN) || value > i128::from(i64::MAX) {
+                return None;
+            }
+            Some(Entry::Int(value as i64))
+        }
         Number::Decimal(decimal) => {
-            matches!(other, Number::Decimal(other) if decimal.same(*other))
+            let magnitude = decimal.magnitude();
+            if magnitude > u128::from(u64::MAX) {
+                return None;
+            }
+            Some(Entry::Decimal(decimal.negative(), decimal.exponent(), magnitude as u64))
         }
-        Number::Timestamp(timestamp) => {
-            matches!(other, Number::Timestamp(other) if timestamp.same(*other))
-        }
+        Number::Timestamp(_) => None,
     }
 }
 
@@ -330,13 +402,11 @@ impl Visitor for Tape {
     }
 
     #[inline(always)]
-    #[tactic(auto, using(crate::proofs::Taped::number_writes))]
     fn number(&mut self, number: Number) -> bool {
-        let place = self.numbers.len();
-        if place > u32::MAX as usize || !self.numbers.push(number).is_ok() {
-            return false;
+        match short_entry(&number) {
+            Some(entry) => self.put(entry),
+            None => self.write_number(number),
         }
-        self.put(Entry::Number(place as u32))
     }
 
     #[inline(always)]

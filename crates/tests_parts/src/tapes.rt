@@ -24,16 +24,25 @@ fn nested(alloc: Global, text: &str, reordered: bool) -> Result<Value, Reason> {
     Value::record(alloc, outer)
 }
 
-/// Whether a value is found on the tape of another. Both are let go.
-fn is_found(alloc: Global, written: Value, value: Value) -> bool {
+/// The tape of a value, which is let go.
+fn taped(alloc: Global, value: Value) -> Tape {
     let mut tape = Tape::new(alloc);
-    let wrote = tell(&written, &mut tape);
+    if !tell(&value, &mut tape) {
+        tape.clear();
+    }
+    drop(value);
+    tape
+}
+
+/// Whether the tapes of two values are the same, and whether the second value is found on the tape
+/// of the first. Both are let go.
+fn is_found(alloc: Global, written: Value, value: Value) -> (bool, bool) {
+    let (tape, other) = (taped(alloc, written), taped(alloc, value));
     let mut following = Following::new(alloc, &tape);
-    let found = wrote && tell(&value, &mut following);
+    let found = (tape.is_same(&other), following.finds(&other));
     drop(following);
     drop(tape);
-    drop(written);
-    drop(value);
+    drop(other);
     found
 }
 
@@ -42,7 +51,8 @@ fn fields_are_found_in_any_order(rt: HostRuntime) -> Result<(), Fail> {
     for row in &[(false, false), (false, true), (true, false)] {
         let written = nested(rt.alloc(), "text", row.0)?;
         let value = nested(rt.alloc(), "text", row.1)?;
-        same(&rt, *row, is_found(rt.alloc(), written, value), true);
+        let found = is_found(rt.alloc(), written, value);
+        same(&rt, *row, found, (row.0 == row.1, true));
     }
     Ok(())
 }
@@ -52,7 +62,8 @@ fn another_text_is_not_found(rt: HostRuntime) -> Result<(), Fail> {
     for text in &["texts", "tex", "test"] {
         let written = nested(rt.alloc(), "text", false)?;
         let value = nested(rt.alloc(), *text, true)?;
-        same(&rt, *text, is_found(rt.alloc(), written, value), false);
+        let found = is_found(rt.alloc(), written, value);
+        same(&rt, *text, found, (false, false));
     }
     Ok(())
 }
@@ -60,15 +71,14 @@ fn another_text_is_not_found(rt: HostRuntime) -> Result<(), Fail> {
 /// Whether two values are found on the tape of another, the second one with the memory of the search
 /// for the first. All are let go.
 fn are_found(alloc: Global, written: Value, first: Value, second: Value) -> (bool, bool) {
-    let mut tape = Tape::new(alloc);
-    let wrote = tell(&written, &mut tape);
+    let tape = taped(alloc, written);
+    let (first, second) = (taped(alloc, first), taped(alloc, second));
     let mut following = Following::new(alloc, &tape);
-    let found = wrote && tell(&first, &mut following);
+    let found = following.finds(&first);
     let mut following = Following::with_frames(&tape, following.into_frames());
-    let other = wrote && tell(&second, &mut following);
+    let other = following.finds(&second);
     drop(following);
     drop(tape);
-    drop(written);
     drop(first);
     drop(second);
     (found, other)
