@@ -1,7 +1,7 @@
 //! Values written on a tape, told again from there, and found there. What is owned is let go by a
 //! call of `drop`, as in `model.rt`.
 use crate::answers::same;
-use ion_model::{Reason, Value};
+use ion_model::{Decimal, Payload, Reason, Value, Whole};
 use ion_visiting::{Building, Following, Tape, tell};
 use std::alloc::Global;
 use std::test::Fail;
@@ -115,5 +115,43 @@ fn is_told_again(alloc: Global, value: Value) -> bool {
 fn a_tape_tells_what_it_was_told(rt: HostRuntime) -> Result<(), Fail> {
     let value = nested(rt.alloc(), "text", false)?;
     same(&rt, "the value", is_told_again(rt.alloc(), value), true);
+    Ok(())
+}
+
+/// The decimal of this sign, magnitude and exponent; the int where there is no exponent.
+fn number(alloc: Global, negative: bool, magnitude: u128, exponent: Option<i32>) -> Option<Value> {
+    if let Some(exponent) = exponent {
+        let decimal = Decimal::new(negative, magnitude, exponent)?;
+        return Some(Value::decimal(alloc, decimal));
+    }
+    let whole = magnitude.cast_signed();
+    let whole = Whole::new(if negative {
+        whole.checked_neg()?
+    } else {
+        whole
+    })?;
+    Some(Value::bare(alloc, Payload::Int(whole)))
+}
+
+/// Numbers stand in an entry of the tape or beside it.
+#[test]
+fn numbers_of_any_length_are_told_again(rt: HostRuntime) -> Result<(), Fail> {
+    let alloc = rt.alloc();
+    for magnitude in &[
+        0,
+        (1 << 63) - 1,
+        1 << 63,
+        (1 << 63) + 1,
+        (1 << 64) - 1,
+        1 << 64,
+    ] {
+        for exponent in &[None, Some(0), Some(i32::MIN)] {
+            for negative in &[false, true] {
+                let value = number(alloc, *negative, *magnitude, *exponent);
+                let told = value.map(|value| is_told_again(alloc, value));
+                same(&rt, (*negative, *magnitude, *exponent), told, Some(true));
+            }
+        }
+    }
     Ok(())
 }
