@@ -22,6 +22,7 @@ mod usual_token;
 pub use decimal_body::{decimal_of, is_decimal_body};
 pub use descriptor::{Descriptor, Size};
 pub use fields::{Signed, int_of, is_uint, read_var_int, read_var_uint, uint_of};
+pub use ints::split_sign;
 pub use number::{Number, number_of};
 pub use put::{put_decimal, put_int, put_uint, put_var_int, put_var_uint};
 pub use text::put_number;

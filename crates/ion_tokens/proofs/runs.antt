@@ -14,3 +14,4 @@ pub mod Scans
 pub mod Splits
 pub mod WholeComments
 pub mod WholeTokens
+pub mod PlainNumerals

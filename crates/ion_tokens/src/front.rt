@@ -1,13 +1,13 @@
 //! Octets at the front of a piece with which the mode goes on as it is: they are taken up at once.
-ghost use Rattle.std.specs.Prelude.{◌≡◌, ◌+◌, ◌-◌, ◌^◌, ◌<◌, ◌≤◌, min, length, take, IfOk, IsUtf8, false};
+ghost use Rattle.std.specs.Prelude.{◌≡◌, ◌+◌, ◌-◌, ◌^◌, ◌<◌, ◌≤◌, min, length, take, IfOk, IfSome, IsUtf8, false};
 ghost use Rattle.std.specs.List.{take_while};
-ghost use Rattle.ion_tokens.specs.Octets.{is_base64, is_white, is_word_octet};
+ghost use Rattle.ion_tokens.specs.Octets.{is_base64, is_digit, is_white, is_word_octet};
 ghost use Rattle.ion_tokens.specs.Lexemes.{Each};
 ghost use Rattle.ion_tokens.specs.machine.AtOnce.{is_between, is_plain, is_raw, is_numeric, is_plain_operator, goes_on, keeps_them, gone_on, AreKept, GoesOver};
 ghost use Rattle.ion_tokens.specs.machine.Machines.{known};
 ghost use Rattle.ion_tokens.specs.declared.mode.Mode.TheVariants as modes;
 
-use crate::lanes::{base64_ends, number_ends, raw_ends, stars, text_ends, word_ends};
+use crate::lanes::{base64_ends, digit_ends, number_ends, raw_ends, stars, text_ends, word_ends};
 use crate::machine::{Machine, start_of};
 use crate::mode::{Lob, Mode, Style, Within};
 use crate::octets::{is_base64, is_line_end, is_operator_octet, is_stop, is_white, is_word_octet};
@@ -171,6 +171,21 @@ fn each_of_word(octets: &[u8]) -> usize
         .copied()
         .take_while(|octet| is_word_octet(*octet))
         .count()
+}
+
+/// How many digits there are at the front, where sixteen octets show their end.
+#[inline(always)]
+pub fn few_digits(octets: &[u8]) -> Option<usize>
+    ensures { IfSome result (λ count. count ≡ length (take_while is_digit octets.now)) }
+{
+    if octets.len() < 16 {
+        return None;
+    }
+    let ends = digit_ends(u8x16::from_slice(octets));
+    if ends == 0 {
+        return None;
+    }
+    Some(ends.trailing_zeros() as usize)
 }
 
 /// How many octets there are at the front with which a number goes on.

@@ -1,7 +1,7 @@
 //! Which of sixteen octets end a run, as the bits of a number, the first octet's lowest.
 ghost use Rattle.std.specs.Prelude.{◌≡◌, map, not, if◌then◌else◌};
 ghost use Rattle.std.specs.Simd.Lanes.{mask_l};
-ghost use Rattle.ion_tokens.specs.Octets.{is_base64, is_word_octet};
+ghost use Rattle.ion_tokens.specs.Octets.{is_base64, is_digit, is_word_octet};
 ghost use Rattle.ion_tokens.specs.machine.AtOnce.{goes_on, is_between, is_raw, is_numeric};
 ghost use Rattle.ion_tokens.specs.declared.mode.Mode.TheVariants as modes;
 
@@ -53,6 +53,16 @@ pub fn word_ends(octets: u8x16) -> u64
         & digit.simd_ge(u8x16::splat(10))
         & octets.simd_ne(u8x16::splat(b'_'))
         & octets.simd_ne(u8x16::splat(b'$'))).to_bitmask()
+}
+
+/// The octets that are no digits.
+#[inline(always)]
+pub fn digit_ends(octets: u8x16) -> u64
+    ensures { result ≡ mask_l (map (λ o. not (is_digit o)) octets) }
+{
+    (octets - u8x16::splat(b'0'))
+        .simd_ge(u8x16::splat(10))
+        .to_bitmask()
 }
 
 /// The octets with which no number goes on.

@@ -1,19 +1,26 @@
 //! Blanks and plain tokens that lie whole in memory, read where a scanner rests. What is cut,
 //! refused or unusual isn't told here: the scanner takes it up octet by octet.
-ghost use Rattle.std.specs.Prelude.{◌≡◌, ◌+◌, ◌-◌, ◌<◌, ◌≤◌, ◌∷◌, ◌^◌, ℕ, List, Some, false, true, length, take, drop, IfSome, IsUtf8};
+ghost use Rattle.std.specs.Prelude.{◌≡◌, ◌≢◌, ◌+◌, ◌-◌, ◌<◌, ◌≤◌, ◌∷◌, ◌^◌, ℕ, List, Some, Ok, false, true, length, get_or, take, drop, IfSome, IsUtf8};
 ghost use Rattle.std.specs.List.{take_while};
+ghost use Rattle.ion_scalar.specs.declared.number.Number.{Number};
+ghost use Rattle.ion_scalar.specs.text.Numbers.{ReadsNumber};
+ghost use Rattle.ion_scalar.specs.text.laws.PlainNumerals.{PlainNumeral};
 ghost use Rattle.ion_tokens.specs.Bodies.{kind_named};
-ghost use Rattle.ion_tokens.specs.Octets.{is_white};
+ghost use Rattle.ion_tokens.specs.Octets.{is_digit, is_white};
 ghost use Rattle.ion_tokens.specs.Places.{is_name};
 ghost use Rattle.ion_tokens.specs.machine.Rests.{past_blank, past_token, IsPassed, IsFound};
 ghost use Rattle.ion_tokens.specs.declared.mode.Place.{Place};
 
 use crate::body::kind_named;
-use crate::front::{characters, of_number, of_operator, of_word, white};
+use crate::front::{characters, few_digits, of_number, of_operator, of_word, white};
 use crate::machine::takes_colon;
 use crate::mode::{Place, Style, TokenKind};
-use crate::octets::{begins_word, is_digit};
+use crate::octets::{begins_word, is_digit, is_stop};
 use ion_atoms::Kind;
+use ion_scalar::split_sign;
+
+// So many octets behind its sign has a numeral that is told of without its value, at most.
+const MOST_OF_NUMERAL: usize = 19;
 
 /// Where a scanner rests: no token is open.
 #[derive(Clone, Copy, Debug, PartialEq, Eq)]
@@ -125,6 +132,61 @@ pub fn number(octets: &[u8]) -> Option<usize>
         return None;
     }
     Some(count)
+}
+
+// How many octets these digits at the front have, with a point and the digits behind it if there are.
+#[inline(always)]
+fn with_fraction(octets: &[u8], whole: usize) -> Option<usize>
+    requires digits { whole ≡ length (take_while is_digit octets.now) }
+    requires some { 0 < whole }
+    requires few { whole ≤ 19 }
+    requires first { 1 < whole → get_or octets.now 0 0 ≢ 48 }
+    ensures { IfSome result (λ count. PlainNumeral octets.now count) }
+{
+    if whole >= octets.len() || octets[whole] != b'.' {
+        return Some(whole);
+    }
+    let fraction = few_digits(&octets[whole + 1..])?;
+    let count = whole + 1 + fraction;
+    if count > MOST_OF_NUMERAL {
+        return None;
+    }
+    Some(count)
+}
+
+// How many octets the int or decimal of plain digits at the front has, behind its sign.
+#[inline(always)]
+fn numeral_body(octets: &[u8]) -> Option<usize>
+    ensures { IfSome result (λ count. PlainNumeral octets.now count) }
+{
+    let whole = few_digits(octets)?;
+    if whole == 0 || whole > MOST_OF_NUMERAL || octets.is_empty() {
+        return None;
+    }
+    if octets[0] == b'0' && whole > 1 {
+        return None;
+    }
+    with_fraction(octets, whole)
+}
+
+/// How many octets the int or decimal at the front has, if it is of few digits, and maybe a sign and
+/// a point, and the octet behind it shows its end. Such a token is a number, whichever. What is
+/// longer, has another form or stands near the end of the octets isn't told of here. No field's name
+/// stands there.
+#[inline(always)]
+pub fn plain_numeral(octets: &[u8]) -> Option<usize>
+    ensures found { IfSome result (λ count. (place : Place) (rest : Rest) → is_name place ≡ false →
+        IsFound place rest octets.now TokenKind.Number (take count octets.now) count true) }
+    ensures reads { IfSome result (λ count. (number : Number)
+        × ReadsNumber (take count octets.now) (Ok number)) }
+    ensures within { IfSome result (λ count. count < length octets.now) }
+{
+    let (_negative, body) = split_sign(octets);
+    let count = numeral_body(body)?;
+    if count >= body.len() || !is_stop(body[count]) {
+        return None;
+    }
+    Some(octets.len() - body.len() + count)
 }
 
 /// How many octets the operator at the front has, if it has no `/` and the octet behind it shows

@@ -6,6 +6,7 @@ pub mod DecimalTails
 pub mod DecimalCuts
 pub mod Unsigned
 pub mod ShortNumbers
+pub mod PlainNumerals
 pub mod UsualTokens
 pub mod TimestampForms
 pub mod OneNumber

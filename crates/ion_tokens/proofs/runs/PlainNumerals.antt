@@ -1,0 +1,152 @@
+-- How octets in memory show that an int or a decimal of plain digits stands whole at their front.
+use Rattle.std.proofs.Common.{◌≡◌, ◌≢◌, inl, inr, ℕ, ◌+◌, ◌-◌, ◌<◌, ◌≤◌, zero, suc, Bool, true, false, List, [], ◌∷◌, ◌++◌, length, take, drop, get_or, refl, sym, ap, ◌∙◌, subst, arith, length-drop}
+use Rattle.std.specs.Prelude.{◌==◌, ◌||◌, not, slice_index, Ok}
+use Rattle.std.specs.List.{take_while, prefix_len}
+use Rattle.std.proofs.lemmas.Bool.{cases_order}
+use Rattle.std.proofs.lemmas.Bool.Decides.{nat_tests}
+use Rattle.std.proofs.lemmas.List.{get_or-drop}
+use Rattle.std.proofs.lemmas.List.Folds.{length-prefix_len}
+use Rattle.std.proofs.lemmas.List.Sums.{prefix_len_passes, prefix_len_is, prefix_len-le-length}
+use Rattle.ion_scalar.specs.declared.number.Number.{Number}
+use Rattle.ion_scalar.specs.text.Ints.{BeginsWithMinus, minus}
+use Rattle.ion_scalar.specs.text.Numbers.{ReadsNumber}
+use Rattle.ion_scalar.specs.text.laws.PlainNumerals.{IsPlainDigit, PlainNumeral, numeral_reads}
+use Rattle.ion_tokens.specs.Ascii.{slash}
+use Rattle.ion_tokens.specs.Octets.{is_digit, is_stop}
+use Rattle.ion_tokens.specs.Places.{is_name}
+use Rattle.ion_tokens.specs.declared.mode.Place.{Place}
+use Rattle.ion_tokens.specs.declared.mode.TokenKind.TheVariants as kinds
+use Rattle.ion_tokens.specs.declared.plain_tokens.Rest.{Rest}
+use Rattle.ion_tokens.specs.machine.AtOnce.{is_numeric}
+use Rattle.ion_tokens.specs.machine.Rests.{IsFound}
+use Rattle.ion_tokens.proofs.runs.WholeTokens.{number_found}
+
+plain_digit : (o : ℕ) → is_digit o ≡ true → IsPlainDigit o
+plain_digit o h = (grind (arith, nat_tests), grind (arith, nat_tests))
+
+digit_of : (o : ℕ) → IsPlainDigit o → is_digit o ≡ true
+digit_of o h = grind (arith, nat_tests)
+
+numeric_digit : (o : ℕ) → IsPlainDigit o → is_numeric o ≡ true
+numeric_digit o h = grind (arith, nat_tests)
+
+counted : (os : List ℕ) (n : ℕ) → n ≡ length (take_while is_digit os) → n ≡ prefix_len is_digit os
+counted os n e = e ∙ length-prefix_len is_digit os
+
+-- each octet that was counted is a digit
+each_digit : (os : List ℕ) (n : ℕ) → n ≡ length (take_while is_digit os) → (i : ℕ) → i < n → IsPlainDigit (get_or os i 0)
+each_digit os n e i less = plain_digit _ (prefix_len_passes is_digit os i 0 (omega (arith, counted os n e)))
+
+within : (os : List ℕ) (n : ℕ) → n ≡ length (take_while is_digit os) → n ≤ length os
+within os n e = omega (arith, counted os n e, prefix_len-le-length is_digit os)
+
+-- digits alone
+pub int_there : (os : List ℕ) (whole : ℕ) → whole ≡ length (take_while is_digit os) → 0 < whole → whole ≤ 19 → (1 < whole → get_or os 0 0 ≢ 48)
+    → PlainNumeral os whole
+int_there os whole e some few first = record {
+  whole = whole;
+  some = some;
+  few = few;
+  within = within os whole e;
+  digits = each_digit os whole e;
+  first = first;
+  behind = inl refl;
+}
+
+-- digits, a point, and digits or none
+pub point_there : (os : List ℕ) (whole fraction : ℕ) → whole ≡ length (take_while is_digit os) → 0 < whole → (1 < whole → get_or os 0 0 ≢ 48)
+    → whole < length os → get_or os whole 0 ≡ 46 → fraction ≡ length (take_while is_digit (drop (whole + 1) os)) → whole + 1 + fraction ≤ 19
+    → PlainNumeral os (whole + 1 + fraction)
+point_there os whole fraction e some first more point f few =
+    let rest = drop (whole + 1) os in
+    record {
+      whole = whole;
+      some = some;
+      few = few;
+      within = omega (arith, within rest fraction f, length-drop (whole + 1) os);
+      digits = each_digit os whole e;
+      first = first;
+      behind = inr (
+        omega arith,
+        point,
+        λ i from less.
+            let there : (whole + 1) + (i - (whole + 1)) ≡ i = omega arith in
+            subst (λ k. IsPlainDigit (get_or os k 0)) there
+            (subst IsPlainDigit (get_or-drop (whole + 1) os (i - (whole + 1)) 0) (each_digit rest fraction f (i - (whole + 1)) (omega arith))),
+      );
+    }
+
+-- a number goes on with each octet of a numeral
+goes_on : (os : List ℕ) (count : ℕ) → PlainNumeral os count → (i : ℕ) → i < count → is_numeric (get_or os i 0) ≡ true
+goes_on os count h i less = elim h.behind [
+  | inl all ↦ numeric_digit _ (h.digits i (omega arith))
+  | inr point ↦ elim (cases_order i h.whole) [
+    | inl here ↦ ap (λ k. is_numeric (get_or os k 0)) here ∙ ap is_numeric point.1
+    | inr (inl before) ↦ numeric_digit _ (h.digits i before)
+    | inr (inr behind) ↦ numeric_digit _ (point.2 i behind less)
+  ]
+]
+
+stop_no_number : (o : ℕ) → is_stop o ≡ true → is_numeric o ≡ false
+stop_no_number o h = ap (λ b. not (b || (o == slash))) h
+
+-- that many octets are of a number
+run_is : (os : List ℕ) (count : ℕ) → PlainNumeral os count → is_stop (slice_index os count) ≡ true → prefix_len is_numeric os ≡ count
+run_is os count h stop = prefix_len_is is_numeric os count 0 h.within (goes_on os count h) (λ _. stop_no_number (slice_index os count) stop)
+
+-- Octets begin with so many of a number, and the octet behind them shows its end.
+pub record WholeNumeral (octets : List ℕ) (n : ℕ) : Type 0 where
+  pub within : n < length octets
+  pub reads : (x : Number) × ReadsNumber (take n octets) (Ok x)
+  pub found : (p : Place) (r : Rest) → is_name p ≡ false → IsFound p r octets kinds.Number (take n octets) n true
+
+no_slash : (o : ℕ) → is_stop o ≡ true → o ≢ 47
+no_slash o h e = let f : is_stop 47 ≡ true = subst (λ x. is_stop x ≡ true) e h in cc
+
+-- the first is a digit
+first_digit : (os : List ℕ) (count : ℕ) → PlainNumeral os count → (0 < count) × (is_digit (slice_index os 0) ≡ true)
+first_digit os count h =
+    let some = h.some in
+    (elim h.behind [ inl all ↦ omega arith | inr point ↦ omega (arith, point.0) ], digit_of _ (h.digits 0 h.some))
+
+begins_same : (negative : Bool) (os : List ℕ) (n : ℕ) → 0 < n → BeginsWithMinus negative os → BeginsWithMinus negative (take n os)
+begins_same negative os zero some b = absurd (omega arith)
+begins_same negative [] (suc k) some b = b
+begins_same negative (o ∷ os) (suc k) some b = b
+
+unsigned : (os : List ℕ) (count : ℕ) → BeginsWithMinus false os → PlainNumeral os count → count < length os → is_stop (slice_index os count) ≡ true
+    → WholeNumeral os count
+unsigned os count b h more stop =
+    let first = first_digit os count h in
+    record {
+      within = more;
+      reads = numeral_reads false (take count os) os count (begins_same false os count first.0 b) refl h;
+      found = number_found os count (omega (arith, first.0)) (inl first.1) (sym (length-prefix_len is_numeric os ∙ run_is os count h stop)) more
+          (no_slash _ stop);
+    }
+
+signed : (os : List ℕ) (count : ℕ) → PlainNumeral os count → count < length os → is_stop (slice_index os count) ≡ true → WholeNumeral (45 ∷ os) (suc count)
+signed os count h more stop =
+    let first = first_digit os count h in
+    let one : prefix_len is_numeric (45 ∷ os) ≡ 1 + prefix_len is_numeric os = refl in
+    let size : prefix_len is_numeric (45 ∷ os) ≡ suc count = omega (arith, one, run_is os count h stop) in
+    record {
+      within = omega arith;
+      reads = numeral_reads true (45 ∷ take count os) os count ((λ _. refl), (λ _. refl)) refl h;
+      found = number_found (45 ∷ os) (suc count) (omega (arith, first.0)) (inr (refl, first.1))
+          (sym (length-prefix_len is_numeric (45 ∷ os) ∙ size)) (omega arith) (no_slash _ stop);
+    }
+
+-- A numeral behind a sign or none, before a stop character, is a number.
+pub whole_numeral : (negative : Bool) (octets body : List ℕ) (count n : ℕ) → BeginsWithMinus negative octets → octets ≡ minus negative ++ body
+    → PlainNumeral body count → count < length body → is_stop (slice_index body count) ≡ true → n ≡ length octets - length body + count → WholeNumeral octets n
+whole_numeral false octets body count n b e h more stop size =
+    let all : length octets ≡ length body = ap (λ (l : List ℕ). length l) e in
+    let same : count ≡ n = omega arith in
+    let P : List ℕ → Type 0 = λ l. WholeNumeral l n in
+    subst P (sym e) (subst (WholeNumeral body) same (unsigned body count (subst (BeginsWithMinus false) e b) h more stop))
+whole_numeral true octets body count n b e h more stop size =
+    let all : length octets ≡ suc (length body) = ap (λ (l : List ℕ). length l) e in
+    let same : suc count ≡ n = omega arith in
+    let P : List ℕ → Type 0 = λ l. WholeNumeral l n in
+    subst P (sym e) (subst (WholeNumeral (45 ∷ body)) same (signed body count h more stop))
