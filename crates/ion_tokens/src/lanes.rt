@@ -60,9 +60,8 @@ pub fn word_ends(octets: u8x16) -> u64
 pub fn digit_ends(octets: u8x16) -> u64
     ensures { result ≡ mask_l (map (λ o. not (is_digit o)) octets) }
 {
-    (octets - u8x16::splat(b'0'))
-        .simd_ge(u8x16::splat(10))
-        .to_bitmask()
+    let above_zero = octets - u8x16::splat(b'0');
+    above_zero.simd_ge(u8x16::splat(10)).to_bitmask()
 }
 
 /// The octets with which no number goes on.

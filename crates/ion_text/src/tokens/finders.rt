@@ -29,6 +29,7 @@ pub(crate) struct Scalar {
 }
 
 // The value that a word is, but for `nan`.
+#[inline(always)]
 pub(crate) fn word_part(word: &str) -> Option<Part<'_>>
     ensures { IfSome result (λ said. held_payload (held_word word.now) ≡ Ok (payload_of said)) }
 {
@@ -51,6 +52,7 @@ pub(crate) fn word_part(word: &str) -> Option<Part<'_>>
 }
 
 // The word at the front of octets, as a value.
+#[inline(always)]
 fn word_at(octets: &[u8]) -> Option<(Scalar, Part<'_>)>
     ensures { IfSome result (λ found. (here : Place) (rest : Rest) →
         FoundSymbol here rest octets.now found.0 (payload_of found.1)) }
@@ -108,6 +110,7 @@ fn null_at(octets: &[u8]) -> Option<(Scalar, Part<'_>)>
 }
 
 /// The short string there.
+#[inline(always)]
 pub(crate) fn string_at(octets: &[u8]) -> Option<(Scalar, Part<'_>)>
     ensures found { IfSome result (λ found. (here : Place) (rest : Rest) →
         FoundPart here rest octets.now found.0 (payload_of found.1)) }
@@ -203,6 +206,7 @@ pub(crate) fn operator_at(here: Place, octets: &[u8]) -> Option<(Scalar, Part<'_
 }
 
 /// The word, the quoted symbol or the typed null there, as a value.
+#[inline(always)]
 pub(crate) fn symbol_at(octets: &[u8]) -> Option<(Scalar, Part<'_>)>
     ensures { IfSome result (λ found. (here : Place) (rest : Rest) →
         FoundSymbol here rest octets.now found.0 (payload_of found.1)) }

@@ -19,6 +19,7 @@ pub(super) fn ends_symbol(octet: u8) -> bool
 
 // How many octets of a blank stand behind a symbol of so many, if the octet behind them shows that
 // no `::` follows.
+#[inline(always)]
 pub(crate) fn behind_symbol(octets: &[u8], count: usize) -> Option<usize>
     ensures passed { IfSome result (λ between. IsPassed (drop count octets.now) between) }
     ensures within { IfSome result (λ between. count + between < length octets.now) }
@@ -66,6 +67,7 @@ pub(crate) fn behind_waiting(
 
 // How many octets of a blank stand behind a field's name of so many, if one colon alone stands
 // behind them.
+#[inline(always)]
 pub(crate) fn behind_name(octets: &[u8], count: usize) -> Option<usize>
     ensures passed { IfSome result (λ between. IsPassed (drop count octets.now) between) }
     ensures within { IfSome result (λ between. count + between + 1 < length octets.now) }

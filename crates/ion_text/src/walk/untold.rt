@@ -8,7 +8,7 @@ ghost use Rattle.ion_tokens.specs.declared.plain_tokens.Rest.{Rest};
 ghost use Rattle.ion_text.specs.visiting.Walks.{FoundNumber};
 
 use crate::tokens::finders::number_at;
-use ion_tokens::FoundToken;
+use ion_tokens::{FoundToken, TokenKind, plain_numeral};
 
 /// The number there, whose end the octet behind it shows.
 #[inline(always)]
@@ -18,8 +18,15 @@ pub(super) fn untold_number(octets: &[u8]) -> Option<FoundToken>
     ensures left { IfSome result (λ token. token.left ≡ true) }
     ensures within { IfSome result (λ token. token.count < length octets.now) }
 {
-    match number_at(octets) {
-        None => None,
-        Some((token, _number)) => Some(token),
+    match plain_numeral(octets) {
+        Some(count) => Some(FoundToken {
+            kind: TokenKind::Number,
+            count,
+            left: true,
+        }),
+        None => match number_at(octets) {
+            None => None,
+            Some((token, _number)) => Some(token),
+        },
     }
 }
