@@ -4,6 +4,7 @@ ghost use Rattle.std.specs.Prelude.{◌≡◌, ◌<◌, false, true, length, tak
 ghost use Rattle.ion_tokens.specs.Bodies.{content, Number'};
 ghost use Rattle.ion_tokens.specs.machine.Said.{said};
 ghost use Rattle.ion_tokens.specs.Places.{is_name};
+ghost use Rattle.ion_tokens.specs.machine.Rests.{IsFound};
 ghost use Rattle.ion_tokens.specs.declared.plain_tokens.Rest.{Rest};
 ghost use Rattle.ion_text.specs.machine.FrontTokens.{BeginsName, IsValue};
 ghost use Rattle.ion_text.specs.machine.EachToken.{held_word, held_payload};
@@ -15,8 +16,8 @@ use crate::words::{is_keyword, may_be_keyword};
 use ion_model::Kind;
 use ion_scalar::{Number, number_of};
 use ion_tokens::{
-    Body, FoundToken, Place, TokenKind, number, operator, quoted_symbol, short_string, typed_null,
-    word,
+    Body, FoundToken, Place, TokenKind, number, operator, plain_numeral, quoted_symbol,
+    short_string, typed_null, word,
 };
 use ion_visiting::Part;
 
@@ -51,9 +52,9 @@ pub(crate) fn word_part(word: &str) -> Option<Part<'_>>
     Some(Part::Symbol(word))
 }
 
-// The word at the front of octets, as a value.
+/// The word at the front of octets, as a value.
 #[inline(always)]
-fn word_at(octets: &[u8]) -> Option<(Scalar, Part<'_>)>
+pub(crate) fn word_at(octets: &[u8]) -> Option<(Scalar, Part<'_>)>
     ensures { IfSome result (λ found. (here : Place) (rest : Rest) →
         FoundSymbol here rest octets.now found.0 (payload_of found.1)) }
 {
@@ -137,6 +138,18 @@ pub(crate) fn string_at(octets: &[u8]) -> Option<(Scalar, Part<'_>)>
     ))
 }
 
+// How many octets the number there has, whose end the octet behind it shows.
+#[inline(always)]
+fn number_end(octets: &[u8]) -> Option<usize>
+    ensures { IfSome result (λ count. (here : Place) (rest : Rest) → is_name here ≡ false →
+        IsFound here rest octets.now TokenKind.Number (take count octets.now) count true) }
+{
+    match plain_numeral(octets) {
+        None => number(octets),
+        found => found,
+    }
+}
+
 /// The number there, whose end the octet behind it shows.
 #[inline(always)]
 pub(crate) fn number_at(octets: &[u8]) -> Option<(FoundToken, Number)>
@@ -147,7 +160,7 @@ pub(crate) fn number_at(octets: &[u8]) -> Option<(FoundToken, Number)>
     ensures left { IfSome result (λ found. found.0.left ≡ true) }
     ensures within { IfSome result (λ found. found.0.count < length octets.now) }
 {
-    let count = number(octets)?;
+    let count = number_end(octets)?;
     if count >= octets.len() {
         return None;
     }
@@ -205,18 +218,15 @@ pub(crate) fn operator_at(here: Place, octets: &[u8]) -> Option<(Scalar, Part<'_
     ))
 }
 
-/// The word, the quoted symbol or the typed null there, as a value.
+/// The quoted symbol or the typed null there, as a value.
 #[inline(always)]
-pub(crate) fn symbol_at(octets: &[u8]) -> Option<(Scalar, Part<'_>)>
+pub(crate) fn other_symbol_at(octets: &[u8]) -> Option<(Scalar, Part<'_>)>
     ensures { IfSome result (λ found. (here : Place) (rest : Rest) →
         FoundSymbol here rest octets.now found.0 (payload_of found.1)) }
 {
     match octets.first() {
         Some(b'\'') => quoted_at(octets),
-        _ => match word_at(octets) {
-            None => null_at(octets),
-            found => found,
-        },
+        _ => null_at(octets),
     }
 }
 

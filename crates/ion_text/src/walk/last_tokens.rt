@@ -25,7 +25,8 @@ use super::rare_tokens::{rare_at, value_part};
 use super::untold::untold_number;
 use crate::state::{Effect, Now, Taken};
 use crate::tokens::finders::{
-    Scalar, begins_number, begins_symbol, may_be_rare, number_at, string_at, symbol_at,
+    Scalar, begins_number, begins_symbol, may_be_rare, number_at, other_symbol_at, string_at,
+    word_at,
 };
 use crate::tokens::long_strings::begins_long;
 use crate::tokens::marks::{bracket_at, close_mark};
@@ -240,7 +241,7 @@ impl TextWalk<'_> {
     }
 
     /// A symbol, a null or a truth and a blank, where the octet behind them shows that no `::`
-    /// follows.
+    /// follows, or an annotation; most often a word.
     #[inline(always)]
     fn end_symbol<V: Visitor>(
         &mut self,
@@ -256,16 +257,61 @@ impl TextWalk<'_> {
         ensures { EndsBy V.takes self.old self.new rest.old rest.new octets.now result
             visitor.old visitor.new }
     {
-        let Some((scalar, said)) = symbol_at(octets) else {
-            return self.end_rare(rest, octets, visitor);
-        };
+        match word_at(octets) {
+            None => self.end_other_symbol(rest, octets, visitor),
+            Some((scalar, said)) => self.end_this_symbol(scalar, &said, rest, octets, visitor),
+        }
+    }
+
+    /// The same of a quoted symbol or a typed null, or a value that begins with a quote.
+    #[inline(never)]
+    fn end_other_symbol<V: Visitor>(
+        &mut self,
+        rest: &mut Rest,
+        octets: &[u8],
+        visitor: &mut V,
+    ) -> Result<(usize, Taken), Reason>
+        requires now { self.old.stage ≡ nows.Ready }
+        requires top { (fs : List Frame) (ss : Symbols) → Holds self.old fs ss →
+            is_top fs ≡ true }
+        requires more { 1 < length octets.now }
+        requires room { rest.old.used + length octets.now < 2 ^ 63 }
+        ensures { EndsBy V.takes self.old self.new rest.old rest.new octets.now result
+            visitor.old visitor.new }
+    {
+        match other_symbol_at(octets) {
+            None => self.end_rare(rest, octets, visitor),
+            Some((scalar, said)) => self.end_this_symbol(scalar, &said, rest, octets, visitor),
+        }
+    }
+
+    /// This symbol, null or truth and a blank, where the octet behind them shows that no `::`
+    /// follows, or an annotation.
+    #[inline(always)]
+    fn end_this_symbol<V: Visitor>(
+        &mut self,
+        scalar: Scalar,
+        said: &Part<'_>,
+        rest: &mut Rest,
+        octets: &[u8],
+        visitor: &mut V,
+    ) -> Result<(usize, Taken), Reason>
+        requires now { self.old.stage ≡ nows.Ready }
+        requires top { (fs : List Frame) (ss : Symbols) → Holds self.old fs ss →
+            is_top fs ≡ true }
+        requires found { FoundSymbol places.Top rest.old octets.now scalar (payload_of said.now) }
+        requires more { 1 < length octets.now }
+        requires room { rest.old.used + length octets.now < 2 ^ 63 }
+        ensures { EndsBy V.takes self.old self.new rest.old rest.new octets.now result
+            visitor.old visitor.new }
+    {
         match behind_symbol(octets, scalar.token.count) {
             None => {
                 let count = self.take_note(rest, octets, visitor)?;
                 Ok((count, Taken::Uses))
             }
             Some(0) => Ok((0, Taken::Uses)),
-            Some(between) => self.end_word(scalar, &said, between, rest, octets, visitor),
+            Some(between) => self.end_word(scalar, said, between, rest, octets, visitor),
         }
     }
 

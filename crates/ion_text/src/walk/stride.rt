@@ -12,6 +12,7 @@ ghost use Rattle.ion_scalar.specs.declared.number.Number.{Number as AnyNumber};
 ghost use Rattle.ion_model.specs.Kinds.{names_table};
 ghost use Rattle.ion_tokens.specs.declared.mode.Place.{Place as AnyPlace};
 ghost use Rattle.ion_tokens.specs.declared.mode.Place.TheVariants as places;
+ghost use Rattle.ion_tokens.specs.declared.plain_tokens.Rest.{Rest as AnyRest};
 ghost use Rattle.ion_tokens.specs.machine.Rests.{RestsBehind, past_blank, past_token, resting};
 ghost use Rattle.ion_tokens.specs.machine.Views.{scanned};
 ghost use Rattle.ion_visiting.specs.Parts.{payload_of};
@@ -22,7 +23,7 @@ ghost use Rattle.ion_text.specs.machine.EachToken.{Symbols, begun_at, named, pla
 ghost use Rattle.ion_text.specs.machine.FrontTokens.{BeginsName, ends_symbol};
 ghost use Rattle.ion_text.specs.machine.Nested.{OpensAt, close_octet, closes};
 ghost use Rattle.ion_text.specs.machine.Run.{is_top};
-ghost use Rattle.ion_text.specs.visiting.Walks.{FoundPart, NoteThere};
+ghost use Rattle.ion_text.specs.visiting.Walks.{FoundPart, FoundSymbol, NoteThere};
 ghost use Rattle.ion_text.specs.walk.Holds.{Does, Holds, calm, MayClose, SamePlace, SameSetting, WentOn, reading_of, told};
 ghost use Rattle.ion_text.specs.walk.Strides.{EndsBy, StridesBy, TookSo};
 ghost use Rattle.ion_text.specs.walk.Takes.{IsFine, SameReader, StaysSteady};
@@ -32,8 +33,8 @@ use super::{TextWalk, heard};
 use crate::state::{Effect, Now, Taken};
 use crate::tokens::annotations::{Note, note_at};
 use crate::tokens::finders::{
-    Scalar, begins_number, begins_symbol, may_be_rare, number_at, operator_at, plain_name,
-    string_at, symbol_at,
+    Scalar, begins_number, begins_symbol, may_be_rare, number_at, operator_at, other_symbol_at,
+    plain_name, string_at, word_at,
 };
 use crate::tokens::marks::{bracket_at, close_mark, open_mark};
 use crate::tokens::symbols::{behind_name, behind_waiting};
@@ -616,7 +617,7 @@ impl TextWalk<'_> {
     }
 
     /// A symbol, a null or a truth in a container, or an annotation, where the octets show which; or
-    /// a long string.
+    /// a long string. Most often it is a word.
     #[inline(always)]
     fn take_symbol<V: Visitor>(
         &mut self,
@@ -632,14 +633,59 @@ impl TextWalk<'_> {
         ensures { StridesBy V.takes self.old self.new rest.old rest.new octets.now result
             visitor.old visitor.new }
     {
-        let Some((scalar, said)) = symbol_at(octets) else {
-            return self.take_long(rest, octets, visitor);
-        };
+        match word_at(octets) {
+            None => self.take_other_symbol(rest, octets, visitor),
+            Some((scalar, said)) => self.take_this_symbol(scalar, &said, rest, octets, visitor),
+        }
+    }
+
+    /// The same of what is no word.
+    #[inline(never)]
+    fn take_other_symbol<V: Visitor>(
+        &mut self,
+        rest: &mut Rest,
+        octets: &[u8],
+        visitor: &mut V,
+    ) -> Result<usize, Reason>
+        requires now { self.old.stage ≡ nows.Ready }
+        requires inner { (fs : List Frame) (ss : Symbols) → Holds self.old fs ss →
+            is_top fs ≡ false }
+        requires more { 1 < length octets.now }
+        requires room { rest.old.used + length octets.now < 2 ^ 63 }
+        ensures { StridesBy V.takes self.old self.new rest.old rest.new octets.now result
+            visitor.old visitor.new }
+    {
+        match other_symbol_at(octets) {
+            None => self.take_long(rest, octets, visitor),
+            Some((scalar, said)) => self.take_this_symbol(scalar, &said, rest, octets, visitor),
+        }
+    }
+
+    /// This symbol, null or truth in a container, or an annotation, where the octets show which.
+    #[inline(always)]
+    fn take_this_symbol<V: Visitor>(
+        &mut self,
+        scalar: Scalar,
+        said: &Part<'_>,
+        rest: &mut Rest,
+        octets: &[u8],
+        visitor: &mut V,
+    ) -> Result<usize, Reason>
+        requires now { self.old.stage ≡ nows.Ready }
+        requires inner { (fs : List Frame) (ss : Symbols) → Holds self.old fs ss →
+            is_top fs ≡ false }
+        requires found { (here : AnyPlace) (rest : AnyRest) →
+            FoundSymbol here rest octets.now scalar (payload_of said.now) }
+        requires more { 1 < length octets.now }
+        requires room { rest.old.used + length octets.now < 2 ^ 63 }
+        ensures { StridesBy V.takes self.old self.new rest.old rest.new octets.now result
+            visitor.old visitor.new }
+    {
         let here = self.place();
         let Some((between, behind)) = behind_waiting(here, *rest, scalar.token, octets) else {
             return self.take_note(rest, octets, visitor);
         };
-        self.take_word(here, scalar, &said, between, behind, rest, octets, visitor)
+        self.take_word(here, scalar, said, between, behind, rest, octets, visitor)
     }
 
     /// This symbol, null or truth in a container, with the blank behind it and the comments in that.

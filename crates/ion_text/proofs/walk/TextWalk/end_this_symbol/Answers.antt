@@ -1,9 +1,5 @@
-use Rattle.ion_tokens.specs.declared.mode.Place.TheVariants as places
 use Rattle.ion_text.proofs.LastTokens.{strides_ends}
-use Rattle.ion_text.proofs.walk.TextWalk.end_symbol.Goals as goal
-
-pub end_word-requires-clause-found : goal.end_word-requires-clause-found
-end_word-requires-clause-found g c = c.in-Some.ensures places.Top c.args.rest.now
+use Rattle.ion_text.proofs.walk.TextWalk.end_this_symbol.Goals as goal
 
 pub returns-in_ok-count-in-None : goal.returns-in_ok-count-in-None
 returns-in_ok-count-in-None g c =
