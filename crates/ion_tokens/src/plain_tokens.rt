@@ -65,6 +65,7 @@ impl Rest {
 }
 
 /// How many octets of a blank without comments stand at the front, all of them.
+#[inline(always)]
 pub fn blanks(octets: &[u8]) -> usize
     ensures most { result ≡ length (take_while is_white octets.now) }
     ensures within { result ≤ length octets.now }
@@ -75,6 +76,7 @@ pub fn blanks(octets: &[u8]) -> usize
 
 /// How many octets the word at the front has, if the octet behind it shows its end; `None` also
 /// before a dot.
+#[inline(always)]
 pub fn word(octets: &[u8]) -> Option<usize>
     ensures found { IfSome result (λ count. (place : Place) (rest : Rest) →
         IsFound place rest octets.now TokenKind.Word (take count octets.now) count true) }
