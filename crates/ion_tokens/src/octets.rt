@@ -82,13 +82,14 @@ pub fn is_operator_octet(octet: u8) -> bool
 }
 
 /// What ends a number, beside a comment.
+#[inline(always)]
 pub fn is_stop(octet: u8) -> bool
     ensures { result ≡ is_stop octet }
 {
     matches!(
         octet,
-        b'{' | b'}' | b'[' | b']' | b'(' | b')' | b',' | b'"' | b'\''
-    ) || is_white(octet)
+        b',' | b' ' | b'\t'..=b'\r' | b'{' | b'}' | b'[' | b']' | b'(' | b')' | b'"' | b'\''
+    )
 }
 
 /// The alphabet and the padding of base64 (RFC 4648, section 4).
