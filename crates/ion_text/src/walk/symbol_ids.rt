@@ -12,11 +12,11 @@ ghost use Rattle.ion_text.specs.declared.state.Now.TheVariants as nows;
 ghost use Rattle.ion_text.specs.machine.EachToken.{Symbols, place};
 ghost use Rattle.ion_text.specs.machine.Run.{is_top};
 ghost use Rattle.ion_text.specs.walk.Holds.{Holds, reading_of};
-ghost use Rattle.ion_text.specs.walk.Rare.{NameThere, SaysThere, SymbolThere};
+ghost use Rattle.ion_text.specs.walk.Rare.{SaysThere, SymbolThere};
 ghost use Rattle.ion_text.specs.walk.Strides.{StridesBy};
 
-use super::TextWalk;
-use crate::state::Effect;
+use super::{TextWalk, heard};
+use crate::state::{Effect, Now};
 use crate::tokens::symbols::{behind_annotation, behind_name, behind_waiting};
 use crate::words::symbol_id;
 use ion_model::{Reason, Symbol};
@@ -64,18 +64,30 @@ impl TextWalk<'_> {
         let Some((token, id)) = id_at(octets) else {
             return self.take_rare(here, rest, octets, visitor);
         };
-        let Ok(symbol) = self.context.resolve(id) else {
+        let Some((between, behind)) = behind_waiting(here, *rest, token, octets) else {
+            return self.take_id_note(here, token, id, rest, octets, visitor);
+        };
+        let Ok(symbol) = self.context.symbol(id) else {
             return Ok(0);
         };
-        self.take_known(here, token, symbol, rest, octets, visitor)
+        let end = rest.used + token.count as u64;
+        heard(self.filter.symbol(symbol, visitor))?;
+        match self.ended(end) {
+            Ok(Effect::Goes) => {
+                *rest = behind;
+                Ok(token.count + between)
+            }
+            _ => Err(Reason::Memory),
+        }
     }
 
-    /// This symbol in a container, with the blank behind it.
-    fn take_known<V: Visitor>(
+    /// The symbol of this id in a container as an annotation, with its `::`.
+    #[inline(never)]
+    fn take_id_note<V: Visitor>(
         &mut self,
         here: Place,
         token: FoundToken,
-        symbol: Symbol,
+        id: u64,
         rest: &mut Rest,
         octets: &[u8],
         visitor: &mut V,
@@ -85,22 +97,16 @@ impl TextWalk<'_> {
             is_top fs ≡ false }
         requires here { (fs : List Frame) (ss : Symbols) → Holds self.old fs ss →
             here ≡ place (reading_of self.old fs ss) }
-        requires there { SymbolThere self.old.context here rest.old octets.now token symbol }
+        requires says { SaysThere here rest.old octets.now token (Id id) }
+        requires word { token.kind ≡ kinds.Word }
         requires room { rest.old.used + length octets.now < 2 ^ 63 }
         ensures { StridesBy V.takes self.old self.new rest.old rest.new octets.now result
             visitor.old visitor.new }
     {
-        let Some((between, behind)) = behind_waiting(here, *rest, token, octets) else {
-            return self.take_known_note(here, token, symbol, rest, octets, visitor);
+        let Ok(symbol) = self.context.resolve(id) else {
+            return Ok(0);
         };
-        let end = rest.used + token.count as u64;
-        match self.whole_symbol(symbol, end, visitor) {
-            Ok(Effect::Goes) => {
-                *rest = behind;
-                Ok(token.count + between)
-            }
-            _ => Err(Reason::Memory),
-        }
+        self.take_known_note(here, token, symbol, rest, octets, visitor)
     }
 
     /// This symbol in a container as an annotation, with its `::`.
@@ -155,40 +161,18 @@ impl TextWalk<'_> {
         let Some((token, id)) = id_at(octets) else {
             return self.take_rare_name(rest, octets, visitor);
         };
-        let Ok(name) = self.context.resolve(id) else {
-            return Ok(0);
-        };
-        self.take_known_name(token, name, rest, octets, visitor)
-    }
-
-    /// This name of a field, with the blank behind it and its colon.
-    fn take_known_name<V: Visitor>(
-        &mut self,
-        token: FoundToken,
-        name: Symbol,
-        rest: &mut Rest,
-        octets: &[u8],
-        visitor: &mut V,
-    ) -> Result<usize, Reason>
-        requires now { self.old.stage ≡ nows.Name }
-        requires there { NameThere self.old.context rest.old octets.now token name }
-        requires room { rest.old.used + length octets.now < 2 ^ 63 }
-        ensures { StridesBy V.takes self.old self.new rest.old rest.new octets.now result
-            visitor.old visitor.new }
-    {
         let Some(between) = behind_name(octets, token.count) else {
-            drop(name);
             return Ok(0);
         };
-        match self.named(name, visitor) {
-            Ok(Effect::Goes) => {
-                *rest = rest
-                    .past_token(Place::Name, token.kind, token.count)
-                    .past_blank(between)
-                    .past_token(Place::Name, TokenKind::Mark(Mark::Colon), 1);
-                Ok(token.count + between + 1)
-            }
-            _ => Err(Reason::Memory),
-        }
+        let Ok(name) = self.context.symbol(id) else {
+            return Ok(0);
+        };
+        heard(self.filter.name(name, visitor))?;
+        self.set_stage(Now::Ready);
+        *rest = rest
+            .past_token(Place::Name, token.kind, token.count)
+            .past_blank(between)
+            .past_token(Place::Name, TokenKind::Mark(Mark::Colon), 1);
+        Ok(token.count + between + 1)
     }
 }

@@ -1,9 +1,46 @@
+use Rattle.std.proofs.Common.{◌+◌, Ok, ap, sym, ◌∙◌, subst}
+use Rattle.ion_tokens.specs.declared.mode.Mark.TheVariants as marks
 use Rattle.ion_tokens.specs.declared.mode.Place.TheVariants as places
+use Rattle.ion_tokens.specs.declared.mode.TokenKind.TheVariants as kinds
+use Rattle.ion_tokens.specs.declared.plain_tokens.Rest.{Rest}
+use Rattle.ion_tokens.specs.machine.Rests.{past_blank, past_token}
+use Rattle.ion_visiting.specs.Events.{name}
+use Rattle.ion_visiting.specs.Tables.{Tells}
+use Rattle.ion_text.specs.declared.walk.TextWalk.{TextWalk}
+use Rattle.ion_text.specs.walk.Holds.{SameSetting}
+use Rattle.ion_text.specs.walk.Strides.{StridesBy}
+use Rattle.ion_text.proofs.Opened.{names_does}
 use Rattle.ion_text.proofs.SaidThere.{id_names}
+use Rattle.ion_text.proofs.Strides.{key_answer}
 use Rattle.ion_text.proofs.walk.TextWalk.take_dollar_name.Goals as goal
 
-pub take_known_name-requires-clause-there : goal.take_known_name-requires-clause-there
-take_known_name-requires-clause-there g c =
+pub returns : goal.returns
+returns g c =
+    let old = c.args.self.now in
+    let new = c.set_stage.new.self in
     let rest = c.args.rest.now in
-    id_names c.args.self.now.context rest c.args.octets.now c.in-Some.token c.in-Some.id c.in-Ok.name c.in-Some.ensures.word c.in-Ok.ensures
-    (c.in-Some.ensures.says places.Name rest)
+    let octets = c.args.octets.now in
+    let token = c.in-Some.token in
+    let behind = c.in-Some-behind_name in
+    let m = behind.between in
+    let s = c.in-Ok.name.now in
+    let a = c.args.visitor.now in
+    let b = c.name.new.visitor in
+    let e = c.set_stage.ensures in
+    let same : SameSetting old new =
+    record {
+      catalog = ap (λ (w : TextWalk). w.catalog) e;
+      limits = ap (λ (w : TextWalk). w.limits) e;
+      scanner = ap (λ (w : TextWalk). w.scanner) e;
+      awaited = ap (λ (w : TextWalk). w.awaited) e;
+      failed = ap (λ (w : TextWalk). w.failed) e;
+    } in
+    subst (λ (r : Rest). StridesBy g.V.Visitor.takes old new rest r octets (Ok (token.count + m + 1)) a b)
+    (sym (c.past_token-2.ensures
+    ∙ ap (λ r. past_token places.Name r (kinds.Mark marks.Colon) 1) (c.past_blank.ensures ∙ ap (λ r. past_blank r m) c.past_token.ensures)))
+    (key_answer g.V.Visitor.takes old new rest octets a b same token m s behind.ensures.within c.requires.now
+    (id_names old.context rest octets token c.in-Some.id s c.in-Some.ensures.word c.in-Ok.ensures (c.in-Some.ensures.says places.Name rest))
+    behind.ensures.passed behind.ensures.colon behind.ensures.one
+    (names_does g.V.Visitor.takes old new s a b c.requires.now (ap (λ (w : TextWalk). w.frames) e) (ap (λ (w : TextWalk). w.noted) e)
+    (ap (λ (w : TextWalk). w.stage) e) (ap (λ (w : TextWalk). w.start) e) (ap (λ (w : TextWalk). w.context) e)
+    (subst (λ f. Tells g.V.Visitor.takes (name s) old.filter f a b) (sym (ap (λ (w : TextWalk). w.filter) e)) (c.name.ensures c.in_ok-heard.ensures.ok))))
