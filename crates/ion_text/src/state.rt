@@ -19,14 +19,14 @@ pub enum Held {
 pub enum Now {
     /// A value, an annotation, or the close of a list or an s-expression.
     Ready,
-    /// Whatever shows whether this is an annotation; its token ended at the octet.
-    Pending(Held, u64),
-    /// More of a long string, whose last segment ended at the octet.
-    Long(Text, u64),
     /// Behind an element of a list or a field: a comma or the close.
     After,
     /// A field's name or the close.
     Name,
+    /// Whatever shows whether this is an annotation; its token ended at the octet.
+    Pending(Held, u64),
+    /// More of a long string, whose last segment ended at the octet.
+    Long(Text, u64),
     /// More of a long string that is a field's name.
     LongName(Text),
     /// The colon behind a field's name.

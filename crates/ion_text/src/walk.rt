@@ -177,11 +177,18 @@ impl TextWalk<'_> {
     fn set_stage(&mut self, stage: Now)
         ensures { self.new ≡ record self.old { stage = stage } }
     {
-        // Most often nothing waits that is let go.
-        match mem::replace(&mut self.stage, stage) {
-            Now::Ready | Now::After | Now::Name => {}
-            waiting => drop(waiting),
+        match &self.stage {
+            // Nothing waits, as most often, so that nothing is let go.
+            Now::Ready | Now::After | Now::Name => self.stage = stage,
+            _ => self.replace_stage(stage),
         }
+    }
+
+    #[inline(never)]
+    fn replace_stage(&mut self, stage: Now)
+        ensures { self.new ≡ record self.old { stage = stage } }
+    {
+        drop(mem::replace(&mut self.stage, stage));
     }
 
     /// What may come, or waits; from now on nothing waits.
@@ -322,9 +329,36 @@ impl TextWalk<'_> {
         Ok(Effect::Goes)
     }
 
-    /// A value of the top level that was told ended at `end`. A local symbol table changes the
-    /// context (Ion 1.0, "Symbols", "Local Symbol Tables").
+    /// A value of the top level that was told ended at `end`.
+    #[inline(always)]
     fn give(&mut self, end: u64) -> Result<Effect, Reason>
+        requires top { open_brackets self.old ≡ [] }
+        requires notes { self.old.noted ≡ false }
+        ensures does { (v : AnyValue) → WasTold self.old.filter (events_of v) →
+            DoesAlone (events_of v)
+            (ended (setting_of self.old) (spot_of self.old end) [] v) result self.new }
+        ensures setting { SameSetting self.old self.new }
+    {
+        if self.filter.may_be_table() {
+            return self.give_table(end);
+        }
+        let last = self.start.saturating_add(self.limits.item);
+        self.set_stage(Now::Ready);
+        self.start = 0;
+        match self.filter.end() {
+            None if end <= last => Ok(Effect::Gives),
+            None => Err(Reason::ItemTooLong),
+            Some(table) => {
+                drop(table);
+                Err(Reason::Memory)
+            }
+        }
+    }
+
+    /// The same of what may be a local symbol table, which changes the context (Ion 1.0, "Symbols",
+    /// "Local Symbol Tables").
+    #[inline(never)]
+    fn give_table(&mut self, end: u64) -> Result<Effect, Reason>
         requires top { open_brackets self.old ≡ [] }
         requires notes { self.old.noted ≡ false }
         ensures does { (v : AnyValue) → WasTold self.old.filter (events_of v) →

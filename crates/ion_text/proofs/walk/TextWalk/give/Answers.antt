@@ -1,41 +1,21 @@
-use Rattle.std.proofs.Common.{◌≡◌, ◌+◌, ◌≤◌, true, Ok, reverse, [], refl, ap, sym, subst, ◌∙◌, arith}
+use Rattle.std.proofs.Common.{◌≡◌, ◌+◌, ◌≤◌, true, reverse, refl, ap, sym, subst, ◌∙◌, arith}
 use Rattle.std.specs.Prelude.{nat_le}
 use Rattle.std.proofs.lemmas.Bool.Decides.{nat_tests}
-use Rattle.ion_symtab.specs.Next.{next}
 use Rattle.ion_visiting.specs.Events.{events_of}
 use Rattle.ion_visiting.specs.Tables.{WasTold}
 use Rattle.ion_text.specs.declared.walk.TextWalk.{TextWalk}
 use Rattle.ion_text.specs.walk.Holds.{setting_of, spot_of}
-use Rattle.ion_text.proofs.Ended.{given, gives_out, table_out}
+use Rattle.ion_text.proofs.Ended.{given, gives_out}
 use Rattle.ion_text.proofs.walk.TextWalk.give.Goals as goal
 
-pub returns-else-end-last-clause-does : goal.returns-else-end-last-clause-does
-returns-else-end-last-clause-does c =
+pub returns-in-None-clause-does : goal.returns-in-None-clause-does
+returns-in-None-clause-does c =
     let r = c.args.self.now in
     let e = c.set_stage.ensures in
-    let small : c.args.end ≤ r.start + r.limits.item = omega (arith, c.if-end-last.false, c.saturating_add-last.ensures) in
+    let small : c.args.end ≤ r.start + r.limits.item = omega (arith, c.if-end-last.true, c.saturating_add-last.ensures) in
     let fits : nat_le c.args.end (r.start + r.limits.item) ≡ true = grind (arith, nat_tests, small) in
     gives_out (setting_of r) (spot_of r c.args.end) r.filter (given c.set_stage.new.self c.end.new.self) c.end.result
     (ap (λ (w : TextWalk). reverse w.frames.items) e ∙ c.requires.top) (ap (λ (w : TextWalk). w.noted) e ∙ c.requires.notes)
     (ap (λ (w : TextWalk). w.stage) e) refl fits
     (λ v h. c.end.ensures v (subst (λ f. WasTold f (events_of v)) (sym (ap (λ (w : TextWalk). w.filter) e)) h))
     (ap (λ (w : TextWalk). w.context) e) c.in-None.is
-
-pub returns-else-end-last-2-clause-does : goal.returns-else-end-last-2-clause-does
-returns-else-end-last-2-clause-does c =
-    let r = c.args.self.now in
-    let e = c.set_stage.ensures in
-    let k = c.apply-applied.ensures.same in
-    let small : c.args.end ≤ r.start + r.limits.item = omega (arith, c.if-end-last-2.false, c.saturating_add-last.ensures) in
-    let fits : nat_le c.args.end (r.start + r.limits.item) ≡ true = grind (arith, nat_tests, small) in
-    table_out (setting_of r) (spot_of r c.args.end) r.filter c.apply-applied.new.self c.end.result
-    (ap (λ (w : TextWalk). reverse w.frames.items) k ∙ (ap (λ (w : TextWalk). reverse w.frames.items) e ∙ c.requires.top))
-    (ap (λ (w : TextWalk). w.noted) k ∙ (ap (λ (w : TextWalk). w.noted) e ∙ c.requires.notes))
-    (ap (λ (w : TextWalk). w.stage) k ∙ ap (λ (w : TextWalk). w.stage) e) (ap (λ (w : TextWalk). w.start) k) fits
-    (λ v h.
-    let i = c.end.ensures v (subst (λ f. WasTold f (events_of v)) (sym (ap (λ (w : TextWalk). w.filter) e)) h) in
-    (i.0, subst (λ f. WasTold f []) (sym (ap (λ (w : TextWalk). w.filter) k)) i.1))
-    c.in-Some.table
-    (λ is. subst (λ (w : TextWalk). next w.context c.in-Some.table w.catalog.now ≡ Ok c.apply-applied.new.self.context) e
-    (c.in_ok-applied-in-Some.ensures.ok is))
-    c.in-Some.is
