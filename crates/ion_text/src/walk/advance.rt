@@ -47,6 +47,7 @@ fn within_piece(before: u64, length: usize, refusal: Refusal) -> Refusal
 impl TextWalk<'_> {
     /// Takes up octets at the front of a piece, up to the next token or what waits over them, or
     /// one.
+    #[inline(never)]
     fn take_front<V: Visitor>(
         &mut self,
         piece: &[u8],
@@ -86,6 +87,7 @@ impl TextWalk<'_> {
 
     /// Takes up octets at the front of a piece: the tokens that lie whole there, and some behind
     /// them.
+    #[inline(always)]
     fn take_up<V: Visitor>(
         &mut self,
         piece: &[u8],
@@ -125,6 +127,7 @@ impl TextWalk<'_> {
     /// Takes up the octets of a piece up to the end of the next value. A refusal's offset counts the
     /// octet that decided; `Memory` has the octets of earlier walks. An octet that showed the end of
     /// a value before shows the end of no second one.
+    #[inline(always)]
     fn advance<V: Visitor>(&mut self, piece: &[u8], visitor: &mut V) -> Result<Walked, Refusal>
         requires fine { IsFine self.old }
         requires room { octets_used self.old + length piece.now < 2 ^ 63 }
@@ -185,6 +188,7 @@ impl TextWalk<'_> {
     }
 
     /// Whether a value has begun of which no octet showed the end, so that the next one may.
+    #[inline(always)]
     fn owes(&self) -> bool
         ensures { result ≡ true → pending self.now ≡ 1 }
     {
@@ -197,6 +201,7 @@ impl TextWalk<'_> {
 
     /// Whether a value may have ended so: with an octet of the piece, or shown by the first where
     /// one was owed.
+    #[inline(always)]
     fn may_end_so(&self, owed: bool, walked: Walked) -> bool
         ensures { result ≡ true → walked.ended ≡ true → walked.used ≡ 0 →
             (owed ≡ true) × IsSome self.now.awaited }
@@ -210,6 +215,7 @@ impl TextWalk<'_> {
     /// What `advance` does, in the words of `Items`. So that a caller's calls end, a value ends with
     /// an octet of the piece, or was owed. Another answer couldn't come, and would be told as memory
     /// that ran out, which says nothing of the octets.
+    #[inline(always)]
     fn advance_on<V: Visitor>(&mut self, piece: &[u8], visitor: &mut V) -> Result<Walked, Refusal>
         requires fine { IsNone (failed self.old) }
         requires room { octets_used self.old + length piece.now < 2 ^ 63 }

@@ -194,6 +194,7 @@ impl TextWalk<'_> {
     }
 
     /// The refusal that each call answers, if one came.
+    #[inline(always)]
     pub(super) fn failure(&self) -> Option<Refusal>
         ensures { result ≡ failed self.now }
     {

@@ -74,6 +74,9 @@ impl TextWalk<'_> {
         ensures { EndsBy V.takes self.old self.new rest.old rest.new octets.now result
             visitor.old visitor.new }
     {
+        if begins_number(octets) && !self.filter.may_be_table() {
+            return self.end_number(rest, octets, visitor);
+        }
         if let Some(bracket) = bracket_at(octets) {
             let count = self.take_open(bracket, rest, octets, visitor)?;
             return Ok((count, Taken::Uses));
@@ -114,7 +117,7 @@ impl TextWalk<'_> {
         }
     }
 
-    /// A value without others in it, or an annotation.
+    /// A value without others in it that is no number, or an annotation.
     #[inline(always)]
     fn end_scalar<V: Visitor>(
         &mut self,
@@ -132,9 +135,6 @@ impl TextWalk<'_> {
     {
         if begins_symbol(octets) {
             return self.end_symbol(rest, octets, visitor);
-        }
-        if begins_number(octets) {
-            return self.end_number(rest, octets, visitor);
         }
         match string_at(octets) {
             None => self.end_rare(rest, octets, visitor),

@@ -77,7 +77,7 @@ impl TextWalk<'_> {
     /// the top level, and tells a visitor their events: how many octets they have, and what they
     /// did. The scanner rests before them, and behind them again where they ended no value. The only
     /// refusal is `Memory`.
-    #[inline(never)]
+    #[inline(always)]
     pub(super) fn stride<V: Visitor>(
         &mut self,
         first: Rest,
