@@ -1,5 +1,5 @@
 //! What unquoted words are (Ion 1.0, "Symbols" and "Ion Text Encoding").
-ghost use Rattle.std.specs.Prelude.{◌≡◌, ◌-◌, ◌^◌, min, false, MatchResult};
+ghost use Rattle.std.specs.Prelude.{◌≡◌, ◌-◌, ◌^◌, min, false, MatchResult, if◌then◌else◌, Some, None};
 ghost use Rattle.std.specs.List.{list_all};
 ghost use Rattle.ion_atoms.specs.declared.refusal.Reason.TheVariants as reasons;
 ghost use Rattle.ion_tokens.specs.Bodies.{id_of, number_in};
@@ -30,17 +30,21 @@ fn some_digits(octets: &[u8]) -> bool
     !octets.is_empty() && are_digits(octets)
 }
 
-// The number of these digits; 2^64-1 stands for every larger one.
-fn number_in(digits: &[u8]) -> u64
-    ensures { result ≡ min (number_in 0 digits.now) (2 ^ 64 - 1) }
+// The number of these octets, if all are digits; 2^64-1 stands for every larger one.
+fn number_in(octets: &[u8]) -> Option<u64>
+    ensures { result ≡ if list_all is_digit octets.now
+        then Some (min (number_in 0 octets.now) (2 ^ 64 - 1)) else None }
 {
     let mut number: u64 = 0;
-    for digit in digits {
+    for octet in octets {
+        if !is_digit(*octet) {
+            return None;
+        }
         number = number
             .saturating_mul(10)
-            .saturating_add(u64::from(digit.saturating_sub(b'0')));
+            .saturating_add(u64::from(octet.saturating_sub(b'0')));
     }
-    number
+    Some(number)
 }
 
 /// The symbol id that a word is, `$` and digits; 2^64-1 stands for every larger one.
@@ -48,7 +52,7 @@ pub(crate) fn symbol_id(word: &[u8]) -> Option<u64>
     ensures { result ≡ id_of word.now }
 {
     match word.split_first() {
-        Some((b'$', digits)) if !digits.is_empty() && are_digits(digits) => Some(number_in(digits)),
+        Some((b'$', digits)) if !digits.is_empty() => number_in(digits),
         _ => None,
     }
 }
