@@ -92,15 +92,20 @@ impl TextOut {
 
     /// Lets go the lines, which were handed over, and keeps their memory for others. What came of
     /// the value that is open stays, and its line goes on.
-    #[tactic(auto, using(std::proofs::lemmas::List::drop_min))]
+    #[tactic(auto, using(std::proofs::lemmas::List::drop_min, std::proofs::lemmas::List::drop_all))]
     pub fn forget_lines(&mut self)
         ensures { self.new ≡ without_lines self.old }
     {
         let whole = self.line_ends();
+        self.whole = 0;
+        if whole == self.octets.len() {
+            // Nothing is open, as behind each value that is converted.
+            self.octets.clear();
+            return;
+        }
         let begun = self.octets.len() - whole;
         self.octets.copy_within(whole.., 0);
         self.octets.truncate(begun);
-        self.whole = 0;
     }
 
     // Where the lines end, among the octets whatever was answered.
