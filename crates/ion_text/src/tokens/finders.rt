@@ -37,6 +37,14 @@ pub(crate) fn word_part(word: &str) -> Option<Part<'_>>
     if !may_be_keyword(word) {
         return Some(Part::Symbol(word));
     }
+    keyword_part(word)
+}
+
+// The same of a word that may be a keyword.
+#[inline(never)]
+fn keyword_part(word: &str) -> Option<Part<'_>>
+    ensures { IfSome result (λ said. held_payload (held_word word.now) ≡ Ok (payload_of said)) }
+{
     if word == "null" {
         return Some(Part::Null(Kind::Null));
     }
@@ -73,6 +81,7 @@ pub(crate) fn word_at(octets: &[u8]) -> Option<(Scalar, Part<'_>)>
 }
 
 // The quoted symbol there.
+#[inline(never)]
 fn quoted_at(octets: &[u8]) -> Option<(Scalar, Part<'_>)>
     ensures { IfSome result (λ found. (here : Place) (rest : Rest) →
         FoundSymbol here rest octets.now found.0 (payload_of found.1)) }
@@ -241,6 +250,7 @@ pub(crate) fn begins_symbol(octets: &[u8]) -> bool {
 }
 
 // The text in quotes there that is a field's name, if its characters stand as they are.
+#[inline(always)]
 fn text_name(octets: &[u8]) -> Option<(FoundToken, &str)>
     ensures { IfSome result (λ found. (here : Place) (rest : Rest) →
         BeginsName here rest octets.now found.0 (Some found.1.now)) }
@@ -254,6 +264,7 @@ fn text_name(octets: &[u8]) -> Option<(FoundToken, &str)>
 }
 
 // A word there that is a field's name.
+#[inline(always)]
 fn word_name(octets: &[u8]) -> Option<(FoundToken, &str)>
     ensures { IfSome result (λ found. (here : Place) (rest : Rest) →
         BeginsName here rest octets.now found.0 (Some found.1.now)) }

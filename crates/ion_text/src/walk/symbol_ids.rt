@@ -24,6 +24,7 @@ use ion_tokens::{FoundToken, Mark, Place, Rest, TokenKind, word};
 use ion_visiting::Visitor;
 
 // The symbol id there.
+#[inline(always)]
 fn id_at(octets: &[u8]) -> Option<(FoundToken, u64)>
     ensures says { IfSome result (λ found. (here : AnyPlace) (rest : AnyRest) →
         SaysThere here rest octets.now found.0 (Id found.1)) }
