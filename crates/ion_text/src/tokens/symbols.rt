@@ -105,6 +105,7 @@ pub(crate) fn behind_annotation(octets: &[u8], count: usize) -> Option<usize>
 }
 
 // A text in quotes that may be a field's name, if its characters stand as they are.
+#[inline(always)]
 pub(super) fn plain_text(octets: &[u8]) -> Option<FoundToken>
     ensures name { IfSome result (λ token. (place : Place) (rest : Rest) →
         BeginsName place rest octets.now token
