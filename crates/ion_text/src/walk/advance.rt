@@ -194,7 +194,10 @@ impl TextWalk<'_> {
     {
         match (self.awaited, &self.stage) {
             (Some(_), _) => false,
-            (None, Now::Ready) => self.scanner.begun().is_some(),
+            // Where the scanner rests, as most often, no token has begun.
+            (None, Now::Ready) => {
+                self.scanner.rest().is_none() && self.scanner.begun().is_some()
+            }
             (None, _) => true,
         }
     }
