@@ -20,7 +20,7 @@ pub mod OneDigit
 pub mod Shells
 pub mod VarUInts
 pub mod WalkRuns
-pub mod WholeScalars
+pub mod WholeHeaders
 pub mod Staying
 pub mod Unread
-pub mod WholeNames
+pub mod WholeFields

@@ -1,5 +1,5 @@
 -- Runs over octets in a reader that holds no values.
-use Rattle.std.proofs.Common.{◌≡◌, ℕ, ◌+◌, ◌-◌, ◌≤◌, ◌<◌, List, [], ◌∷◌, ◌++◌, length, take, drop, get_or, append-nil, length-append, None, Bool, true, false, Ok, Err, refl, ap, sym, subst, ◌∙◌, arith, ne_eqb}
+use Rattle.std.proofs.Common.{◌≡◌, ℕ, ◌+◌, ◌-◌, ◌≤◌, ◌<◌, List, [], ◌∷◌, ◌++◌, length, take, drop, get_or, append-nil, length-append, None, Bool, true, false, Result, Ok, Err, refl, ap, sym, subst, ◌∙◌, arith, ne_eqb}
 use Rattle.std.specs.Prelude.{◌==◌, if◌then◌else◌}
 use Rattle.std.proofs.lemmas.Bool.{false≢true}
 use Rattle.std.proofs.lemmas.List.{length-take-le, take-append-drop, take_all}
@@ -57,58 +57,39 @@ module _ {V : Type 0} (takes : V → Event → V → Type 0) (es : List Event) w
   reached_by o Gives r ran to a b e d = (d.0, e ∙ ap (run_after to) d.1, d.2)
 
 module _ {V : Type 0} (takes : V → Event → V → Type 0) (r : BinaryWalk) (fs : List Frame) (h : Holds r fs) (piece : List ℕ) (new : BinaryWalk) (a b : V) where
+  -- octets at the front of a piece that come to an outcome
+  module _ (k : ℕ) (o : Outcome) (within : k ≤ length piece) (ran : run_of r fs (take k piece) ≡ run_after (r.used + k) o) where
+    pub front_took : (effect : Effect) → 0 < k → Does takes (told fs) o (Ok effect) new a b
+        → Took takes (told fs) r.used (run_of r fs) piece (Ok (k, effect)) new a b
+    front_took effect some does =
+        (some, within, reached_by takes (told fs) o effect new (run_of r fs (take k piece)) (r.used + k) a b ran does)
+
+    pub front_refused : (reason : Reason) → new.used ≡ r.used + k → Does takes (told fs) o (Err reason) new a b
+        → Took takes (told fs) r.used (run_of r fs) piece (Err reason) new a b
+    front_refused reason used does = λ other.
+        refused_whole r.catalog.now r.limits r.used (machine_of r fs) piece k reason within (ran ∙ ap (run_after (r.used + k)) (does other))
+        ∙ ap (λ j. refused_at (record { offset = j; reason = reason })) (sym used)
+
   -- octets with whose last a scalar ends
   module _ (t : Scalar) (k : ℕ) (phase : r.phase ≡ InBody t (k - 1)) (some : 0 < k) (within : k ≤ length piece) where
-    abbrev ends_with : ℕ → Outcome
+    abbrev pub ends_with : ℕ → Outcome
     ends_with j = judged (setting_of r) (moved (spot_of r) (r.used + j)) fs (judge r.context t (r.body.items ++ take k piece))
 
     size : length (take k piece) ≡ k
     size = length-take-le k piece within
 
-    ends_run : run_of r fs (take k piece) ≡ run_after (r.used + k) (ends_with k)
+    pub ends_run : run_of r fs (take k piece) ≡ run_after (r.used + k) (ends_with k)
     ends_run = body_ends r.catalog.now r.limits (spot_of r) fs r.body.items t k r.phase piece phase some within
 
-    pub end_took : (effect : Effect)
+    pub ends_used : new.used ≡ r.used + length (take k piece) → new.used ≡ r.used + k
+    ends_used e = omega (arith, size)
+
+    pub ends_does : (result : Result Effect Reason)
         → ((gs : List Frame) → Holds r gs → AreAround gs → Does takes (told gs)
-        (judged (setting_of r) (moved (spot_of r) (r.used + length (take k piece))) gs (judge r.context t (r.body.items ++ take k piece))) (Ok effect) new a b)
-        → Took takes (told fs) r.used (run_of r fs) piece (Ok (k, effect)) new a b
-    end_took effect does = (
-      some,
-      within,
-      reached_by takes (told fs) (ends_with k) effect new (run_of r fs (take k piece)) (r.used + k) a b ends_run
-          (subst (λ (j : ℕ). Does takes (told fs) (ends_with j) (Ok effect) new a b) size (does fs h (around_body r.phase t (k - 1) fs phase h.inside))),
-    )
-
-    pub end_refused : (reason : Reason) → new.used ≡ r.used + length (take k piece)
-        → ((gs : List Frame) → Holds r gs → AreAround gs → Does takes (told gs)
-        (judged (setting_of r) (moved (spot_of r) (r.used + length (take k piece))) gs (judge r.context t (r.body.items ++ take k piece))) (Err reason) new a b)
-        → Took takes (told fs) r.used (run_of r fs) piece (Err reason) new a b
-    end_refused reason used does = λ other.
-        let place : r.used + k ≡ new.used = omega (arith, size) in
-        refused_whole r.catalog.now r.limits r.used (machine_of r fs) piece k reason within
-        (ends_run
-        ∙ ap (run_after (r.used + k)) (subst (λ (j : ℕ). ends_with j ≡ refuses reason) size
-        (does fs h (around_body r.phase t (k - 1) fs phase h.inside) other)))
-        ∙ ap (λ j. refused_at (record { offset = j; reason = reason })) place
-
-  -- one octet
-  pub octet_took : (effect : Effect) → 0 < length piece
-      → Does takes (told fs) (feed (setting_of r) (machine_of r fs) (get_or piece 0 0)) (Ok effect) new a b
-      → Took takes (told fs) r.used (run_of r fs) piece (Ok (1, effect)) new a b
-  octet_took effect some does = (
-    omega arith,
-    omega arith,
-    reached_by takes (told fs) (feed (setting_of r) (machine_of r fs) (get_or piece 0 0)) effect new (run_of r fs (take 1 piece)) (r.used + 1) a b
-        (octet_run r.catalog.now r.limits r.used (machine_of r fs) piece some) does,
-  )
-
-  pub octet_refused : (reason : Reason) → 0 < length piece → new.used ≡ r.used + 1
-      → Does takes (told fs) (feed (setting_of r) (machine_of r fs) (get_or piece 0 0)) (Err reason) new a b
-      → Took takes (told fs) r.used (run_of r fs) piece (Err reason) new a b
-  octet_refused reason some used does = λ other.
-      refused_whole r.catalog.now r.limits r.used (machine_of r fs) piece 1 reason (omega arith)
-      (octet_run r.catalog.now r.limits r.used (machine_of r fs) piece some ∙ ap (run_after (r.used + 1)) (does other))
-      ∙ ap (λ j. refused_at (record { offset = j; reason = reason })) (sym used)
+        (judged (setting_of r) (moved (spot_of r) (r.used + length (take k piece))) gs (judge r.context t (r.body.items ++ take k piece))) result new a b)
+        → Does takes (told fs) (ends_with k) result new a b
+    ends_does result does = subst (λ (j : ℕ). Does takes (told fs) (ends_with j) result new a b) size
+        (does fs h (around_body r.phase t (k - 1) fs phase h.inside))
 
 -- octets that a body or a pad goes on behind
 pub inside_took : {V : Type 0} (takes : V → Event → V → Type 0) (r new : BinaryWalk) (fs : List Frame) (piece : List ℕ) (k : ℕ) (a : V) → 0 < k → k ≤ length piece

@@ -1,5 +1,5 @@
 //! Numbers and lengths at the front of octets that are all here.
-ghost use Rattle.std.specs.Prelude.{◌≡◌, ◌≤◌, ◌+◌, length, take, IfSome};
+ghost use Rattle.std.specs.Prelude.{◌≡◌, ◌≤◌, ◌<◌, ◌^◌, length, take, IfSome};
 ghost use Rattle.ion_scalar.specs.binary.Fields.{VarUInt};
 ghost use Rattle.ion_binary.specs.machine.Framed.{Heads};
 
@@ -33,27 +33,18 @@ fn long_number(octets: &[u8]) -> Option<(u64, usize)>
     }
 }
 
-/// How many octets behind a descriptor are a length, and how many there are of the body behind
-/// them.
+/// How many octets behind a descriptor are a length, and how many the body has.
 #[inline(always)]
-pub(crate) fn lengths(size: Size, rest: &[u8]) -> Option<(usize, usize)>
-    ensures within { IfSome result (λ sizes. sizes.0 + sizes.1 ≤ length rest.now) }
+pub(crate) fn lengths(size: Size, rest: &[u8]) -> Option<(usize, u64)>
+    ensures within { IfSome result (λ sizes. sizes.0 ≤ length rest.now) }
+    ensures small { IfSome result (λ sizes. sizes.1 < 2 ^ 63) }
     ensures header { IfSome result (λ sizes. Heads size sizes.1 (take sizes.0 rest.now)) }
 {
     match size {
-        Size::Known(count) => {
-            let count = usize::from(count);
-            if count > rest.len() {
-                return None;
-            }
-            Some((0, count))
-        }
+        Size::Known(count) => Some((0, u64::from(count))),
         Size::Follows => {
             let (count, used) = number(rest)?;
-            if count > (rest.len() - used) as u64 {
-                return None;
-            }
-            Some((used, count as usize))
+            Some((used, count))
         }
     }
 }

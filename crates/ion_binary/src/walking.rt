@@ -24,7 +24,8 @@ mod containers;
 mod numbers;
 mod scalars;
 mod unread;
-mod whole_scalars;
+mod whole_fields;
+mod whole_headers;
 
 /// A container that isn't whole yet, by the octet at which it ends.
 #[derive(Clone, Copy)]

@@ -3,6 +3,7 @@
 use Rattle.std.specs.Prelude.{◌≡◌, ◌≢◌, ◌≤◌, ℕ, List, [], ◌∷◌, ◌++◌, map, reverse, Option, Some, None, Result, Ok, Err, Bool, true, false, ◌==◌, if◌then◌else◌}
 use Rattle.std.specs.List.{flat_map}
 use Rattle.ion_model.specs.declared.value.Value.{Value}
+use Rattle.ion_model.specs.declared.value.Field.{Field}
 use Rattle.ion_model.specs.declared.value.Payload.{Payload}
 use Rattle.ion_model.specs.declared.value.Payload.TheViews.{out-Payload}
 use Rattle.ion_atoms.specs.declared.refusal.Reason.{Reason}
@@ -217,6 +218,13 @@ pub record IsBehind (r : BinaryWalk) (fs : List Frame) (v : Value) : Type 0 wher
   pub around : AreAround fs
   pub bare : IsBareIn fs v
   pub was_told : WasTold r.filter (told_in fs ++ events_of v)
+
+-- the name of a field was told, while its struct waits for it
+pub record IsTelling (r : BinaryWalk) (end : ℕ) (ms : List Field) (s : Option (List ℕ)) (fs : List Frame) : Type 0 where
+  pub containers : open_containers r ≡ containers.Fields end ∷ containers_of fs
+  pub around : AreAround fs
+  pub phase : r.phase ≡ InNumber purposes.FieldName 0
+  pub was_told : WasTold r.filter (told_in (frames.Named end ms (Ok s) ∷ fs))
 
 -- what stays of a reader
 abbrev pub setting_of : BinaryWalk → Setting

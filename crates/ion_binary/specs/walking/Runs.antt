@@ -1,5 +1,5 @@
 -- What a reader that holds no values did over octets: what a run of the machine does, for all containers that it may stand for.
-use Rattle.std.specs.Prelude.{◌≡◌, ◌≢◌, ◌<◌, ◌≤◌, ℕ, ◌+◌, List, [], ◌∷◌, length, take, Bool, true, false, Option, None, Result, Ok, Err}
+use Rattle.std.specs.Prelude.{◌≡◌, ◌≢◌, ◌<◌, ◌≤◌, ℕ, ◌+◌, ◌-◌, ◌^◌, List, [], ◌∷◌, length, take, drop, Bool, true, false, Option, None, Result, Ok, Err}
 use Rattle.ion_model.specs.declared.value.Value.{Value}
 use Rattle.ion_atoms.specs.declared.refusal.Reason.{Reason}
 use Rattle.ion_atoms.specs.declared.refusal.Reason.TheVariants.{Memory}
@@ -11,11 +11,18 @@ use Rattle.ion_binary.specs.machine.Frames.{Frame}
 use Rattle.ion_binary.specs.declared.state.Effect.{Effect}
 use Rattle.ion_binary.specs.declared.state.Effect.TheVariants.{Goes, Gives}
 use Rattle.ion_binary.specs.declared.walking.BinaryWalk.{BinaryWalk}
-use Rattle.ion_binary.specs.machine.EachOctet.{initial}
+use Rattle.ion_scalar.specs.binary.Fields.{VarUInt}
+use Rattle.ion_binary.specs.declared.form.Form.{Form}
+use Rattle.ion_binary.specs.declared.form.Form.TheVariants as forms
+use Rattle.ion_binary.specs.declared.form.Scalar.{Scalar}
+use Rattle.ion_binary.specs.declared.state.Phase.TheVariants.{InNumber, Ready}
+use Rattle.ion_binary.specs.declared.state.Purpose.TheVariants as purposes
+use Rattle.ion_binary.specs.Grammar.{Header}
+use Rattle.ion_binary.specs.machine.EachOctet.{hollow, initial, unfit}
 use Rattle.ion_binary.specs.machine.Run.{Run, run}
 use Rattle.ion_binary.specs.machine.Pieces.{led}
 use Rattle.ion_binary.specs.machine.Views.{body_so_far}
-use Rattle.ion_binary.specs.walking.Holds.{GaveOut, Holds, WentOn, machine_of, told}
+use Rattle.ion_binary.specs.walking.Holds.{GaveOut, Holds, IsWithin, WentOn, machine_of, open_containers, shells, told}
 
 -- the run over octets of the machine that a reader stands for, with these containers
 abbrev pub run_of : BinaryWalk → List Frame → List ℕ → Run
@@ -28,6 +35,33 @@ gave v to r = record { given = (v, to) ∷ []; now = Ok (machine_of r []) }
 -- a run that was refused
 abbrev pub refused_at : Refusal → Run
 refused_at refusal = record { given = []; now = Err refusal }
+
+-- at the front of a piece lies the header of this form with a body of `size` octets, which may stand where the reader is
+pub record Opens (r : BinaryWalk) (piece : List ℕ) (form : Form) (front size : ℕ) : Type 0 where
+  pub ready : r.phase ≡ Ready
+  pub some : 0 < front
+  pub within : front ≤ length piece
+  pub small : size < 2 ^ 63
+  pub header : Header form size (take front piece)
+  pub full : hollow form size ≡ None
+  pub fits : None ≡ unfit r.limits.item r.start (shells r) form (r.used + front + size)
+
+-- at the front of a piece lies the id of a field's name, of `size` octets, where one comes
+pub record HasName (r : BinaryWalk) (piece : List ℕ) (id size : ℕ) : Type 0 where
+  pub phase : r.phase ≡ InNumber purposes.FieldName 0
+  pub is : VarUInt (take size piece) id
+  pub some : 0 < size
+  pub within : size ≤ length piece
+  pub inside : IsWithin (open_containers r) (r.used + size)
+
+-- behind `named` octets of a piece lies the header of a scalar with its body, which goes from `front` on, and all in the struct that is open
+pub record HasScalar (r : BinaryWalk) (piece : List ℕ) (named : ℕ) (t : Scalar) (front to : ℕ) : Type 0 where
+  pub behind : named < front
+  pub few : front ≤ to
+  pub within : to ≤ length piece
+  pub header : Header (forms.Scalar t) (to - front) (take (front - named) (drop named piece))
+  pub full : hollow (forms.Scalar t) (to - front) ≡ None
+  pub inside : IsWithin (open_containers r) (r.used + to)
 
 -- the run led where the reader stands for these containers
 abbrev pub Led : Run → BinaryWalk → List Frame → Type 0

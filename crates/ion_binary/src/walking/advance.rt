@@ -87,13 +87,11 @@ impl BinaryWalk<'_> {
             × (self.new.used ≤ self.old.used + length piece.now)) }
         ensures setting { SameSetting self.old self.new }
     {
-        if let Some((scalar, front, size)) = self.whole_scalar(piece) {
-            let effect = self.take_scalar(scalar, size, &piece[front..size], visitor)?;
-            return Ok((size, effect));
+        if let Some((form, front, size)) = self.whole_header(piece) {
+            return self.take_header(form, front, size, piece, visitor);
         }
         if let Some((id, size)) = self.whole_name(piece) {
-            let effect = self.take_name(id, size)?;
-            return Ok((size, effect));
+            return self.take_field(id, size, piece, visitor);
         }
         if let Some((scalar, size)) = self.ending(piece) {
             let effect = self.take_end(scalar, &piece[..size], visitor)?;

@@ -56,7 +56,7 @@ impl BinaryWalk<'_> {
     }
 
     /// Begins a body of this size, which the form may have, behind its header.
-    fn begin<V: Visitor>(
+    pub(super) fn begin<V: Visitor>(
         &mut self,
         form: Form,
         size: u64,

@@ -1,12 +1,10 @@
 //! VarUInts: lengths, and the ids of field names and annotations.
-ghost use Rattle.std.specs.Prelude.{◌≡◌, ◌+◌, ◌≤◌, ◌<◌, ◌^◌, List, IfSome, length, take};
-ghost use Rattle.ion_scalar.specs.binary.Fields.{VarUInt};
-ghost use Rattle.ion_binary.specs.declared.state.Phase.TheVariants as phases;
-ghost use Rattle.ion_binary.specs.declared.state.Purpose.TheVariants as purposes;
+ghost use Rattle.std.specs.Prelude.{◌≡◌, ◌+◌, ◌<◌, ◌^◌, List, IfSome, length};
 ghost use Rattle.ion_symtab.specs.Slots.{resolve};
 ghost use Rattle.ion_binary.specs.machine.Frames.{Frame as AnyFrame};
 ghost use Rattle.ion_binary.specs.machine.EachOctet.{longer, unsized, name_came, count_came, annotation_came, moved, number_came, on_number};
-ghost use Rattle.ion_binary.specs.walking.Holds.{Does, DoesAlone, Holds, IsWithin, SameSetting, behind_annotation, open_containers, setting_of, spot_of, told};
+ghost use Rattle.ion_binary.specs.walking.Holds.{Does, DoesAlone, Holds, SameSetting, behind_annotation, setting_of, spot_of, told};
+ghost use Rattle.ion_binary.specs.walking.Runs.{HasName};
 
 use super::{BinaryWalk, Container, heard};
 use crate::form::Form;
@@ -111,13 +109,7 @@ impl BinaryWalk<'_> {
     #[inline(always)]
     pub(super) fn whole_name(&self, piece: &[u8]) -> Option<(u64, usize)>
         requires room { self.now.used + length piece.now < 2 ^ 63 }
-        ensures named { IfSome result (λ name.
-            self.now.phase ≡ phases.InNumber purposes.FieldName 0) }
-        ensures is { IfSome result (λ name. VarUInt (take name.1 piece.now) name.0) }
-        ensures some { IfSome result (λ name. 0 < name.1) }
-        ensures within { IfSome result (λ name. name.1 ≤ length piece.now) }
-        ensures inside { IfSome result (λ name. IsWithin (open_containers self.now)
-            (self.now.used + name.1)) }
+        ensures { IfSome result (λ name. HasName self.now piece.now name.0 name.1) }
     {
         let Phase::InNumber(Purpose::FieldName, 0) = self.phase else {
             return None;

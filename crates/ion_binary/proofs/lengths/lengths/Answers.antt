@@ -4,10 +4,9 @@ use Rattle.ion_binary.specs.Grammar.{short, long}
 use Rattle.ion_binary.specs.declared.form.Opening.TheVariants.{Sized}
 use Rattle.ion_binary.proofs.lengths.lengths.Goals as goal
 
-pub returns-else-count-rest-clause-header : goal.returns-else-count-rest-clause-header
-returns-else-count-rest-clause-header c =
-    λ form b e. short b (e ∙ ap (λ s. Sized form s) (c.in-Known.is ∙ ap Known (sym c.from-count.ensures)))
+pub returns-in-Known-clause-header : goal.returns-in-Known-clause-header
+returns-in-Known-clause-header c = λ form b e. short b (e ∙ ap (λ s. Sized form s) (c.in-Known.is ∙ ap Known (sym c.from.ensures)))
 
-pub returns-else-count-rest-2-clause-header : goal.returns-else-count-rest-2-clause-header
-returns-else-count-rest-2-clause-header c =
+pub returns-in_ok-count-in-Follows-clause-header : goal.returns-in_ok-count-in-Follows-clause-header
+returns-in_ok-count-in-Follows-clause-header c =
     λ form b e. long b _ (e ∙ ap (λ s. Sized form s) c.in-Follows.is) c.in_ok-count-in-Follows.ensures.is

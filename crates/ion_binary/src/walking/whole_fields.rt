@@ -1,0 +1,102 @@
+//! Fields that lie whole in a piece and have a scalar, each taken up at once. Of any other the
+//! name is.
+ghost use Rattle.std.specs.Prelude.{◌≡◌, ◌≢◌, ◌+◌, ◌≤◌, ◌<◌, ◌^◌, List, ◌∷◌, Ok, Option, ℕ, length, IfErr, IfOk, IfSome};
+ghost use Rattle.ion_atoms.specs.declared.refusal.Reason.TheVariants.{Memory};
+ghost use Rattle.ion_model.specs.declared.value.Field.{Field as AnyField};
+ghost use Rattle.ion_binary.specs.Judge.{judge};
+ghost use Rattle.ion_binary.specs.machine.Frames.{Frame as AnyFrame};
+ghost use Rattle.ion_binary.specs.machine.Frames as frames;
+ghost use Rattle.ion_binary.specs.machine.EachOctet.{judged, moved};
+ghost use Rattle.ion_binary.specs.walking.Holds.{Does, Holds, IsTelling, SameSetting, setting_of, spot_of, told, told_in};
+ghost use Rattle.ion_binary.specs.walking.Runs.{HasName, HasScalar, Took, run_of};
+
+use super::whole_headers::{header_at, scalar_in};
+use super::{BinaryWalk, heard};
+use crate::form::Scalar;
+use crate::state::Effect;
+use crate::walking::scalars::tell_scalar;
+use ion_model::Reason;
+use ion_visiting::Visitor;
+
+impl BinaryWalk<'_> {
+    /// The scalar behind so many octets of a piece, which are a field's name, if it is all there
+    /// and in the struct: where its body begins and where it ends.
+    #[inline(always)]
+    fn named_scalar(&self, named: usize, piece: &[u8]) -> Option<(Scalar, usize, usize)>
+        requires room { self.now.used + length piece.now < 2 ^ 63 }
+        requires within { named ≤ length piece.now }
+        ensures { IfSome result (λ found.
+            HasScalar self.now piece.now named found.0 found.1 found.2) }
+    {
+        if named == piece.len() {
+            return None;
+        }
+        let (form, header, size) = header_at(&piece[named..])?;
+        let front = named + header;
+        let scalar = scalar_in(form, size, piece.len() - front)?;
+        let to = front + size as usize;
+        let end = self.fields_end()?;
+        if self.used + to as u64 > end {
+            return None;
+        }
+        Some((scalar, front, to))
+    }
+
+    /// Takes up a field's name at the front of a piece, with the value if that is a scalar and is
+    /// all there, too, and the name's id has a symbol.
+    #[inline(always)]
+    pub(super) fn take_field<V: Visitor>(
+        &mut self,
+        id: u64,
+        named: usize,
+        piece: &[u8],
+        visitor: &mut V,
+    ) -> Result<(usize, Effect), Reason>
+        requires room { self.old.used + length piece.now < 2 ^ 63 }
+        requires name { HasName self.old piece.now id named }
+        ensures does { (fs : List AnyFrame) → Holds self.old fs →
+            Took V.takes (told fs) self.old.used (run_of self.old fs) piece.now
+            result self.new visitor.old visitor.new }
+        ensures some { IfOk result (λ took. 0 < took.0) }
+        ensures within { IfOk result (λ took. took.0 ≤ length piece.now) }
+        ensures used { IfOk result (λ took. self.new.used ≡ self.old.used + took.0) }
+        ensures decides { IfErr result (λ reason. reason ≢ Memory →
+            (self.old.used < self.new.used)
+            × (self.new.used ≤ self.old.used + length piece.now)) }
+        ensures setting { SameSetting self.old self.new }
+    {
+        if let Some((scalar, front, to)) = self.named_scalar(named, piece) {
+            if let Ok(symbol) = self.context.symbol(id) {
+                heard(self.filter.name(symbol, visitor))?;
+                let effect = self.take_named(scalar, to, &piece[front..to], visitor)?;
+                return Ok((to, effect));
+            }
+        }
+        let effect = self.take_name(id, named)?;
+        Ok((named, effect))
+    }
+
+    /// Takes up a field of so many octets, whose name was told and whose value's body these are.
+    #[inline(always)]
+    fn take_named<V: Visitor>(
+        &mut self,
+        scalar: Scalar,
+        size: usize,
+        body: &[u8],
+        visitor: &mut V,
+    ) -> Result<Effect, Reason>
+        requires room { self.old.used + size < 2 ^ 63 }
+        ensures does { (end : ℕ) (ms : List AnyField) (s : Option (List ℕ)) (fs : List AnyFrame) →
+            IsTelling self.old end ms s fs →
+            Does V.takes (told_in (frames.Named end ms (Ok s) ∷ fs))
+            (judged (setting_of self.old) (moved (spot_of self.old) (self.old.used + size))
+            (frames.Named end ms (Ok s) ∷ fs) (judge self.old.context scalar body.now))
+            result self.new visitor.old visitor.new }
+        ensures used { self.new.used ≡ self.old.used + size }
+        ensures setting { SameSetting self.old self.new }
+    {
+        self.used += size as u64;
+        tell_scalar(&self.context, scalar, body, &mut self.filter, visitor)?;
+        self.proceed(visitor)
+    }
+}
