@@ -1,5 +1,5 @@
 -- Numbers of one octet.
-use Rattle.std.proofs.Common.{◌≡◌, ℕ, ◌+◌, ◌-◌, ◌/◌, ◌%◌, ◌<◌, ◌≤◌, List, [], ◌∷◌, ◌++◌, length, take, get_or, append_assoc, ap, ap₂, sym, ◌∙◌, arith}
+use Rattle.std.proofs.Common.{◌≡◌, ℕ, ◌+◌, ◌-◌, ◌*◌, ◌/◌, ◌%◌, ◌<◌, ◌≤◌, List, [], ◌∷◌, ◌++◌, length, take, get_or, append_assoc, ap, ap₂, sym, ◌∙◌, arith}
 use Rattle.std.proofs.lemmas.Int.Digits.{digits_of_step}
 use Rattle.std.specs.Int.Digits.{digits_of}
 use Rattle.ion_scalar.specs.binary.Fields.{VarUInt, none}
@@ -26,6 +26,10 @@ one_digit_written o some small =
     digits_of_step 256 o (omega arith) some
     ∙ ap₂ (λ (a b : ℕ). digits_of 256 a ++ b ∷ []) (let e : o / 256 ≡ 0 = omega arith in e) (let e : o % 256 ≡ o = omega arith in e)
 
--- what is written of a symbol whose id is one octet
-pub symbol_of_one : (front : List ℕ) (id : ℕ) → 0 < id → id < 256 → (front ++ 0x71 ∷ []) ++ id ∷ [] ≡ front ++ framed 7 (uint_octets id)
-symbol_of_one front id some small = append_assoc front (0x71 ∷ []) (id ∷ []) ∙ ap (λ d. front ++ framed 7 d) (sym (one_digit_written id some small))
+-- a magnitude of one octet behind its descriptor
+pub framed_one : (code : ℕ) (front : List ℕ) (m : ℕ) → 0 < m → m < 256 → (front ++ (code * 16 + 1) ∷ []) ++ m ∷ [] ≡ front ++ framed code (uint_octets m)
+framed_one code front m some small =
+    let same : code * 16 + 1 ≡ 16 * code + 1 = omega arith in
+    append_assoc front ((code * 16 + 1) ∷ []) (m ∷ [])
+    ∙ ap (λ k. front ++ k ∷ m ∷ []) same
+    ∙ ap (λ d. front ++ framed code d) (sym (one_digit_written m some small))

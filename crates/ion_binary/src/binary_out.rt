@@ -232,12 +232,27 @@ impl<S: BuildHasher + Drop> BinaryOut<S> {
             id ≡ id_of later (Some text.now)) }
         ensures small { IfOk result (λ id. id < 2 ^ 63) }
     {
-        let guess = self.guesses.guess(Guesses::place_of_text(text));
+        let place = Guesses::place_of(text);
+        let guess = self.guesses.guess(place);
         if self.names.is_text_at(guess, text) {
             return Ok(guess as u64);
         }
+        self.id_by_look(place, text)
+    }
+
+    // The same, with a look by the text. Its place keeps the id.
+    #[inline(never)]
+    fn id_by_look(&mut self, place: usize, text: &str) -> Result<u64, Fault>
+        ensures named { IfOk result (λ _. self.new
+            ≡ record self.old { names = with_name self.old.names (Some text.now) }) }
+        ensures id { IfOk result (λ id. (later : SymbolsById) → IsLater self.new.names later →
+            id ≡ id_of later (Some text.now)) }
+        ensures small { IfOk result (λ id. id < 2 ^ 63) }
+    {
         let symbol = Symbol::known(self.alloc, text).map_err(|_| Fault::Memory)?;
-        self.names.add(&mut self.guesses, &symbol)
+        let id = self.names.add(symbol)?;
+        self.guesses.note(place, id);
+        Ok(id as u64)
     }
 
     // The id of a symbol of this text, or of unknown text, which is the next one where it had none.
@@ -249,16 +264,18 @@ impl<S: BuildHasher + Drop> BinaryOut<S> {
         ensures small { IfSome result (λ id. id < 2 ^ 63) }
         ensures kept { IsText (option_map (λ t. t.now) text.entry) }
     {
-        let id = match text {
-            None => self.names.add(&mut self.guesses, &Symbol::unknown()),
+        match text {
+            None => match self.names.add(Symbol::unknown()) {
+                Ok(id) => Some(id as u64),
+                Err(_) => None,
+            },
             Some(text) => {
                 text_kept(text);
-                self.id_of_text(text)
+                match self.id_of_text(text) {
+                    Ok(id) => Some(id),
+                    Err(_) => None,
+                }
             }
-        };
-        match id {
-            Ok(id) => Some(id),
-            Err(_) => None,
         }
     }
 

@@ -149,6 +149,12 @@ fn put_magnitude(code: u8, magnitude: u128, out: &mut Vec<u8>) -> Result<(), Fau
         ++ framed code (uint_octets magnitude)) }
     ensures memory { IsOkUnless result faults.Memory }
 {
+    // most have one octet
+    if magnitude > 0 && magnitude < 256 {
+        out.push(code * 16 + 1)?;
+        out.push(magnitude as u8)?;
+        return Ok(());
+    }
     let place = out.len();
     out.push(0)?;
     put_uint(magnitude, out).map_err(|_| Fault::Memory)?;
@@ -197,11 +203,5 @@ pub(crate) fn put_symbol(id: u64, out: &mut Vec<u8>) -> Result<(), Fault>
     ensures ok { OnOk result (out.new.items ≡ out.old.items ++ framed 7 (uint_octets id)) }
     ensures memory { IsOkUnless result faults.Memory }
 {
-    // most have one octet
-    if id > 0 && id < 256 {
-        out.push(0x71)?;
-        out.push(id as u8)?;
-        return Ok(());
-    }
     put_magnitude(7, u128::from(id), out)
 }

@@ -1,5 +1,5 @@
 //! The ids that a writer has given to symbols (Ion 1.0, "Symbols", "Symbol IDs").
-ghost use Rattle.std.specs.Prelude.{◌≡◌, ◌<◌, ◌≤◌, ◌^◌, Some, suc, true, length, map, take, drop, MatchBool, MatchResult, IfOk, IsOkUnless, OnOk};
+ghost use Rattle.std.specs.Prelude.{◌≡◌, ◌<◌, ◌≤◌, ◌^◌, Some, suc, true, length, map, take, drop, MatchBool, MatchResult, IfOk};
 ghost use Rattle.ion_model.specs.Symbols.{symbol_same};
 ghost use Rattle.ion_symtab.specs.Slots.{greatest_id};
 ghost use Rattle.ion_symtab.specs.declared.fault.Fault.TheVariants as faults;
@@ -7,7 +7,6 @@ ghost use Rattle.ion_binary.specs.Output.{Names as SymbolsById, system_names, id
 ghost use Rattle.ion_binary.specs.Writing.{NeedsLargeId};
 ghost use Rattle.ion_binary.specs.writer.Later.{IsLater};
 
-use super::recent_ids::Guesses;
 use indexmap::IndexSet;
 use ion_model::Symbol;
 use ion_symtab::{Fault, GREATEST_ID, SYSTEM_TEXTS};
@@ -71,37 +70,6 @@ impl<S: BuildHasher + Drop> Names<S> {
         self.symbols.len() > GREATEST_ID as usize + 1
     }
 
-    /// The id of a symbol, which is the next one where it had none, however great. It stays the
-    /// symbol's id. The only fault is `Memory`.
-    pub(crate) fn add(&mut self, guesses: &mut Guesses, symbol: &Symbol) -> Result<u64, Fault>
-        ensures ok { OnOk result (self.new ≡ with_name self.old symbol.now) }
-        ensures id { IfOk result (λ id. (later : SymbolsById) → IsLater self.new later →
-            id ≡ id_of later symbol.now) }
-        ensures small { IfOk result (λ id. id < 2 ^ 63) }
-        ensures memory { IsOkUnless result faults.Memory }
-    {
-        let place = Guesses::place_of(symbol);
-        let guess = guesses.guess(place);
-        if self.stands_at(guess, symbol) {
-            return Ok(guess as u64);
-        }
-        let id = self.add_by_text(symbol)?;
-        guesses.note(place, id);
-        Ok(id as u64)
-    }
-
-    /// Whether this is the symbol's id. Takes no look by its text.
-    pub(crate) fn stands_at(&self, id: usize, symbol: &Symbol) -> bool
-        ensures id { result ≡ true → id ≡ id_of self.now symbol.now }
-        ensures small { result ≡ true → id < 2 ^ 63 }
-        ensures named { result ≡ true → with_name self.now symbol.now ≡ self.now }
-    {
-        match self.symbols.as_slice().get(id) {
-            None => false,
-            Some(other) => same(symbol, other),
-        }
-    }
-
     /// Whether this is the id of the symbol of a text. Takes no look by the text.
     pub(crate) fn is_text_at(&self, id: usize, text: &str) -> bool
         ensures id { result ≡ true → id ≡ id_of self.now (Some text.now) }
@@ -114,19 +82,20 @@ impl<S: BuildHasher + Drop> Names<S> {
         }
     }
 
-    // As `add`, with a look by the text.
-    #[inline(never)]
-    fn add_by_text(&mut self, symbol: &Symbol) -> Result<usize, Fault>
-        ensures ok { OnOk result (self.new ≡ with_name self.old symbol.now) }
-        ensures id { IfOk result (λ id. id ≡ id_of self.new symbol.now) }
+    /// The id of a symbol, which is the next one where it had none, however great. It stays the
+    /// symbol's id. The only fault is `Memory`.
+    pub(crate) fn add(&mut self, symbol: Symbol) -> Result<usize, Fault>
+        ensures ok { MatchResult result (λ _. self.new ≡ with_name self.old symbol)
+            (λ f. f ≡ faults.Memory) }
+        ensures id { IfOk result (λ id. (later : SymbolsById) → IsLater self.new later →
+            id ≡ id_of later symbol) }
         ensures small { IfOk result (λ id. id < 2 ^ 63) }
-        ensures memory { IsOkUnless result faults.Memory }
     {
-        let key = symbol.copy().map_err(|_| Fault::Memory)?;
-        self.insert(key)
+        let id = self.insert(symbol)?;
+        Ok(id)
     }
 
-    // Gives the symbol the next id, if it has none, and answers its id. The only fault is `Memory`.
+    // The same, whose id is told of the symbols as they are now.
     fn insert(&mut self, key: Symbol) -> Result<usize, Fault>
         ensures ok { MatchResult result (λ _. self.new ≡ with_name self.old key)
             (λ f. f ≡ faults.Memory) }
@@ -176,17 +145,5 @@ fn is_of_text(symbol: &Symbol, text: &str) -> bool
     match symbol.text() {
         None => false,
         Some(other) => text == other,
-    }
-}
-
-// `Symbol::same`, without a call.
-#[inline(always)]
-fn same(symbol: &Symbol, other: &Symbol) -> bool
-    ensures { result ≡ symbol_same symbol.now other.now }
-{
-    match (symbol.text(), other.text()) {
-        (None, None) => true,
-        (Some(text), Some(other)) => text == other,
-        _ => false,
     }
 }

@@ -1,14 +1,13 @@
-//! Which ids symbols probably have.
+//! Which ids texts probably have.
 ghost use Rattle.std.specs.Prelude.{◌+◌, ◌<◌, ◌≤◌, length};
 
-use ion_model::Symbol;
 use std::alloc::Global;
 
 /// How many ids are kept at most.
 const KEPT: usize = 4096;
 
-/// The ids of symbols that were looked up lately, each at a place that a cheap hash of the text
-/// tells. Whoever takes a guess compares the symbol, so no clause speaks of what is kept here:
+/// The ids of texts that were looked up lately, each at a place that a cheap hash of the text
+/// tells. Whoever takes a guess compares the text, so no clause speaks of what is kept here:
 /// texts that share a place cost a look by the text.
 #[derive(Drop)]
 pub(crate) struct Guesses {
@@ -23,18 +22,9 @@ impl Guesses {
         }
     }
 
-    /// The place of a symbol's id.
-    #[inline(always)]
-    pub(crate) fn place_of(symbol: &Symbol) -> usize {
-        match symbol.text() {
-            None => 0,
-            Some(text) => Guesses::place_of_text(text),
-        }
-    }
-
     /// The place of the id of a text.
     #[inline(always)]
-    pub(crate) fn place_of_text(text: &str) -> usize {
+    pub(crate) fn place_of(text: &str) -> usize {
         place_of_octets(text.as_bytes())
     }
 
@@ -47,7 +37,7 @@ impl Guesses {
         }
     }
 
-    /// Notes the id of a symbol with this place. Without memory nothing is kept.
+    /// Notes the id of a text with this place. Without memory nothing is kept.
     pub(crate) fn note(&mut self, place: usize, id: usize) {
         if self.ids.is_empty() && self.ids.resize(KEPT, 0).is_err() {
             return;
