@@ -5,7 +5,7 @@ ghost use Rattle.ion_model.specs.declared.value.Payload.TheVariants as payloads;
 ghost use Rattle.ion_symtab.specs.declared.fault.Fault.TheVariants as faults;
 ghost use Rattle.ion_symtab.specs.Slots.{greatest_id};
 ghost use Rattle.ion_binary.specs.Output.{Names as SymbolsById, id_of, with_name};
-ghost use Rattle.ion_binary.specs.visiting.BinaryOut.{counted_behind, of_values, no_octets, with_begun, with_body, with_ended, with_frame, with_id, with_part, without_begun, without_whole};
+ghost use Rattle.ion_binary.specs.visiting.BinaryOut.{counted_behind, of_values, no_octets, with_begun, with_body, with_end, with_ended, with_frame, with_id, with_part, without_begun, without_whole};
 ghost use Rattle.ion_binary.specs.writer.Later.{IsLater};
 ghost use Rattle.ion_binary.specs.Writing.{NeedsLargeId};
 ghost use Rattle.ion_visiting.specs.Parts.{number_payload, payload_of};
@@ -24,6 +24,7 @@ use ion_visiting::{Bracket, Part, Visitor, number_kept, part_kept, text_kept};
 use std::alloc::Global;
 use std::hash::{BuildHasher, BuildHasherDefault, FoldHasher};
 use std::marker::Model;
+use std::mem;
 
 /// Where an octet stands in place of a descriptor.
 #[derive(Clone, Copy)]
@@ -223,6 +224,18 @@ impl<S: BuildHasher + Drop> BinaryOut<S> {
         !wraps || self.set_frame(14)
     }
 
+    // The value of the top level ended, and nothing stands before it: its octets aren't copied.
+    #[inline(always)]
+    fn end_alone(&mut self)
+        requires whole { self.old.whole ≡ [] }
+        requires begun { self.old.begun ≡ true }
+        requires known { length self.old.names ≤ self.old.known }
+        ensures { self.new ≡ with_end self.old }
+    {
+        mem::swap(&mut self.whole, &mut self.value);
+        self.known = self.names.len();
+    }
+
     // The id of a text, which is the next one where it had none.
     #[inline(always)]
     fn id_of_text(&mut self, text: &str) -> Result<u64, Fault>
@@ -381,6 +394,10 @@ impl<S: BuildHasher + Drop> Visitor for BinaryOut<S> {
     fn ended(&mut self) -> bool {
         if self.names.needs_large_id() {
             return false;
+        }
+        if self.begun && self.whole.is_empty() && self.names.len() <= self.known {
+            self.end_alone();
+            return true;
         }
         let (names, whole) = (&self.names, &mut self.whole);
         if put_front(self.alloc, names, self.known, self.begun, whole).is_err()
