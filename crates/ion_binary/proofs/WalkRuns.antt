@@ -23,7 +23,7 @@ use Rattle.ion_binary.specs.declared.state.Effect.{Effect}
 use Rattle.ion_binary.specs.declared.state.Effect.TheVariants.{Goes, Gives}
 use Rattle.ion_binary.specs.declared.walking.BinaryWalk.{BinaryWalk}
 use Rattle.ion_binary.specs.Judge.{judge}
-use Rattle.ion_binary.specs.machine.EachOctet.{Machine, Outcome, refuses, under, feed, initial, judged, moved}
+use Rattle.ion_binary.specs.machine.EachOctet.{Machine, Outcome, under, feed, initial, judged, moved}
 use Rattle.ion_binary.specs.machine.Pieces.{run_after, run-append, then_run}
 use Rattle.ion_binary.specs.machine.Run.{Run, ends_of, run, trace, trace_of, whole}
 use Rattle.ion_binary.specs.walking.Holds.{AreAround, Does, Holds, IsInside, Name, WentOn, machine_of, name_of, setting_of, shells, spot_of, told}

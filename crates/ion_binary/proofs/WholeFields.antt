@@ -1,5 +1,5 @@
 -- Fields that lie whole in a piece, or whose names do, in a reader that holds no values.
-use Rattle.std.proofs.Common.{◌≡◌, ℕ, ◌+◌, ◌-◌, ◌<◌, ◌≤◌, Option, List, [], ◌∷◌, ◌++◌, length, take, drop, Result, Ok, refl, ap, sym, subst, ◌∙◌, arith}
+use Rattle.std.proofs.Common.{◌≡◌, ℕ, ◌+◌, ◌-◌, ◌≤◌, Option, List, [], ◌∷◌, ◌++◌, length, take, drop, Result, Ok, refl, ap, sym, subst, ◌∙◌, arith}
 use Rattle.std.proofs.lemmas.Grind.{common_steps}
 use Rattle.std.proofs.lemmas.List.{drop-drop, length-take-le}
 use Rattle.std.proofs.Math.Seq.{take-add}
@@ -26,7 +26,7 @@ use Rattle.ion_binary.specs.laws.reading.Stands.{InRoom}
 use Rattle.ion_binary.specs.machine.EachOctet.{Outcome, hollow, judged, moved, name_came, proceed}
 use Rattle.ion_binary.specs.machine.Pieces.{run_after, run_via}
 use Rattle.ion_binary.specs.machine.Run.{run}
-use Rattle.ion_binary.specs.walking.Holds.{Does, Holds, IsInside, IsTelling, IsWithin, TellsAs, containers_of, open_containers, setting_of, spot_of, told, told_in}
+use Rattle.ion_binary.specs.walking.Holds.{Does, Holds, IsInside, IsTelling, IsWithin, TellsAs, containers_of, setting_of, spot_of, told, told_in}
 use Rattle.ion_binary.specs.walking.Runs.{HasName, HasScalar, run_of}
 use Rattle.ion_binary.proofs.Ending.{does_same}
 use Rattle.ion_binary.proofs.Insides.{with_phase}

@@ -1,4 +1,4 @@
-use Rattle.std.proofs.Common.{◌+◌, ◌*◌, ◌++◌, ◌∷◌, [], ap, ◌∙◌, arith}
+use Rattle.std.proofs.Common.{◌++◌, ◌∷◌, [], ap, ◌∙◌, arith}
 use Rattle.ion_binary.proofs.OneDigit.{framed_one}
 use Rattle.ion_binary.proofs.writer.framing.put_magnitude.Goals as goal
 
