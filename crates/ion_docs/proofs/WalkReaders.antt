@@ -11,7 +11,7 @@ use Rattle.ion_docs.specs.laws.Documents.{promised}
 use Rattle.ion_docs.specs.laws.Walks.{has_told}
 use Rattle.ion_docs.specs.reading.Chosen.{chosen}
 use Rattle.ion_docs.specs.reading.DocTold.{HasBuilt, awaits_of, failed_of, pending_of, taken_of}
-use Rattle.ion_docs.proofs.Walks.{step_said}
+use Rattle.ion_symtab.specs.laws.Builds.{step_said}
 
 same_trace : (new old : DocWalk) → new.catalog.now ≡ old.catalog.now → new.limits ≡ old.limits
     → chosen new.catalog.now new.limits ≡ chosen old.catalog.now old.limits

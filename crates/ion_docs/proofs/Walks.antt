@@ -1,4 +1,4 @@
--- A walk handed on to the reader that was chosen, and the values that are built of what it tells.
+-- A walk handed on to the reader that was chosen.
 use Rattle.std.proofs.Common.{◌≡◌, ℕ, ◌+◌, ◌-◌, ◌*◌, ◌<◌, ◌≤◌, Bool, true, false, List, [], ◌∷◌, ◌++◌, length, take, drop, suc, ap, ◌∙◌, sym, refl, subst, append-nil, append_assoc, arith, Result, Ok, Err, Option, Some, None, IfOk, IfErr, IfSome, IsNone, IsSome}
 use Rattle.std.proofs.lemmas.Grind.{common_steps}
 use Rattle.std.proofs.lemmas.Option.{same_Some}
@@ -8,6 +8,7 @@ use Rattle.ion_atoms.specs.declared.refusal.Refusal.{Refusal}
 use Rattle.ion_symtab.specs.Trace.{Trace, Answers, Grows, IsFront, given_at}
 use Rattle.ion_symtab.specs.Steps.{StepsOver}
 use Rattle.ion_symtab.specs.Walks.{EndsOn, Telling, WalksOn, if_ended}
+use Rattle.ion_symtab.specs.laws.Builds.{walks_lifted}
 use Rattle.ion_symtab.specs.declared.items.Walked.{Walked}
 use Rattle.ion_symtab.specs.declared.catalog.Catalog.{Catalog}
 use Rattle.ion_symtab.specs.declared.limits.Limits.{Limits}
@@ -25,19 +26,11 @@ use Rattle.ion_docs.specs.reading.Chosen.{chosen}
 use Rattle.ion_docs.specs.reading.DocTold.{Begins, DocTold, EncodingTold, Handed, HasBuilt}
 use Rattle.ion_docs.proofs.Chosen.{begins_front, some_used}
 
--- 1. What a walk told by one relation it told by another that follows from it.
-module _ {V : Type 0} (takes : V → Event → V → Type 0) {X Y : Type 0} (inner : Telling X) (outer : Telling Y) (new : X) (after : Y) where
-  pub walks_lifted : (u : List ℕ) (s : List (Value × ℕ)) (es : List Event) (piece : List ℕ) (used : ℕ) (ended : Bool) (a b : V)
-      → ((t : List (Value × ℕ)) (fs : List Event) → inner new (u ++ take used piece) t fs → outer after (u ++ take used piece) t fs)
-      → WalksOn takes inner u s es piece used ended new a b → WalksOn takes outer u s es piece used ended after a b
-  walks_lifted u s es piece used true a b lift h = (h.0, lift (s ++ (h.0, length u + used) ∷ []) [] h.1, h.2)
-  walks_lifted u s es piece used false a b lift h = (h.0, lift s h.0 h.1, h.2)
-
 -- a reader told of octets as the reader of the encoding that it holds did
 pub inside : (d : DocWalk) (e : Encoding) (u : List ℕ) (s : List (Value × ℕ)) (es : List Event) → d.encoding ≡ e → DocTold d u s es → EncodingTold d e u s es
 inside d e u s es is h = let P : Encoding → Type 0 = λ e. EncodingTold d e u s es in subst P is h
 
--- 2. A reader chosen before.
+-- 1. A reader chosen before.
 module _ (d : DocWalk) (b : Bool) (limits : Limits) (catalog : Catalog) (Old : List ℕ → List (Value × ℕ) → List Event → Type 0)
     (told : (u : List ℕ) (s : List (Value × ℕ)) (es : List Event) → DocTold d u s es → Handed d b limits catalog (Old u s es) u) where
   pub tells_forward : {V X : Type 0} (takes : V → Event → V → Type 0) (inner : Telling X) (new : X) (after : DocWalk) (piece : List ℕ)
@@ -75,7 +68,7 @@ module _ (d : DocWalk) (b : Bool) (limits : Limits) (catalog : Catalog) (Old : L
       subst P (ap (λ (t : List ℕ → Trace). t u) (same_trace b catalog d.catalog.now limits d.limits k.3 k.2)
       ∙ sym (chosen_in b d.catalog.now d.limits u k.1)) (ends u s es k.0)
 
--- 3. The first walk of all: nothing was read before it.
+-- 2. The first walk of all: nothing was read before it.
 module _ (d : DocWalk) (b : Bool) (Old : List ℕ → List (Value × ℕ) → List Event → Type 0) (piece : List ℕ) (is : d.encoding ≡ Unbegun)
     (begins : Begins b piece) (told : Old [] [] []) where
   pub first_tells : {V X : Type 0} (takes : V → Event → V → Type 0) (inner : Telling X) (new : X) (after : DocWalk) (result : Result Walked Refusal) (a z : V)
@@ -119,74 +112,3 @@ module _ {X : Type 0} (taken pending : X → ℕ) (awaits : X → Option ℕ) (f
   first_walked b old new piece (Ok walked) none begins leaves =
       some_used b piece walked.used (if_ended walked.ended) begins leaves.uses_all (λ some. let h = leaves.progress some in omega (arith, h, none))
   first_walked b old new piece (Err refusal) none begins leaves = tt
-
--- 4. A visitor that builds.
-module _ (old new : DocWalk) (before after : Built) (u : List ℕ) (s : List (Value × ℕ)) (piece : List ℕ) (used : ℕ) (h : HasBuilt old before u s) where
-  hears_on : (es fs : List Event) → Led builds es fresh before → Hears builds es fs before after → Led builds fs fresh after
-  hears_on es fs led hears =
-      let P : List Event → Type 0 = λ fs. Led builds fs fresh after in
-      subst P (sym hears.is) (led_both builds es hears.more fresh before after led hears.led)
-
-  -- no value ended
-  pub built_on : WalksOn builds DocTold u s h.0 piece used false new before after → HasBuilt new after (u ++ take used piece) (s ++ [])
-  built_on on =
-      let P : List (Value × ℕ) → Type 0 = λ s. HasBuilt new after (u ++ take used piece) s in
-      subst P (sym (append-nil s)) (on.0, on.1, hears_on h.0 on.0 h.2 on.2)
-
-  -- one did, and was taken
-  pub built_whole : (on : WalksOn builds DocTold u s h.0 piece used true new before after) → after ≡ record fresh { place = Top (Some on.0) }
-  built_whole on = value_built on.0 after (hears_on h.0 (events_of on.0) h.2 on.2)
-
-  -- and the visitor is as new
-  pub built_taken : (on : WalksOn builds DocTold u s h.0 piece used true new before after) (value : Value) (result : Option Value) (left : Built)
-      → result ≡ Some value → result ≡ value_in after.place → left ≡ record after { place = without_value after.place }
-      → HasBuilt new left (u ++ take used piece) (s ++ (value, length u + used) ∷ [])
-  built_taken on value result left is said was =
-      let all = built_whole on in
-      let same : on.0 ≡ value = same_Some on.0 value (sym (ap (λ (b : Built). value_in b.place) all) ∙ (sym said ∙ is)) in (
-        [],
-        subst (λ (v : Value). DocTold new (u ++ take used piece) (s ++ (v, length u + used) ∷ []) []) same on.1,
-        sym (was ∙ ap (λ (b : Built). record b { place = without_value b.place }) all),
-      )
-
--- a value that the end showed to be whole was built
-pub built_end : (t : Trace) (es : List Event) (before after : Built) → Led builds es fresh before → EndsOn builds t es (Ok true) before after
-    → (value : Option Value) → value ≡ value_in after.place → t.ends ≡ Ok value
-built_end t es before after led h value is =
-    let heard = subst (λ (fs : List Event). Led builds fs fresh after) (sym h.2.is) (led_both builds es h.2.more fresh before after led h.2.led) in
-    h.1 ∙ ap Ok (sym (is ∙ ap (λ (b : Built). value_in b.place) (value_built h.0 after heard)))
-
--- 5. A step whose value was built answers what the trace says.
-module _ (trace : List ℕ → Trace) (settled : (u w : List ℕ) → Grows (trace u) (trace (u ++ w))) (u : List ℕ) (s : List (Value × ℕ)) (piece : List ℕ)
-    (used : ℕ) (within : used ≤ length piece) where
-  whole : (u ++ take used piece) ++ drop used piece ≡ u ++ piece
-  whole = append_assoc u (take used piece) (drop used piece) ∙ ap (λ w. u ++ w) (take-append-drop used piece)
-
-  grown : (front : List (Value × ℕ)) (v rest : List ℕ) → v ++ rest ≡ u ++ piece → IsFront front (trace v).given → IsFront front (trace (u ++ piece)).given
-  grown front v rest same h =
-      let more = (settled v rest).given in (
-        h.0 ++ more.0,
-        ap (λ w. (trace w).given) (sym same) ∙ (more.1 ∙ (ap (λ t. t ++ more.0) h.1 ∙ append_assoc front h.0 more.0)),
-      )
-
-  pub step_said : (value : Option Value) (awaits : Option ℕ) → (value ≡ None → used ≡ length piece)
-      → IfSome awaits (λ octet. (rest : List ℕ) × (drop used piece ≡ octet ∷ rest))
-      → (trace (u ++ take used piece)).refused ≡ None
-      → (IsNone awaits → (trace (u ++ take used piece)).given ≡ s ++ given_at value (length u + used))
-      → IfSome awaits (λ octet. IsFront (s ++ given_at value (length u + used)) (trace ((u ++ take used piece) ++ octet ∷ [])).given)
-      → Answers trace u s piece (Ok (record { used = used; value = value }))
-  step_said None None all awaited refused given next =
-      let k = all refl in
-      let same : u ++ take used piece ≡ u ++ piece = ap (λ w. u ++ w) (let whole : take used piece ≡ piece = grind (arith, common_steps) in whole) in
-      (ap (λ w. (trace w).given) (sym same) ∙ (given refl ∙ append-nil s), ap (λ w. (trace w).refused) (sym same) ∙ refused)
-  step_said None (Some o) all awaited refused given next =
-      let k = all refl in
-      let rest = awaited.1 in
-      let none : length (drop used piece) ≡ length piece - used = length-drop used piece in
-      let some : length (drop used piece) ≡ suc (length awaited.0) = ap length rest in
-      absurd (omega (arith, k, none, some))
-  step_said (Some v) None all awaited refused given next =
-      grown (s ++ (v, length u + used) ∷ []) (u ++ take used piece) (drop used piece) whole ([], given refl ∙ sym (append-nil (s ++ (v, length u + used) ∷ [])))
-  step_said (Some v) (Some o) all awaited refused given next =
-      grown (s ++ (v, length u + used) ∷ []) ((u ++ take used piece) ++ o ∷ []) awaited.0
-      (append_assoc (u ++ take used piece) (o ∷ []) awaited.0 ∙ (ap (λ w. (u ++ take used piece) ++ w) (sym awaited.1) ∙ whole)) next

@@ -11,3 +11,4 @@ pub mod Contexts
 pub mod LocalTables
 pub mod WorkedTables
 pub mod ContextTexts
+pub mod Builds

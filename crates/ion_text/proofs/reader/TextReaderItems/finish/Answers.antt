@@ -2,7 +2,7 @@ use Rattle.std.proofs.Common.{Bool, Ok, subst}
 use Rattle.ion_symtab.specs.Walks.{EndsOn}
 use Rattle.ion_visiting.specs.Building.{builds}
 use Rattle.ion_text.specs.machine.Run.{trace}
-use Rattle.ion_text.proofs.Builds.{built_end}
+use Rattle.ion_symtab.specs.laws.Builds.{built_end}
 use Rattle.ion_text.proofs.reader.TextReaderItems.finish.Goals as goal
 
 pub returns-in-Ok-true-clause-ends : goal.returns-in-Ok-true-clause-ends

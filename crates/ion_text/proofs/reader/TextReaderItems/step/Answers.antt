@@ -5,7 +5,8 @@ use Rattle.ion_symtab.specs.Steps.{StepsOver}
 use Rattle.ion_visiting.specs.Building.{builds}
 use Rattle.ion_text.specs.walk.Ends.{failed, octets_used}
 use Rattle.ion_text.specs.walk.Runs.{Told, pending}
-use Rattle.ion_text.proofs.Builds.{built_on, built_taken, step_answers}
+use Rattle.ion_symtab.specs.laws.Builds.{built_on, built_taken}
+use Rattle.ion_text.proofs.Builds.{step_answers}
 use Rattle.ion_text.proofs.reader.TextReaderItems.step.Goals as goal
 
 pub returns-then-not-ended-clause-stands : goal.returns-then-not-ended-clause-stands

@@ -1,5 +1,5 @@
 use Rattle.ion_text.specs.walk.Runs.{Told}
-use Rattle.ion_text.proofs.Builds.{tells_held}
+use Rattle.ion_symtab.specs.laws.Builds.{tells_held}
 use Rattle.ion_text.proofs.reader.TextReaderItems.walk.Goals as goal
 
 pub returns-clause-tells : goal.returns-clause-tells
