@@ -10,6 +10,7 @@ use ion::{Catalog, Fault, Inlet, Limits, Refusal, visit};
 use std::alloc::Global;
 
 /// How many strings were told. It answers `false` beyond 2^64-1 of them.
+#[derive(Drop)]
 struct Strings {
     count: u64,
 }
