@@ -1,11 +1,12 @@
 //! Values written as text as they are told, beside what they are written as once they are built.
 //! What is owned is let go by a call of `drop`: on each way out it would be let go part by part.
 use crate::answers::same;
-use ion_docs::read_all;
-use ion_model::{Reason, Value};
-use ion_symtab::{Catalog, Limits};
+use ion_docs::{in_memory, read_all, visit};
+use ion_model::{Reason, Refusal, Value};
+use ion_scalar::Number;
+use ion_symtab::{Catalog, Fault, Limits};
 use ion_text::{TextOut, text_of};
-use ion_visiting::{Bracket, Part, Visitor, tell};
+use ion_visiting::{Bracket, Count, Part, Visitor, tell};
 use std::alloc::Global;
 use std::test::Fail;
 
@@ -99,4 +100,85 @@ fn lines_are_of_values_that_ended(rt: HostRuntime) {
         (true, b"a::[true,$0]\n"),
     );
     drop(out);
+}
+
+/// A visitor that can't go on where a list begins.
+#[derive(Drop)]
+struct NoLists {}
+
+impl Visitor for NoLists {
+    ghost takes = { λ before event after. Unit {0} };
+
+    fn part(&mut self, _said: &Part<'_>) -> bool {
+        true
+    }
+
+    fn number(&mut self, _number: Number) -> bool {
+        true
+    }
+
+    fn unknown_symbol(&mut self) -> bool {
+        true
+    }
+
+    fn annotation(&mut self, _text: Option<&str>) -> bool {
+        true
+    }
+
+    fn name(&mut self, _text: Option<&str>) -> bool {
+        true
+    }
+
+    fn open(&mut self, bracket: Bracket) -> bool {
+        bracket != Bracket::List
+    }
+
+    fn close(&mut self, _bracket: Bracket) -> bool {
+        true
+    }
+
+    fn ended(&mut self) -> bool {
+        true
+    }
+}
+
+/// A document is told to whatever visitor, or as far as the octet that is refused; one that can't go
+/// on ends it as want of memory does.
+#[test]
+fn documents_are_told(rt: HostRuntime) {
+    let alloc = rt.alloc();
+    let catalog = Catalog::new(alloc);
+    let limits = Limits::usual();
+    let mut out = TextOut::new(alloc);
+    let answer = visit(
+        alloc,
+        &mut in_memory(b"{ a : 1 } b::[2]"),
+        &catalog,
+        limits,
+        &mut out,
+    );
+    same(&rt, "answer", answer, Ok(Ok(2)));
+    same(&rt, "told", out.lines(), b"{a:1}\nb::[2]\n");
+    drop(out);
+    let refused = visit(
+        alloc,
+        &mut in_memory(b"1 ]"),
+        &catalog,
+        limits,
+        &mut Count::new(),
+    );
+    let refusal = Refusal {
+        offset: 3,
+        reason: Reason::Unexpected,
+    };
+    same(&rt, "refused", refused, Ok(Err(refusal)));
+    let stopped = visit(
+        alloc,
+        &mut in_memory(b"1 [2] ]"),
+        &catalog,
+        limits,
+        &mut NoLists {},
+    );
+    same(&rt, "stopped", stopped, Err(Fault::Memory));
+    drop(catalog);
 }
